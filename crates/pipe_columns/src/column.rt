@@ -1,0 +1,78 @@
+ghost use Rattle.std.specs.Prelude.{◌≡◌, IfNone, IfSome, true, false};
+ghost use Rattle.pipe_columns.specs.Frame.{all_fit};
+
+use crate::any_value::AnyValue;
+use crate::data_type::DataType;
+use crate::text::Text;
+use std::marker::Model;
+
+/// A name, a type and values that fit the type. `sorted` is a flag of whoever made it.
+#[derive(Drop)]
+pub struct Column {
+    name: Text,
+    dtype: DataType,
+    sorted: bool,
+    values: Vec<AnyValue>,
+}
+
+impl Model for Column {
+    ghost use Rattle.pipe_columns.specs.Frame.{AllFit, ColumnData};
+
+    ghost Value = { ColumnData };
+
+    ghost view = { λ a. record { name = a.name; dtype = a.dtype; sorted = a.sorted; values = a.values.items } };
+
+    ghost invariant = { λ a. AllFit a.dtype a.values.items };
+}
+
+/// Whether all values fit a type.
+fn do_fit(values: &[AnyValue], dtype: DataType) -> bool
+    ensures { result ≡ all_fit dtype values.now }
+{
+    values.iter().all(|value| value.fits(dtype))
+}
+
+impl Column {
+    /// A column, or none exactly where a value doesn't fit.
+    pub fn new(name: Text, dtype: DataType, sorted: bool, values: Vec<AnyValue>) -> Option<Column>
+        ensures some { IfSome result (λ c. c ≡ record { name = name; dtype = dtype; sorted = sorted; values = values.items }) }
+        ensures fits { IfSome result (λ c. all_fit dtype values.items ≡ true) }
+        ensures none { IfNone result (all_fit dtype values.items ≡ false) }
+    {
+        if do_fit(&values, dtype) {
+            Some(Column {
+                name,
+                dtype,
+                sorted,
+                values,
+            })
+        } else {
+            None
+        }
+    }
+
+    pub fn name(&self) -> &Text
+        ensures { result.now ≡ self.now.name }
+    {
+        &self.name
+    }
+
+    pub fn dtype(&self) -> DataType
+        ensures { result ≡ self.now.dtype }
+    {
+        self.dtype
+    }
+
+    pub fn sorted(&self) -> bool
+        ensures { result ≡ self.now.sorted }
+    {
+        self.sorted
+    }
+
+    pub fn values(&self) -> &[AnyValue]
+        ensures values { result.now ≡ self.now.values }
+        ensures fit { all_fit self.now.dtype self.now.values ≡ true }
+    {
+        &self.values
+    }
+}

@@ -1,0 +1,8 @@
+use crate::data_frame::DataFrame;
+
+/// A frame that is one piece of an input, with its number there.
+#[derive(Drop)]
+pub struct DataChunk {
+    pub chunk_index: u32,
+    pub frame: DataFrame,
+}

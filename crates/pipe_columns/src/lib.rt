@@ -1,0 +1,20 @@
+//! Values, columns, frames and chunks: what every other crate passes around.
+#![tactic(auto)]
+
+mod any_value;
+mod column;
+mod data_chunk;
+mod data_frame;
+mod data_type;
+mod place;
+mod schema;
+mod text;
+
+pub use any_value::AnyValue;
+pub use column::Column;
+pub use data_chunk::DataChunk;
+pub use data_frame::DataFrame;
+pub use data_type::DataType;
+pub use place::Place;
+pub use schema::{Field, Schema};
+pub use text::Text;
