@@ -1,0 +1,5 @@
+pub mod Expr
+pub mod Value
+pub mod Typing
+pub mod Query
+pub mod Output

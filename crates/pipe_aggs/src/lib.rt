@@ -1,0 +1,2 @@
+//! Expressions and aggregates of a query.
+#![tactic(auto)]

@@ -1,0 +1,36 @@
+-- The rows of chunks, as a query sees them.
+use Rattle.std.specs.Prelude.{ℕ, ◌+◌, List, [], ◌∷◌, ◌++◌, map}
+use Rattle.std.specs.List.{range_with_len}
+use Rattle.pipe_columns.specs.declared.any_value.AnyValue.{AnyValue}
+use Rattle.pipe_columns.specs.declared.any_value.AnyValue.TheVariants as av
+use Rattle.pipe_columns.specs.declared.data_chunk.DataChunk.{DataChunk}
+use Rattle.pipe_columns.specs.Frame.{FrameData}
+use Rattle.pipe_columns.specs.Row.{Row}
+use Rattle.pipe_aggs.specs.Value.{value}
+use Rattle.pipe_aggs.specs.Query.{Input, each, rows_alone, QueryTree}
+
+-- what an aggregate is fed in a row
+abbrev pub input_value : Input → FrameData → ℕ → AnyValue
+input_value (each e) frame n = value e frame n
+input_value rows_alone frame n = av.Null
+
+-- row n of the chunk at position i
+abbrev pub row_of : QueryTree → ℕ → FrameData → ℕ → Row
+row_of q i frame n = record {
+  place = record { chunk = i; row = n };
+  key = map (λ e. value e frame n) q.keys;
+  inputs = map (λ a. input_value a.input frame n) q.aggs;
+}
+
+-- the rows of the chunk at position i
+abbrev pub chunk_rows : QueryTree → ℕ → FrameData → List Row
+chunk_rows q i frame = map (λ n. row_of q i frame n) (range_with_len 0 frame.height)
+
+-- the rows of chunks from position i on
+abbrev pub rows_from : QueryTree → ℕ → List DataChunk → List Row
+rows_from q i [] = []
+rows_from q i (c ∷ cs) = chunk_rows q i c.frame ++ rows_from q (i + 1) cs
+
+-- the rows of chunks, in order
+abbrev pub rows : List DataChunk → QueryTree → List Row
+rows chunks q = rows_from q 0 chunks
