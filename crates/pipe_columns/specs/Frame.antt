@@ -30,6 +30,10 @@ all_have_height n columns = list_all (λ c. length c.values == n) columns
 abbrev pub AllHaveHeight : ℕ → List ColumnData → Type 0
 AllHaveHeight n columns = all_have_height n columns ≡ true
 
+-- a frame has the names and the types of fields, in order
+abbrev pub FitsSchema : List Field → FrameData → Type 0
+FitsSchema fields frame = map (λ c. record { name = c.name; dtype = c.dtype }) frame.columns ≡ fields
+
 -- the value at a place of a list, null past its end
 abbrev pub value_at : List AnyValue → ℕ → AnyValue
 value_at values i = unwrap_or (slice_get values i) av.Null
@@ -43,6 +47,6 @@ columns_from i (f ∷ fs) rows = record { name = f.name; dtype = f.dtype; sorted
 abbrev pub frame_of : List Field → List (List AnyValue) → FrameData
 frame_of fields rows = record { height = length rows; columns = columns_from 0 fields rows }
 
--- the numbers from i on, n of them
+-- the values of the row at a place
 abbrev pub row_at : List ColumnData → ℕ → List AnyValue
 row_at columns i = map (λ c. value_at c.values i) columns

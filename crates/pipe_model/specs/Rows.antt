@@ -1,10 +1,10 @@
 -- The rows of chunks, as a query sees them.
-use Rattle.std.specs.Prelude.{ℕ, ◌+◌, List, [], ◌∷◌, ◌++◌, map}
+use Rattle.std.specs.Prelude.{ℕ, ◌+◌, ◌<◌, ◌^◌, List, [], ◌∷◌, ◌++◌, length, map, sum_by, All}
 use Rattle.std.specs.List.{range_with_len}
 use Rattle.pipe_columns.specs.declared.any_value.AnyValue.{AnyValue}
 use Rattle.pipe_columns.specs.declared.any_value.AnyValue.TheVariants as av
 use Rattle.pipe_columns.specs.declared.data_chunk.DataChunk.{DataChunk}
-use Rattle.pipe_columns.specs.Frame.{FrameData}
+use Rattle.pipe_columns.specs.Frame.{FitsSchema, FrameData}
 use Rattle.pipe_columns.specs.Row.{Row}
 use Rattle.pipe_aggs.specs.Value.{value}
 use Rattle.pipe_aggs.specs.Query.{Input, each, rows_alone, QueryTree}
@@ -34,3 +34,13 @@ rows_from q i (c ∷ cs) = chunk_rows q i c.frame ++ rows_from q (i + 1) cs
 -- the rows of chunks, in order
 abbrev pub rows : List DataChunk → QueryTree → List Row
 rows chunks q = rows_from q 0 chunks
+
+-- how many rows chunks have
+abbrev pub total_height : List DataChunk → ℕ
+total_height chunks = sum_by (λ c. c.frame.height) chunks
+
+-- chunks that a query may be asked of: each has the columns of its schema, and their rows have places
+pub record AreChunksOf (q : QueryTree) (chunks : List DataChunk) : Type 0 where
+  pub columns : All (λ c. FitsSchema q.schema c.frame) chunks
+  pub rows : total_height chunks < 2 ^ 32
+  pub number : length chunks < 2 ^ 32

@@ -1,2 +1,10 @@
 //! Running aggregates: what a group keeps of the values that it has seen.
 #![tactic(auto)]
+
+mod count;
+mod function;
+mod sum;
+
+pub use count::CountAgg;
+pub use function::AggregateFunction;
+pub use sum::SumAgg;

@@ -1,0 +1,7 @@
+//! The plain program: groups in a sorted list. It is slow in the number of groups, and its contract
+//! is the answer itself, so faster programs are tested beside it.
+#![tactic(auto)]
+
+mod query;
+
+pub use query::{PlainAgg, PlainQuery};
