@@ -1,0 +1,4 @@
+pub mod Causes
+pub mod Calls
+pub mod Files
+pub mod MemoryFiles
