@@ -2,3 +2,5 @@ pub mod Causes
 pub mod Calls
 pub mod Files
 pub mod MemoryFiles
+pub mod Output
+pub mod MemoryOutput
