@@ -18,3 +18,6 @@ pub use output::{Output, OutputError, write_all};
 pub use real_files::RealFiles;
 pub use real_output::RealOutput;
 pub use whole_file::{FileEnd, read_file};
+
+#[cfg(test)]
+mod tests;
