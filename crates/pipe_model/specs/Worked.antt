@@ -42,9 +42,6 @@ sum_alone = agg_of (codes "s") kind.sum ∷ []
 abbrev pub shown : FrameData → List (List AnyValue)
 shown f = map (λ c. c.values) f.columns
 
-abbrev pub names_and_types : FrameData → List Field
-names_and_types f = map (λ c. record { name = c.name; dtype = c.dtype }) f.columns
-
 -- a query that keeps a slice of its groups
 abbrev pub with_slice : ℕ → ℕ → QueryTree → QueryTree
 with_slice offset len q = record q { slice = Some (offset, len) }

@@ -4,9 +4,8 @@ ghost use Rattle.std.specs.Prelude.{◌≡◌, ◌∷◌, [], false, true, negsu
 ghost use Rattle.std.specs.List.{range_with_len};
 ghost use Rattle.pipe_columns.specs.declared.data_type.DataType.TheVariants as dt;
 ghost use Rattle.pipe_columns.specs.declared.any_value.AnyValue.TheVariants as av;
-ghost use Rattle.pipe_columns.specs.Key.{code, fold_bytes};
 ghost use Rattle.pipe_model.specs.Answer.{answer};
-ghost use Rattle.pipe_model.specs.Worked.{all_kinds, by_key, chunk_of, each_with_one, in_order, int, names_and_types, numbers, shown, sum_alone, sum_and_count, sum_and_mean, sum_min_mean, text, with_slice};
+ghost use Rattle.pipe_model.specs.Worked.{all_kinds, by_key, chunk_of, each_with_one, in_order, int, numbers, shown, sum_alone, sum_and_count, sum_and_mean, sum_min_mean, text, with_slice};
 
 /// Keys 1, 2, 1 with values 5, 6, 7.
 pub fn sums_and_counts()
@@ -66,14 +65,6 @@ pub fn only_null()
     ensures { shown (answer (chunk_of dt.Int64 dt.Int64 ((int 1 ∷ av.Null ∷ []) ∷ []))
         (by_key dt.Int64 dt.Int64 sum_min_mean) 1)
         ≡ (int 1 ∷ []) ∷ (int 0 ∷ []) ∷ (av.Null ∷ []) ∷ (av.Null ∷ []) ∷ (int 0 ∷ []) ∷ [] }
-{}
-
-/// The two halves of a mean stand under names of their own.
-pub fn mean_names()
-    ensures { names_and_types (answer [] (by_key dt.Int64 dt.Int64 sum_min_mean) 1)
-        ≡ record { name = codes "k"; dtype = dt.Int64 } ∷ record { name = codes "s"; dtype = dt.Int64 }
-        ∷ record { name = codes "lo"; dtype = dt.Int64 } ∷ record { name = codes "m_sum"; dtype = dt.Int128 }
-        ∷ record { name = codes "m_count"; dtype = dt.UInt32 } ∷ [] }
 {}
 
 /// A sum of UInt32 wraps at 2^32.
@@ -150,20 +141,4 @@ pub fn slice_of_kept_order()
         ((int 4 ∷ int 1 ∷ []) ∷ (int 1 ∷ int 2 ∷ []) ∷ (int 2 ∷ int 3 ∷ []) ∷ (int 1 ∷ int 4 ∷ []) ∷ []))
         (with_slice 1 1 (in_order (by_key dt.Int64 dt.Int64 sum_alone))) 2)
         ≡ numbers (1 ∷ []) ∷ numbers (6 ∷ []) ∷ [] }
-{}
-
-/// The bytes of keys: -1 of Int8, true, the text `a`, a text with a zero byte, and a tuple.
-pub fn key_codes()
-    ensures small { code (dt.Int8 ∷ []) (av.Int (negsuc 0) ∷ []) ≡ 0x01 ∷ 0x7f ∷ [] }
-    ensures truth { code (dt.Boolean ∷ []) (av.Boolean true ∷ []) ≡ 0x01 ∷ 0x01 ∷ [] }
-    ensures letter { code (dt.String ∷ []) (text (codes "a") ∷ []) ≡ 0x01 ∷ 0x61 ∷ 0x00 ∷ 0x00 ∷ [] }
-    ensures zero_byte { code (dt.String ∷ []) (text (0x61 ∷ 0x00 ∷ 0x62 ∷ []) ∷ [])
-        ≡ 0x01 ∷ 0x61 ∷ 0x00 ∷ 0x01 ∷ 0x62 ∷ 0x00 ∷ 0x00 ∷ [] }
-    ensures tuple { code (dt.Int64 ∷ dt.Int16 ∷ []) (av.Null ∷ int 258 ∷ []) ≡ 0x00 ∷ 0x01 ∷ 0x81 ∷ 0x02 ∷ [] }
-{}
-
-/// The numbers of the texts `a` and `b` as keys.
-pub fn key_numbers()
-    ensures first { fold_bytes (code (dt.String ∷ []) (text (codes "a") ∷ [])) ≡ 123008 }
-    ensures second { fold_bytes (code (dt.String ∷ []) (text (codes "b") ∷ [])) ≡ 123969 }
 {}
