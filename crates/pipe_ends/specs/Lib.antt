@@ -1,3 +1,4 @@
 pub mod Fields
 pub mod CsvChunks
 pub mod Texts
+pub mod Written
