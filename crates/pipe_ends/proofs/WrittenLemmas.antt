@@ -1,20 +1,14 @@
 -- How what a CSV writer has written grows.
 use Rattle.std.proofs.Common.{◌≡◌, ◌≢◌, ◌∙◌, ◌==◌, ◌+◌, ◌-◌, ◌^◌, ◌<◌, ◌∷◌, ◌++◌, [], ℕ, List, Option, Some, None, length, min, not, true, false, refl, sym, ap, arith, append_assoc, append-nil, length-append}
-use Rattle.std.specs.Prelude.{Vec}
-use Rattle.std.specs.declared.alloc.Global.{Global}
 use Rattle.std.specs.Io.KnownBytes.{Appends}
-use Rattle.csv.specs.declared.writer.Writer.{Writer}
 use Rattle.csv.specs.declared.writer.QuoteStyle.TheVariants as style
 use Rattle.csv.specs.Writing.{default_writer, writer_setup, fields_written, has_written, text_written, writer_under, writer_pending, next_sep, field_text, tail_text, is_blank}
 use Rattle.csv.proofs.WriteFacts.{row-more, blank-more}
 use Rattle.pipe_ends.specs.Texts.{line_of}
-use Rattle.pipe_ends.specs.Written.{HasWritten}
-
-abbrev pub RowWriter : Type 0
-RowWriter = Writer (Vec ℕ Global)
+use Rattle.pipe_ends.specs.Written.{HasWritten, TextWriter}
 
 -- all that a writer was given
-abbrev pub bytes_of : RowWriter → Option (List ℕ)
+abbrev pub bytes_of : TextWriter → Option (List ℕ)
 bytes_of writer = text_written (λ v. Some v.items) writer
 
 -- what is appended to known bytes
@@ -30,7 +24,7 @@ necessary : style.Necessary ≢ style.NonNumeric
 necessary e = cc e
 
 -- one more field
-pub field-written : (old new : RowWriter) (text : List ℕ) (fields : List (List ℕ)) (field : List ℕ)
+pub field-written : (old new : TextWriter) (text : List ℕ) (fields : List (List ℕ)) (field : List ℕ)
     → HasWritten old text fields → length fields + 1 < 2 ^ 64
     → (((writer_setup old).style ≢ style.NonNumeric) → Appends (bytes_of old) (bytes_of new) (next_sep (writer_setup old) (fields_written old) ++ field_text (writer_setup old) field))
     → writer_setup new ≡ writer_setup old
@@ -50,7 +44,7 @@ field-written old new text fields field h small told same count wrote stays =
     }
 
 -- the end of a record
-pub record-ended : (old new : RowWriter) (text : List ℕ) (fields : List (List ℕ))
+pub record-ended : (old new : TextWriter) (text : List ℕ) (fields : List (List ℕ))
     → HasWritten old text fields
     → Appends (bytes_of old) (bytes_of new) (tail_text (writer_setup old) (has_written old) (fields_written old))
     → fields_written new ≡ 0 → has_written new ≡ false → writer_setup new ≡ writer_setup old
@@ -66,7 +60,7 @@ record-ended old new text fields h told count wrote same =
     }
 
 -- a writer as it begins
-pub nothing-written : (writer : RowWriter) → (writer_under writer).items ≡ [] → writer_pending writer ≡ []
+pub nothing-written : (writer : TextWriter) → (writer_under writer).items ≡ [] → writer_pending writer ≡ []
     → writer_setup writer ≡ default_writer → fields_written writer ≡ 0 → has_written writer ≡ false
     → HasWritten writer [] []
 unfolding is_blank

@@ -1,9 +1,8 @@
-// A CSV record written field by field, by the writer with the default settings.
+// A CSV record, written field by field by the writer with the default settings.
 
-ghost use Rattle.std.specs.Prelude.{◌<◌, ◌+◌, ◌^◌, ◌∷◌, ◌++◌, [], List, ℕ, OnOk, length};
 ghost use Rattle.std.specs.Fmt.{signed_decimal};
-ghost use Rattle.pipe_ends.specs.Texts.{field_of, line_of};
-ghost use Rattle.pipe_ends.specs.Written.{HasWritten};
+ghost use Rattle.pipe_ends.specs.Texts.{field_of};
+ghost use Rattle.pipe_ends.specs.Written.{AddsField, EndsRecord};
 
 use csv::Writer;
 use itoa::Buffer;
@@ -12,9 +11,7 @@ use std::alloc::AllocError;
 
 /// Writes the next field of a record.
 pub(crate) fn write_field(writer: &mut Writer<Vec<u8>>, field: &[u8]) -> Result<(), AllocError>
-    ensures { (text : List ℕ) → (fields : List (List ℕ)) → length fields + 1 < 2 ^ 64
-        → HasWritten writer.old text fields
-        → OnOk result (HasWritten writer.new text (fields ++ field.now ∷ [])) }
+    ensures { AddsField writer.old writer.new result field.now }
 {
     match writer.write_field(field) {
         Ok(()) => Ok(()),
@@ -22,10 +19,9 @@ pub(crate) fn write_field(writer: &mut Writer<Vec<u8>>, field: &[u8]) -> Result<
     }
 }
 
-/// Ends a record.
+/// Ends a record. One with no byte in it gets a quoted empty field.
 pub(crate) fn end_record(writer: &mut Writer<Vec<u8>>) -> Result<(), AllocError>
-    ensures { (text : List ℕ) → (fields : List (List ℕ)) → HasWritten writer.old text fields
-        → OnOk result (HasWritten writer.new (text ++ line_of fields) []) }
+    ensures { EndsRecord writer.old writer.new result }
 {
     match writer.end_record() {
         Ok(()) => Ok(()),
@@ -39,9 +35,7 @@ fn write_number(
     digits: &mut Buffer,
     number: i128,
 ) -> Result<(), AllocError>
-    ensures { (text : List ℕ) → (fields : List (List ℕ)) → length fields + 1 < 2 ^ 64
-        → HasWritten writer.old text fields
-        → OnOk result (HasWritten writer.new text (fields ++ signed_decimal number ∷ [])) }
+    ensures { AddsField writer.old writer.new result (signed_decimal number) }
 {
     let written = match i64::try_from(number) {
         Ok(short) => digits.format(short),
@@ -56,9 +50,7 @@ pub(crate) fn write_value(
     digits: &mut Buffer,
     value: &AnyValue,
 ) -> Result<(), AllocError>
-    ensures { (text : List ℕ) → (fields : List (List ℕ)) → length fields + 1 < 2 ^ 64
-        → HasWritten writer.old text fields
-        → OnOk result (HasWritten writer.new text (fields ++ field_of value.now ∷ [])) }
+    ensures { AddsField writer.old writer.new result (field_of value.now) }
 {
     match value {
         AnyValue::Null => write_field(writer, b""),

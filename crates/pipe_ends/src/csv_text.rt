@@ -1,7 +1,7 @@
-ghost use Rattle.std.specs.Prelude.{◌≡◌, ◌<◌, ◌++◌, [], List, ℕ, IfOk, OnOk, map};
+ghost use Rattle.std.specs.Prelude.{◌≡◌, ◌<◌, IfOk, map};
 ghost use Rattle.pipe_columns.specs.Frame.{row_at};
-ghost use Rattle.pipe_ends.specs.Texts.{csv_text, field_of, header_text, line_of};
-ghost use Rattle.pipe_ends.specs.Written.{HasWritten};
+ghost use Rattle.pipe_ends.specs.Texts.{csv_text, field_of};
+ghost use Rattle.pipe_ends.specs.Written.{AddsRecord};
 
 use crate::csv_record::{end_record, write_field, write_value};
 use csv::{Writer, WriterBuilder};
@@ -9,10 +9,9 @@ use itoa::Buffer;
 use pipe_columns::{Column, DataFrame};
 use std::alloc::{AllocError, Global};
 
-/// Writes the names of the columns as a record.
+/// Writes the names of columns as a record.
 fn write_header(writer: &mut Writer<Vec<u8>>, columns: &[Column]) -> Result<(), AllocError>
-    ensures { (text : List ℕ) → HasWritten writer.old text []
-        → OnOk result (HasWritten writer.new (text ++ line_of (map (λ c. c.name) columns.now)) []) }
+    ensures { AddsRecord writer.old writer.new result (map (λ c. c.name) columns.now) }
 {
     for column in columns {
         write_field(writer, column.name().as_bytes())?;
@@ -28,9 +27,8 @@ fn write_row(
     row: usize,
 ) -> Result<(), AllocError>
     requires { row < frame.now.height }
-    ensures { let fields = map field_of (row_at frame.now.columns row) in
-        (text : List ℕ) → HasWritten writer.old text []
-        → OnOk result (HasWritten writer.new (text ++ line_of fields) []) }
+    ensures { let values = row_at frame.now.columns row in
+        AddsRecord writer.old writer.new result (map field_of values) }
 {
     for column in frame.columns() {
         write_value(writer, digits, &column.values()[row])?;
@@ -38,8 +36,8 @@ fn write_row(
     end_record(writer)
 }
 
-/// The CSV text of a frame: a record of the columns' names, then one for each row. Null is the
-/// empty field, and only a record's sole field is then in quotes.
+/// The CSV text of a frame: a record of the columns' names, then one for each row. A null is the
+/// empty field, which has quotes only where it is alone in its record.
 pub fn frame_text(alloc: Global, frame: &DataFrame) -> Result<Vec<u8>, AllocError>
     ensures { IfOk result (λ v. v.items ≡ csv_text frame.now) }
 {
