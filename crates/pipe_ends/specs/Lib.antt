@@ -1,4 +1,10 @@
 pub mod Fields
 pub mod CsvChunks
 pub mod Texts
+pub mod Causes
+pub mod Calls
+pub mod Files
+pub mod MemoryFiles
+pub mod Output
+pub mod MemoryOutput
 pub mod Written

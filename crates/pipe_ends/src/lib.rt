@@ -1,7 +1,26 @@
-//! Where chunks come from and where frames go: files, CSV and outputs.
+//! Where chunks come from and where frames go: named files that are read, CSV, and outputs that are
+//! written. Inputs and outputs count their faults.
 #![tactic(auto)]
 
 mod csv_record;
 mod csv_text;
+mod failing;
+mod input;
+mod memory_files;
+mod memory_output;
+mod output;
+mod real_files;
+mod real_output;
+mod whole_file;
 
 pub use csv_text::frame_text;
+pub use input::{InputError, InputFiles};
+pub use memory_files::MemoryFiles;
+pub use memory_output::MemoryOutput;
+pub use output::{Output, OutputError, write_all};
+pub use real_files::RealFiles;
+pub use real_output::RealOutput;
+pub use whole_file::{FileEnd, read_file};
+
+#[cfg(test)]
+mod tests;
