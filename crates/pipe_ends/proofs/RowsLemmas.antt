@@ -10,10 +10,12 @@ use Rattle.pipe_columns.specs.declared.any_value.AnyValue.{AnyValue}
 use Rattle.pipe_columns.specs.Frame.{ColumnData, all_have_height, row_at, value_at}
 use Rattle.pipe_ends.specs.Texts.{field_of}
 
+-- the first of two tests that hold together
 and-first : (a b : _) → (a && b) ≡ true → a ≡ true
 and-first true b both = refl
 and-first false b both = cc both
 
+-- and the second
 and-second : (a b : _) → (a && b) ≡ true → b ≡ true
 and-second true b both = both
 and-second false b both = cc both
