@@ -1,2 +1,4 @@
 pub mod MemoryFacts
 pub mod ReadOn
+pub mod RowsLemmas
+pub mod WrittenLemmas

@@ -7,3 +7,4 @@ pub mod Files
 pub mod MemoryFiles
 pub mod Output
 pub mod MemoryOutput
+pub mod Written

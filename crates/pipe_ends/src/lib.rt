@@ -2,6 +2,8 @@
 //! written. Inputs and outputs count their faults.
 #![tactic(auto)]
 
+mod csv_record;
+mod csv_text;
 mod failing;
 mod input;
 mod memory_files;
@@ -11,6 +13,7 @@ mod real_files;
 mod real_output;
 mod whole_file;
 
+pub use csv_text::frame_text;
 pub use input::{InputError, InputFiles};
 pub use memory_files::MemoryFiles;
 pub use memory_output::MemoryOutput;
