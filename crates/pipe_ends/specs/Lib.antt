@@ -4,3 +4,5 @@ pub mod Files
 pub mod MemoryFiles
 pub mod Output
 pub mod MemoryOutput
+pub mod RealFiles
+pub mod RealOutput
