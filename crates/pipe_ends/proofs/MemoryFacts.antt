@@ -1,4 +1,4 @@
--- Files in memory.
+-- Files in memory: the search for a name, and a read.
 use Rattle.std.proofs.Common.{◌≡◌, ◌∙◌, ◌+◌, ◌-◌, ◌<◌, ℕ, List, ◌++◌, length, take, drop, min, Option, Some, true, false, slice_get, get_or, Vec, Global, refl, sym, ap, arith, take-append-drop}
 use Rattle.std.proofs.lemmas.List.{at_drop_more, drop-drop, drop_all}
 use Rattle.std.proofs.lemmas.Option.{slice_get-get_or}
@@ -7,9 +7,11 @@ use Rattle.std.specs.Io.KnownBytes.{Consumes, IsAtEnd}
 use Rattle.pipe_ends.specs.Files.{file_of}
 use Rattle.pipe_ends.specs.MemoryFiles.{entries, rest_of}
 
+-- a name and its bytes, as the code holds them
 abbrev Named : Type 0
 Named = List ℕ × Vec ℕ Global
 
+-- the bytes of the first file of a name
 abbrev search_of : List ℕ → List Named → Option (List ℕ)
 search_of name fs = file_of (entries fs) name
 

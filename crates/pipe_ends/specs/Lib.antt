@@ -8,3 +8,5 @@ pub mod MemoryFiles
 pub mod Output
 pub mod MemoryOutput
 pub mod Written
+pub mod RealFiles
+pub mod RealOutput

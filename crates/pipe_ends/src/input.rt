@@ -42,7 +42,8 @@ pub trait InputFiles {
         ensures missing { IsErrOf result input_error.NoFile → HasNone (told self.old) name.now }
         ensures no_fault { IsErrOf result input_error.NoFile → faults self.new ≡ faults self.old }
         ensures refused { OnErr result (begun self.new ≡ false) }
-        ensures cause { HasCause (faults self.old) (faults self.new) (IsErrOf result input_error.Failed) };
+        ensures cause { HasCause (faults self.old) (faults self.new)
+            (IsErrOf result input_error.Failed) };
 
     /// Gives the next bytes of the begun file, and none exactly at its end.
     /// A refused read takes nothing.
@@ -54,5 +55,6 @@ pub trait InputFiles {
         ensures bound { ReadsAtMost result into.new }
         ensures bytes { ReadConsumes (left self.old) (left self.new) result into.new }
         ensures found { IsErrOf result input_error.NoFile → ⊥ }
-        ensures cause { HasCause (faults self.old) (faults self.new) (IsErrOf result input_error.Failed) };
+        ensures cause { HasCause (faults self.old) (faults self.new)
+            (IsErrOf result input_error.Failed) };
 }

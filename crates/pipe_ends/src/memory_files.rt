@@ -53,10 +53,13 @@ impl InputFiles for MemoryFiles {
         ensures started { OnOk result (begun_of self.new ≡ true) }
         ensures at_start { OnOk result (IsRead (told_of self.old) name.now (left_of self.new) []) }
         ensures missing { IsErrOf result input_error.NoFile → HasNone (told_of self.old) name.now }
-        ensures no_fault { IsErrOf result input_error.NoFile → faults_of self.new ≡ faults_of self.old }
+        ensures no_fault { IsErrOf result input_error.NoFile
+            → faults_of self.new ≡ faults_of self.old }
         ensures refused { OnErr result (begun_of self.new ≡ false) }
-        ensures cause { HasCause (faults_of self.old) (faults_of self.new) (IsErrOf result input_error.Failed) }
-        ensures fails_exactly { IsErrOf result input_error.Failed ↔ IsTrue (is_listed (calls_of self.old)) }
+        ensures cause { HasCause (faults_of self.old) (faults_of self.new)
+            (IsErrOf result input_error.Failed) }
+        ensures fails_exactly { IsErrOf result input_error.Failed
+            ↔ IsTrue (is_listed (calls_of self.old)) }
         ensures no_memory { IsErrOf result input_error.Memory → ⊥ }
         ensures calls { calls_of self.new ≡ after_call (calls_of self.old) }
     {
@@ -82,8 +85,10 @@ impl InputFiles for MemoryFiles {
         ensures bound { ReadsAtMost result into.new }
         ensures bytes { ReadConsumes (left_of self.old) (left_of self.new) result into.new }
         ensures found { IsErrOf result input_error.NoFile → ⊥ }
-        ensures cause { HasCause (faults_of self.old) (faults_of self.new) (IsErrOf result input_error.Failed) }
-        ensures fails_exactly { IsErrOf result input_error.Failed ↔ IsTrue (is_listed (calls_of self.old)) }
+        ensures cause { HasCause (faults_of self.old) (faults_of self.new)
+            (IsErrOf result input_error.Failed) }
+        ensures fails_exactly { IsErrOf result input_error.Failed
+            ↔ IsTrue (is_listed (calls_of self.old)) }
         ensures no_memory { IsErrOf result input_error.Memory → ⊥ }
         ensures calls { calls_of self.new ≡ after_call (calls_of self.old) }
     {

@@ -48,9 +48,11 @@ impl Output for MemoryOutput {
         ensures some { IfOk result (λ n. 0 < n) }
         ensures bound { IfOk result (λ n. n ≤ length piece.now) }
         ensures bytes { WriteAppends (told_of self.old) (told_of self.new) result piece.now }
-        ensures cause { HasCause (faults_of self.old) (faults_of self.new) (IsErrOf result output_error.Failed) }
+        ensures cause { HasCause (faults_of self.old) (faults_of self.new)
+            (IsErrOf result output_error.Failed) }
         ensures whole { IfOk result (λ n. n ≡ length piece.now) }
-        ensures fails_exactly { IsErrOf result output_error.Failed ↔ IsTrue (is_listed (calls_of self.old)) }
+        ensures fails_exactly { IsErrOf result output_error.Failed
+            ↔ IsTrue (is_listed (calls_of self.old)) }
         ensures calls { calls_of self.new ≡ after_call (calls_of self.old) }
     {
         if self.calls.count() {

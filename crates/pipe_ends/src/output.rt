@@ -30,14 +30,16 @@ pub trait Output {
         ensures some { IfOk result (λ n. 0 < n) }
         ensures bound { IfOk result (λ n. n ≤ length piece.now) }
         ensures bytes { WriteAppends (told self.old) (told self.new) result piece.now }
-        ensures cause { HasCause (faults self.old) (faults self.new) (IsErrOf result output_error.Failed) };
+        ensures cause { HasCause (faults self.old) (faults self.new)
+            (IsErrOf result output_error.Failed) };
 }
 
 /// Writes all the bytes, or where a write is refused a front of them.
 pub fn write_all<O: Output>(output: &mut O, bytes: &[u8]) -> Result<(), OutputError>
     ensures all { OnOk result (Appends (O.told output.old) (O.told output.new) bytes.now) }
     ensures front { OnErr result (WroteFront (O.told output.old) (O.told output.new) bytes.now) }
-    ensures cause { HasCause (O.faults output.old) (O.faults output.new) (IsErrOf result output_error.Failed) }
+    ensures cause { HasCause (O.faults output.old) (O.faults output.new)
+        (IsErrOf result output_error.Failed) }
     ensures empty_untouched { bytes.now ≡ [] → output.new ≡ output.old }
     ensures empty_ok { bytes.now ≡ [] → IsOk result }
 {

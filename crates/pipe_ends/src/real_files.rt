@@ -1,5 +1,8 @@
 // The real files, and standard input as `-`.
 
+ghost use Rattle.std.specs.Prelude.{◌≡◌, false};
+ghost use Rattle.pipe_ends.specs.RealFiles.{begun_of, faults_of};
+
 use crate::input::{InputError, InputFiles};
 use pipe_columns::Text;
 use std::fs::{self, Files};
@@ -17,7 +20,10 @@ pub struct RealFiles<'a, R: Files, S> {
 
 impl<'a, R: Files, S: Read + Drop> RealFiles<'a, R, S> {
     /// Nothing is begun. `stdin` is read where `-` is begun, each time from where it stands.
-    pub fn new(rt: &'a R, stdin: S) -> RealFiles<'a, R, S> {
+    pub fn new(rt: &'a R, stdin: S) -> RealFiles<'a, R, S>
+        ensures idle { begun_of result ≡ false }
+        ensures no_fault { faults_of result ≡ 0 }
+    {
         RealFiles {
             rt,
             stdin,
@@ -29,15 +35,16 @@ impl<'a, R: Files, S: Read + Drop> RealFiles<'a, R, S> {
 }
 
 impl<'a, R: Files, S: Read + Drop> InputFiles for RealFiles<'a, R, S> {
-    ghost use Rattle.std.specs.Prelude.{None, ◌||◌, is_some};
+    ghost use Rattle.std.specs.Prelude.{None};
+    ghost use Rattle.pipe_ends.specs.RealFiles.{begun_of, faults_of};
 
     ghost told = { λ s. None };
 
     ghost left = { λ s. None };
 
-    ghost begun = { λ s. s.reads_stdin || is_some s.file };
+    ghost begun = { begun_of };
 
-    ghost faults = { λ s. s.faults };
+    ghost faults = { faults_of };
 
     fn begin(&mut self, name: &Text) -> Result<(), InputError> {
         self.file = None;

@@ -1,7 +1,8 @@
 // Any writer as an output.
 
-ghost use Rattle.std.specs.Prelude.{◌≡◌, length, IfErr};
+ghost use Rattle.std.specs.Prelude.{◌≡◌};
 ghost use Rattle.std.specs.Io.{WritesAtMost};
+ghost use Rattle.pipe_ends.specs.RealOutput.{faults_of};
 
 use crate::output::{Output, OutputError};
 use std::io::{ErrorKind, Write};
@@ -15,17 +16,20 @@ pub struct RealOutput<W> {
 
 impl<W: Write + Drop> RealOutput<W> {
     /// No write is made yet.
-    pub fn new(writer: W) -> RealOutput<W> {
+    pub fn new(writer: W) -> RealOutput<W>
+        ensures { faults_of result ≡ 0 }
+    {
         RealOutput { writer, faults: 0 }
     }
 }
 
 impl<W: Write + Drop> Output for RealOutput<W> {
     ghost use Rattle.std.specs.Prelude.{None};
+    ghost use Rattle.pipe_ends.specs.RealOutput.{faults_of};
 
     ghost told = { λ s. None };
 
-    ghost faults = { λ s. s.faults };
+    ghost faults = { faults_of };
 
     fn write(&mut self, piece: &[u8]) -> Result<usize, OutputError> {
         match written(&mut self.writer, piece) {

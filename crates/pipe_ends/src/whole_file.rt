@@ -53,8 +53,10 @@ pub fn read_file<I: InputFiles>(
     ensures small { IfOk result (λ v. length v.items ≤ 2 ^ 30) }
     ensures missing { IsErrOf result file_end.Missing → HasNone (I.told input.old) name.now }
     ensures no_fault { IsErrOf result file_end.Missing → I.faults input.new ≡ I.faults input.old }
-    ensures large { IsErrOf result file_end.TooLarge → IsLarger (I.told input.old) name.now (2 ^ 30) }
-    ensures cause { HasCause (I.faults input.old) (I.faults input.new) (IsErrOf result file_end.Failed) }
+    ensures large { IsErrOf result file_end.TooLarge
+        → IsLarger (I.told input.old) name.now (2 ^ 30) }
+    ensures cause { HasCause (I.faults input.old) (I.faults input.new)
+        (IsErrOf result file_end.Failed) }
 {
     if let Err(error) = input.begin(name) {
         return Err(end_of(error));

@@ -7,11 +7,15 @@ use Rattle.pipe_ends.proofs.memory_files.MemoryFilesInputFiles.read.Goals as goa
 pub returns-clause-bytes : goal.returns-clause-bytes
 returns-clause-bytes c =
     let file = c.in-Some-get.file.now in
+    let files = c.args.self.now.files.items in
+    let at = c.args.self.now.at in
+    let room = length c.args.into.now in
+    let given = c.copy_front-count.new.into in
     let n = c.copy_front-count.result in
-    let here : slice_get c.args.self.now.files.items c.in-Some.place ≡ Some file = search (rules, slice_get_read) in
-    let count : n ≡ min (length file.1.items - c.args.self.now.at) (length c.args.into.now) = search rules in
-    let same : take n c.copy_front-count.new.into ≡ take n (drop c.args.self.now.at file.1.items) = search rules in
-    let took = copied c.args.self.now.files.items c.args.self.now.at c.in-Some.place n (length c.args.into.now) c.copy_front-count.new.into file here count c.requires.room same in
+    let here : slice_get files c.in-Some.place ≡ Some file = search (rules, slice_get_read) in
+    let count : n ≡ min (length file.1.items - at) room = search rules in
+    let same : take n given ≡ take n (drop at file.1.items) = search rules in
+    let took = copied files at c.in-Some.place n room given file here count c.requires.room same in
     let current : c.args.self.now.current ≡ Some c.in-Some.place = search rules in
     rw current (took.0, λ e _. took.1 e)
 
