@@ -10,3 +10,4 @@ pub mod MemoryOutput
 pub mod Written
 pub mod RealFiles
 pub mod RealOutput
+pub mod Worked

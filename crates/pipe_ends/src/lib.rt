@@ -12,6 +12,7 @@ mod output;
 mod real_files;
 mod real_output;
 mod whole_file;
+mod worked;
 
 pub use csv_text::frame_text;
 pub use input::{InputError, InputFiles};
