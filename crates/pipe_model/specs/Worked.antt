@@ -56,6 +56,10 @@ text s = av.Text s
 abbrev pub all_kinds : List AggTree
 all_kinds = agg_of (codes "a") kind.first ∷ agg_of (codes "b") kind.last ∷ agg_of (codes "c") kind.count ∷ len_of (codes "d") ∷ agg_of (codes "e") kind.sum ∷ agg_of (codes "f") kind.min ∷ agg_of (codes "g") kind.max ∷ agg_of (codes "h") kind.mean ∷ []
 
+-- the sums of k and of v
+abbrev pub both_sums : List AggTree
+both_sums = record { name = codes "a"; kind = kind.sum; input = each (column (codes "k")) } ∷ agg_of (codes "b") kind.sum ∷ []
+
 abbrev pub sum_min_mean : List AggTree
 sum_min_mean = agg_of (codes "s") kind.sum ∷ agg_of (codes "lo") kind.min ∷ agg_of (codes "m") kind.mean ∷ []
 

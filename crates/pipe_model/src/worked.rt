@@ -5,7 +5,7 @@ ghost use Rattle.std.specs.List.{range_with_len};
 ghost use Rattle.pipe_columns.specs.declared.data_type.DataType.TheVariants as dt;
 ghost use Rattle.pipe_columns.specs.declared.any_value.AnyValue.TheVariants as av;
 ghost use Rattle.pipe_model.specs.Answer.{answer};
-ghost use Rattle.pipe_model.specs.Worked.{all_kinds, by_key, chunk_of, each_with_one, in_order, int, numbers, shown, sum_alone, sum_and_count, sum_and_mean, sum_min_mean, text, with_slice};
+ghost use Rattle.pipe_model.specs.Worked.{all_kinds, both_sums, by_key, chunk_of, each_with_one, in_order, int, numbers, shown, sum_alone, sum_and_count, sum_and_mean, sum_min_mean, text, with_slice};
 
 /// Keys 1, 2, 1 with values 5, 6, 7.
 pub fn sums_and_counts()
@@ -58,6 +58,14 @@ pub fn every_aggregate()
         (by_key dt.Int64 dt.Int64 all_kinds) 1)
         ≡ (int 1 ∷ []) ∷ (av.Null ∷ []) ∷ (int 5 ∷ []) ∷ (int 1 ∷ []) ∷ (int 2 ∷ []) ∷ (int 5 ∷ [])
         ∷ (int 5 ∷ []) ∷ (int 5 ∷ []) ∷ (int 5 ∷ []) ∷ (int 1 ∷ []) ∷ [] }
+{}
+
+/// Each aggregate is fed by its own input.
+pub fn inputs_of_their_own()
+    ensures { shown (answer (chunk_of dt.Int64 dt.Int64
+        ((int 2 ∷ int 5 ∷ []) ∷ (int 2 ∷ int 6 ∷ []) ∷ []))
+        (by_key dt.Int64 dt.Int64 both_sums) 1)
+        ≡ numbers (2 ∷ []) ∷ numbers (4 ∷ []) ∷ numbers (11 ∷ []) ∷ [] }
 {}
 
 /// A null alone: a sum of 0, no least value, and a mean of none.
