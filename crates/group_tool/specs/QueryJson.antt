@@ -1,8 +1,8 @@
 -- The query that a JSON value is, and the query that the words of a command are.
-use Rattle.std.specs.Prelude.{◌&&◌, ◌==◌, ◌+◌, ℕ, Bool, true, false, not, List, [], ◌∷◌, map, codes, bytes_eq, if◌then◌else◌, Option, Some, None, option_map, option_and_then}
+use Rattle.std.specs.Prelude.{◌&&◌, ◌==◌, ◌+◌, ℕ, Bool, true, false, not, List, [], ◌∷◌, map, codes, bytes_eq, if◌then◌else◌, Option, Some, None, option_map, option_and_then, unwrap_or}
 use Rattle.std.specs.List.{list_any}
 use Rattle.serde_json.specs.Data.{Data, Items, no_items, item, Members, no_members, member}
-use Rattle.serde_json.specs.Find.{as_array, as_object, as_str, get_member}
+use Rattle.serde_json.specs.Find.{as_array, as_object, as_str, get}
 use Rattle.serde_json.specs.Read.{read}
 use Rattle.pipe_columns.specs.declared.data_type.DataType.{DataType}
 use Rattle.pipe_columns.specs.declared.data_type.DataType.TheVariants as dt
@@ -18,9 +18,13 @@ abbrev pub member_count : Members → ℕ
 member_count no_members = 0
 member_count (member k d ms) = member_count ms + 1
 
--- the members of an object that has so many
-abbrev pub members_of : ℕ → Data → Option Members
-members_of n d = option_and_then (λ ms. if member_count ms == n then Some ms else None) (as_object d)
+-- whether a value is an object of so many members
+abbrev pub has_members : ℕ → Data → Bool
+has_members n d = unwrap_or (option_map (λ ms. member_count ms == n) (as_object d)) false
+
+-- the member of an object that has no other
+abbrev pub sole_member : List ℕ → Data → Option Data
+sole_member name d = if has_members 1 d then get name d else None
 
 -- the one item of a list
 abbrev pub sole_item : Items → Option Data
@@ -34,6 +38,10 @@ two_items no_items = None
 two_items (item a no_items) = None
 two_items (item a (item b no_items)) = Some (a, b)
 two_items (item a (item b (item c rest))) = None
+
+-- the value of a list of one
+abbrev pub item_of : Data → Option Data
+item_of d = option_and_then sole_item (as_array d)
 
 -- the two values of a list of two
 abbrev pub pair_of : Data → Option (Data × Data)
@@ -88,7 +96,7 @@ schema_of d = option_and_then (λ fields. if is_schema fields then Some fields e
 
 -- the one column that a list names
 abbrev pub key_of : List Field → Data → Option (List ℕ)
-key_of schema d = option_and_then (column_of schema) (option_and_then sole_item (as_array d))
+key_of schema d = option_and_then (column_of schema) (item_of d)
 
 -- ---- the aggregates
 
@@ -102,9 +110,13 @@ fed_by schema None count = option_map (λ name. (kind.count, name)) (option_and_
 
 -- an object of one member, `sum` or `count`, that names a column
 abbrev pub fed_of : List Field → Data → Option Fed
-fed_of schema d = option_and_then (λ ms. fed_by schema (get_member (codes "sum") ms) (get_member (codes "count") ms)) (members_of 1 d)
+fed_of schema d = fed_by schema (sole_member (codes "sum") d) (sole_member (codes "count") d)
 
--- an object of one member, `alias`, that is a pair of an aggregate and its output column's name
+-- the two values of an object of one member, `alias`
+abbrev pub alias_of : Data → Option (Data × Data)
+alias_of d = option_and_then pair_of (sole_member (codes "alias") d)
+
+-- such an object is a pair of an aggregate and its output column's name
 abbrev pub agg_of : List Field → Data → Option AggTree
 agg_of schema d =
     option_and_then (λ pair.
@@ -112,7 +124,7 @@ agg_of schema d =
     option_map (λ name. record { name = name; kind = fed.0; input = each (column fed.1) })
     (as_str pair.1))
     (fed_of schema pair.0))
-    (option_and_then pair_of (option_and_then (get_member (codes "alias")) (members_of 1 d)))
+    (alias_of d)
 
 abbrev pub aggs_of : List Field → Items → Option (List AggTree)
 aggs_of schema no_items = Some []
@@ -130,14 +142,14 @@ query_by schema key aggs =
 -- an object with exactly the members `schema`, `keys` and `aggs`
 abbrev pub form_of : Data → Option QueryTree
 form_of d =
-    option_and_then (λ ms.
+    if has_members 3 d then
     option_and_then (λ schema.
     option_and_then (λ key.
-    option_and_then (λ aggs. query_by schema key aggs)
-    (option_and_then (aggs_of schema) (option_and_then as_array (get_member (codes "aggs") ms))))
-    (option_and_then (key_of schema) (get_member (codes "keys") ms)))
-    (option_and_then schema_of (get_member (codes "schema") ms)))
-    (members_of 3 d)
+    option_and_then (query_by schema key)
+    (option_and_then (aggs_of schema) (option_and_then as_array (get (codes "aggs") d))))
+    (option_and_then (key_of schema) (get (codes "keys") d)))
+    (option_and_then schema_of (get (codes "schema") d))
+    else None
 
 -- the query that the words of a command are: one word, which is JSON of the form
 abbrev pub words_query : List (List ℕ) → Option QueryTree

@@ -1,0 +1,55 @@
+//! The query that a JSON value is, and the query that the words of a command are.
+
+ghost use Rattle.std.specs.Prelude.{◌≡◌, IfOk, IfSome, option_map, true};
+ghost use Rattle.serde_json.specs.View.{view};
+ghost use Rattle.pipe_plain.specs.PlainQuery.{is_plain, query_tree};
+ghost use Rattle.group_tool.specs.QueryJson as spec;
+
+use crate::aggs_json::aggs;
+use crate::json_shapes::has_members;
+use crate::names::has_distinct_outputs;
+use crate::schema_json::{key, schema};
+use pipe_columns::{Schema, Text};
+use pipe_plain::PlainQuery;
+use serde_json::Value;
+use std::alloc::{AllocError, Global};
+
+/// The query that a JSON value is, if it is one.
+pub fn read_query(alloc: Global, json: &Value) -> Result<Option<PlainQuery>, AllocError>
+    ensures query { IfOk result (λ o. option_map query_tree o ≡ spec.form_of (view json.now)) }
+    ensures plain { IfOk result (λ o. IfSome o (λ q. is_plain q ≡ true)) }
+{
+    if !has_members(json, 3) {
+        return Ok(None);
+    }
+    let Some(member) = json.get("schema") else {
+        return Ok(None);
+    };
+    let Some(schema) = schema(alloc, member)? else {
+        return Ok(None);
+    };
+    let Some(member) = json.get("keys") else {
+        return Ok(None);
+    };
+    let Some(key) = key(alloc, &schema, member)? else {
+        return Ok(None);
+    };
+    let Some(member) = json.get("aggs") else {
+        return Ok(None);
+    };
+    let Some(list) = member.as_array() else {
+        return Ok(None);
+    };
+    let Some(aggs) = aggs(alloc, &schema, list)? else {
+        return Ok(None);
+    };
+    if !has_distinct_outputs(&key, &aggs) {
+        return Ok(None);
+    }
+    let keys = vec![in alloc; key]?;
+    Ok(Some(PlainQuery {
+        schema: Schema::new(schema),
+        keys,
+        aggs,
+    }))
+}
