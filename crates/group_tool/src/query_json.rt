@@ -1,18 +1,37 @@
 //! The query that a JSON value is, and the query that the words of a command are.
 
-ghost use Rattle.std.specs.Prelude.{◌≡◌, IfOk, IfSome, option_map, true};
+ghost use Rattle.std.specs.Prelude.{◌≡◌, IfOk, IfSome, map, option_map, true};
 ghost use Rattle.serde_json.specs.View.{view};
-ghost use Rattle.pipe_plain.specs.PlainQuery.{is_plain, query_tree};
+ghost use Rattle.pipe_plain.specs.PlainQuery.{agg_tree, is_plain, query_tree};
 ghost use Rattle.group_tool.specs.QueryJson as spec;
 
 use crate::aggs_json::aggs;
 use crate::json_shapes::has_members;
 use crate::names::has_distinct_outputs;
 use crate::schema_json::{key, schema};
-use pipe_columns::{Schema, Text};
-use pipe_plain::PlainQuery;
+use pipe_columns::{Field, Schema, Text};
+use pipe_plain::{PlainAgg, PlainQuery};
 use serde_json::Value;
 use std::alloc::{AllocError, Global};
+
+/// A query by one key, where no two of its output columns have one name.
+#[tactic(auto, using(crate::proofs::OutputNames::same_names))]
+fn query_by(
+    alloc: Global,
+    schema: Vec<Field>,
+    key: Text,
+    aggs: Vec<PlainAgg>,
+) -> Result<Option<PlainQuery>, AllocError>
+    ensures { IfOk result (λ o. option_map query_tree o
+        ≡ spec.query_by schema.items key (map agg_tree aggs.items)) }
+{
+    if !has_distinct_outputs(&key, &aggs) {
+        return Ok(None);
+    }
+    let keys = vec![in alloc; key]?;
+    let schema = Schema::new(schema);
+    Ok(Some(PlainQuery { schema, keys, aggs }))
+}
 
 /// The query that a JSON value is, if it is one.
 pub fn read_query(alloc: Global, json: &Value) -> Result<Option<PlainQuery>, AllocError>
@@ -43,13 +62,5 @@ pub fn read_query(alloc: Global, json: &Value) -> Result<Option<PlainQuery>, All
     let Some(aggs) = aggs(alloc, &schema, list)? else {
         return Ok(None);
     };
-    if !has_distinct_outputs(&key, &aggs) {
-        return Ok(None);
-    }
-    let keys = vec![in alloc; key]?;
-    Ok(Some(PlainQuery {
-        schema: Schema::new(schema),
-        keys,
-        aggs,
-    }))
+    query_by(alloc, schema, key, aggs)
 }
