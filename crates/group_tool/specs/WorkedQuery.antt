@@ -33,13 +33,13 @@ sum_and_count_json =
 -- the sum and the count of v by k
 abbrev pub sum_and_count_query : QueryTree
 sum_and_count_query = record {
-    schema = record { name = codes "k"; dtype = dt.Int64 } ∷ record { name = codes "v"; dtype = dt.Int64 } ∷ [];
-    keys = column (codes "k") ∷ [];
-    aggs = record { name = codes "s"; kind = kind.sum; input = each (column (codes "v")) }
-        ∷ record { name = codes "c"; kind = kind.count; input = each (column (codes "v")) } ∷ [];
-    slice = None;
-    keeps_order = false
-  }
+  schema = record { name = codes "k"; dtype = dt.Int64 } ∷ record { name = codes "v"; dtype = dt.Int64 } ∷ [];
+  keys = column (codes "k") ∷ [];
+  aggs = record { name = codes "s"; kind = kind.sum; input = each (column (codes "v")) }
+      ∷ record { name = codes "c"; kind = kind.count; input = each (column (codes "v")) } ∷ [];
+  slice = None;
+  keeps_order = false;
+}
 
 -- the sum and the count of v by k, as a text
 abbrev pub sum_and_count_text : List ℕ

@@ -34,7 +34,11 @@ pub fn sole_item(json: &Value) -> Option<&Value>
     ensures { option_map (λ v. view v.now) result ≡ spec.item_of (view json.now) }
 {
     let list = json.as_array()?;
-    if list.len() == 1 { Some(&list[0]) } else { None }
+    if list.len() == 1 {
+        Some(&list[0])
+    } else {
+        None
+    }
 }
 
 /// The two items of a list of two.

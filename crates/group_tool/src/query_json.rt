@@ -34,7 +34,7 @@ fn query_by(
 }
 
 /// The query that a JSON value is, if it is one.
-pub fn read_query(alloc: Global, json: &Value) -> Result<Option<PlainQuery>, AllocError>
+pub fn form_of(alloc: Global, json: &Value) -> Result<Option<PlainQuery>, AllocError>
     ensures query { IfOk result (λ o. option_map query_tree o ≡ spec.form_of (view json.now)) }
     ensures plain { IfOk result (λ o. IfSome o (λ q. is_plain q ≡ true)) }
 {
@@ -64,3 +64,21 @@ pub fn read_query(alloc: Global, json: &Value) -> Result<Option<PlainQuery>, All
     };
     query_by(alloc, schema, key, aggs)
 }
+
+/// The query that the words of a command are: one word, which is JSON of the form.
+pub fn words_query(alloc: Global, words: &[Text]) -> Result<Option<PlainQuery>, AllocError>
+    ensures query { IfOk result (λ o. option_map query_tree o ≡ spec.words_query words.now) }
+    ensures plain { IfOk result (λ o. IfSome o (λ q. is_plain q ≡ true)) }
+{
+    if words.len() != 1 {
+        return Ok(None);
+    }
+    match Value::from_str(alloc, words[0].as_str()) {
+        Ok(json) => form_of(alloc, &json),
+        Err(error) if error.is_memory() => Err(AllocError),
+        Err(_) => Ok(None),
+    }
+}
+
+#[cfg(test)]
+mod tests;

@@ -15,7 +15,11 @@ pub fn column<'v>(schema: &[Field], json: &'v Value) -> Option<&'v str>
     ensures { option_map (λ s. s.now) result ≡ spec.column_of schema.now (view json.now) }
 {
     let name = json.as_str()?;
-    if is_field(schema, name) { Some(name) } else { None }
+    if is_field(schema, name) {
+        Some(name)
+    } else {
+        None
+    }
 }
 
 /// The type of a name.

@@ -1,7 +1,7 @@
 use Rattle.std.proofs.Common.{rules}
 use Rattle.serde_json.specs.View.{view}
 use Rattle.group_tool.proofs.PlainForms.{read_is_plain}
-use Rattle.group_tool.proofs.query_json.read_query.Goals as goal
+use Rattle.group_tool.proofs.query_json.form_of.Goals as goal
 
 pub returns-clause-query : goal.returns-clause-query
 returns-clause-query c = search rules
