@@ -1,8 +1,8 @@
 -- A query of the form is one of columns that its aggregates take.
-use Rattle.std.proofs.Common.{◌≡◌, ◌&&◌, ◌||◌, Bool, true, false, cond, ℕ, List, [], ◌∷◌, map, Option, Some, None, option_map, option_and_then, is_some, IfOk, IfSome, Result, Ok, Err, refl, sym, ap, codes, ◌∙◌, subst, bytes_eq, if◌then◌else◌}
+use Rattle.std.proofs.Common.{◌≡◌, ◌&&◌, ◌||◌, Bool, true, false, ℕ, List, [], ◌∷◌, map, Option, Some, None, option_map, option_and_then, is_some, IfOk, IfSome, Result, Ok, Err, refl, sym, ap, codes, ◌∙◌, subst, bytes_eq, if◌then◌else◌}
 use Rattle.std.specs.declared.alloc.AllocError.{AllocError}
 use Rattle.std.specs.List.{find, list_all}
-use Rattle.std.proofs.lemmas.Option.{none-some, same_Some, option_and_then_some}
+use Rattle.std.proofs.lemmas.Option.{none-some, same_Some}
 use Rattle.std.proofs.lemmas.List.Folds.{list_all-map}
 use Rattle.std.proofs.lemmas.Bool.{false≢true}
 use Rattle.serde_json.specs.Data.{Data, Items, no_items, item}
@@ -18,7 +18,7 @@ use Rattle.pipe_aggs.specs.Typing.{type_of}
 use Rattle.pipe_plain.specs.declared.query.PlainAgg.{PlainAgg}
 use Rattle.pipe_plain.specs.declared.query.PlainQuery.{PlainQuery}
 use Rattle.pipe_plain.specs.PlainQuery.{agg_tree, query_tree, takes, is_plain}
-use Rattle.group_tool.specs.QueryJson.{contains, names_of, column_of, type_named, field_of, fields_of, schema_of, is_schema, key_of, fed_of, fed_by, Fed, sole_member, agg_of, aggs_of, alias_of, pair_of, query_by, form_of, has_members}
+use Rattle.group_tool.specs.QueryJson.{contains, names_of, column_of, type_named, field_of, fields_of, schema_of, is_schema, key_of, fed_of, fed_by, Fed, agg_of, aggs_of, alias_of, pair_of, query_by, form_of, has_members}
 
 -- ---- answers that are there
 

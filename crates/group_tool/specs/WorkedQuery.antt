@@ -1,11 +1,10 @@
 -- A query as a text, as JSON and as a tree.
-use Rattle.std.specs.Prelude.{ℕ, List, [], ◌∷◌, ◌++◌, codes, false, Option, None}
-use Rattle.serde_json.specs.Data.{Data, string, array, object, Items, no_items, item, Members, no_members, member}
+use Rattle.std.specs.Prelude.{ℕ, List, [], ◌∷◌, codes, false, None}
+use Rattle.serde_json.specs.Data.{Data, string, array, object, no_items, item, no_members, member}
 use Rattle.pipe_columns.specs.declared.data_type.DataType.TheVariants as dt
-use Rattle.pipe_columns.specs.declared.schema.Field.{Field}
 use Rattle.pipe_running.specs.Kind as kind
 use Rattle.pipe_aggs.specs.Expr.{column}
-use Rattle.pipe_aggs.specs.Query.{AggTree, each, QueryTree}
+use Rattle.pipe_aggs.specs.Query.{each, QueryTree}
 
 -- a list of two values
 abbrev pub pair : Data → Data → Data
