@@ -1,0 +1,2 @@
+pub mod QueryJson
+pub mod WorkedQuery
