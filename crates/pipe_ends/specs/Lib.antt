@@ -1,3 +1,5 @@
 pub mod Fields
 pub mod CsvChunks
+pub mod CsvError
+pub mod Numbers
 pub mod Texts
