@@ -2,6 +2,7 @@
 #![tactic(auto)]
 
 mod csv_error;
+mod field;
 mod number;
 
 pub use csv_error::CsvError;

@@ -1,7 +1,7 @@
-use Rattle.std.proofs.Common.{◌≡◌, ◌∙◌, ◌+◌, ap, sym, arith, rules, get_or, drop, option_and_then}
+use Rattle.std.proofs.Common.{◌∙◌, ◌+◌, ap, sym, arith, get_or, drop, option_and_then}
 use Rattle.std.proofs.lemmas.List.{at_drop_more}
 use Rattle.std.proofs.lemmas.Grind.{common_steps}
-use Rattle.pipe_ends.specs.Numbers.{read_magnitude, within_magnitude}
+use Rattle.pipe_ends.specs.Numbers.{within_magnitude}
 use Rattle.pipe_ends.proofs.DigitFacts.{no_room_for_digit, digits_after}
 use Rattle.pipe_ends.proofs.number.read_long.Goals as goal
 use Rattle.pipe_ends.proofs.number.read_long.Goals.{then-value-gt9-via-then-value-gt9, then-value-gt9-via-else-value-gt9+then-number-gt-TENTH}
