@@ -1,2 +1,6 @@
 pub mod DigitFacts
 pub mod FieldFacts
+pub mod RecordList
+pub mod RecordsTaken
+pub mod RowFacts
+pub mod ColumnFacts

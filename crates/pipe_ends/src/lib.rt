@@ -1,8 +1,10 @@
 //! Where chunks come from and where frames go: files, CSV and outputs.
 #![tactic(auto)]
 
+mod columns;
 mod csv_error;
 mod field;
 mod number;
+mod records;
 
 pub use csv_error::CsvError;
