@@ -4,3 +4,5 @@ pub mod RecordList
 pub mod RecordsTaken
 pub mod RowFacts
 pub mod ColumnFacts
+pub mod PieceFacts
+pub mod ReadFacts
