@@ -6,3 +6,4 @@ pub mod RowFacts
 pub mod ColumnFacts
 pub mod PieceFacts
 pub mod ReadFacts
+pub mod TextFacts

@@ -1,11 +1,10 @@
 -- Rows cut into pieces, and the chunks of the pieces.
 use Rattle.std.proofs.Common.{◌≡◌, ◌∙◌, ◌≤◌, ◌<◌, ◌+◌, ◌-◌, ◌%◌, ◌^◌, ℕ, zero, suc, List, [], ◌∷◌, ◌++◌, length, take, drop, map, replicate, get_or, Option, Some, None, Result, Ok, Err, refl, sym, ap, arith, add-one}
-use Rattle.std.specs.Prelude.{unwrap_or}
-use Rattle.std.specs.List.{slice_get, sum_by}
+use Rattle.std.specs.List.{All, sum_by}
+use Rattle.std.proofs.lemmas.List.Elements.{All-cons, All-nil}
 use Rattle.std.proofs.lemmas.List.{append-nil, append_assoc, drop_all, drop_at, length-append, length-drop, length-take, map-append, take_all, take_at}
 use Rattle.std.proofs.lemmas.List.Sums.{sum_by-cons}
 use Rattle.pipe_columns.specs.declared.any_value.AnyValue.{AnyValue}
-use Rattle.pipe_columns.specs.declared.any_value.AnyValue.TheVariants as av
 use Rattle.pipe_columns.specs.declared.schema.Field.{Field}
 use Rattle.pipe_columns.specs.declared.data_chunk.DataChunk.{DataChunk}
 use Rattle.pipe_columns.specs.Frame.{ColumnData, FrameData, FitsSchema, columns_from, frame_of, value_at}
@@ -129,3 +128,11 @@ few-pieces (suc m) n (x ∷ xs) = omega (arith, few-pieces m n (drop n (x ∷ xs
 -- there are no more chunks than rows
 pub number-of-chunks : (n : ℕ) (fs : List Field) (rows : List Values) → length (file_chunks 0 n fs rows) ≤ length rows
 number-of-chunks n fs rows = omega (arith, length-chunks 0 fs (pieces n rows), few-pieces (length rows) n rows)
+
+frames-fit : (i : ℕ) (fs : List Field) (ps : List (List Values)) → All (λ (c : DataChunk). FitsSchema fs c.frame) (chunks_from i fs ps)
+frames-fit i fs [] = All-nil (λ (c : DataChunk). FitsSchema fs c.frame)
+frames-fit i fs (p ∷ ps) = All-cons (λ (c : DataChunk). FitsSchema fs c.frame) (record { chunk_index = i % 2 ^ 32; frame = flagged_frame fs p }) (chunks_from (i + 1) fs ps) (frame-fits fs p) (frames-fit (i + 1) fs ps)
+
+-- each chunk has the names and the types of the schema
+pub chunks-fit : (n : ℕ) (fs : List Field) (rows : List Values) → All (λ (c : DataChunk). FitsSchema fs c.frame) (file_chunks 0 n fs rows)
+chunks-fit n fs rows = frames-fit 0 fs (pieces n rows)

@@ -1,6 +1,8 @@
 -- Reading the rows of a text, chunk by chunk.
 use Rattle.std.proofs.Common.{◌≡◌, ◌∙◌, ◌≤◌, ◌<◌, ◌+◌, ◌%◌, ◌^◌, ◌==◌, ℕ, zero, suc, Bool, true, false, List, [], ◌∷◌, ◌++◌, length, replicate, Option, Some, None, Result, Ok, Err, refl, sym, ap, arith, map, eq-eqb, if◌then◌else◌}
+use Rattle.std.specs.List.{All, sum_by}
 use Rattle.std.specs.Option.{ok_or}
+use Rattle.std.proofs.lemmas.List.Elements.{All-same}
 use Rattle.std.proofs.lemmas.List.{append-nil, append_assoc, length-append, nil_from_length}
 use Rattle.std.proofs.lemmas.Bool.{false≢true}
 use Rattle.std.proofs.lemmas.Bool.Decides.{Decides-eqb}
@@ -9,7 +11,7 @@ use Rattle.csv.specs.declared.parser.State.TheVariants as st
 use Rattle.pipe_columns.specs.declared.any_value.AnyValue.{AnyValue}
 use Rattle.pipe_columns.specs.declared.schema.Field.{Field}
 use Rattle.pipe_columns.specs.declared.data_chunk.DataChunk.{DataChunk}
-use Rattle.pipe_columns.specs.Frame.{ColumnData, columns_from}
+use Rattle.pipe_columns.specs.Frame.{ColumnData, FitsSchema, columns_from}
 use Rattle.pipe_ends.specs.Fields.{read_field}
 use Rattle.pipe_ends.specs.declared.csv_error.CsvError.{CsvError}
 use Rattle.pipe_ends.specs.declared.csv_error.CsvError.TheVariants as ce
@@ -17,7 +19,8 @@ use Rattle.pipe_ends.specs.CsvChunks.{Misfit, Values, after, chunks_from, field,
 use Rattle.pipe_ends.specs.CsvError.{StopsBy}
 use Rattle.pipe_ends.specs.Columns.{columns_of, values_from, with_row}
 use Rattle.pipe_ends.specs.RecordsLeft.{Records}
-use Rattle.pipe_ends.proofs.PieceFacts.{chunks-push, columns-flagged, last-piece, length-chunks, values-none, values-push, whole-piece}
+use Rattle.pipe_ends.specs.RowChunks.{AllRead, next_chunk}
+use Rattle.pipe_ends.proofs.PieceFacts.{chunks-fit, chunks-push, columns-flagged, last-piece, length-chunks, number-of-chunks, rows-of-chunks, values-none, values-push, whole-piece}
 use Rattle.pipe_ends.proofs.RowFacts.{front-front, front-none, row-same, row-width}
 use Rattle.pipe_ends.proofs.RecordList.{length-records}
 
@@ -112,10 +115,6 @@ row-more n file fs whole row rest more chunks held now count r values d h e p =
       height = omega (arith, length-append d.pending (values ∷ []), d.height);
     }
 
--- a chunk of columns, as one more of some
-abbrev pub next_chunk : List Field → List DataChunk → List Values → ℕ → DataChunk
-next_chunk fs chunks held count = record { chunk_index = length chunks % 2 ^ 32; frame = record { height = count; columns = columns_of fs held } }
-
 -- a chunk of columns is that of their rows
 chunk-is : (fs : List Field) (cut : List (List Values)) (pending : List Values) (chunks : List DataChunk) (held : List Values) (count : ℕ)
     → chunks ≡ chunks_from 0 fs cut → held ≡ values_from 0 fs pending → count ≡ length pending → chunks ++ (next_chunk fs chunks held count ∷ []) ≡ chunks_from 0 fs (cut ++ (pending ∷ []))
@@ -142,10 +141,6 @@ chunk-more n file fs whole row rest chunks all held now count d p h a e = record
   columns = e ∙ sym (values-none 0 fs);
   height = refl;
 }
-
--- what the reading of all rows gives
-abbrev pub AllRead : ℕ → List Field → Result (List Values) Misfit → List DataChunk → Type 0
-AllRead n fs whole chunks = (rows : List Values) × (whole ≡ Ok rows) × (chunks ≡ file_chunks 0 n fs rows)
 
 rows-over : (front : List Values) (file row : ℕ) (fs : List Field) (rest : Records) → rest ≡ [] → in_front front (read_rows file row fs rest) ≡ Ok front
 rows-over front file row fs rest e = rw e (ap Ok (append-nil front))
@@ -199,3 +194,15 @@ pub length-text : (file : ℕ) (fs : List Field) (text : List ℕ) (rows : List 
 length-text file fs text rows e =
     let xs : List ℕ = strip_bom text in
     omega (arith, length-read file fs (records default_config xs) rows e, length-records default_config (length xs + 1) st.StartRecord xs tt, length-strip text)
+
+-- the chunks of a text have its schema
+pub read-fits : (n file : ℕ) (fs : List Field) (whole : Result (List Values) Misfit) (chunks : List DataChunk) → AllRead n fs whole chunks → All (λ (c : DataChunk). FitsSchema fs c.frame) chunks
+read-fits n file fs whole chunks a = All-same (λ (c : DataChunk). FitsSchema fs c.frame) chunks (file_chunks 0 n fs a.0) a.2 (chunks-fit n fs a.0)
+
+-- the chunks of a text have no more rows than it has bytes
+pub read-few : (n file : ℕ) (fs : List Field) (text : List ℕ) (chunks : List DataChunk) → AllRead n fs (text_rows file fs text) chunks → sum_by (λ (c : DataChunk). c.frame.height) chunks ≤ length text
+read-few n file fs text chunks a = omega (arith, ap (sum_by (λ (c : DataChunk). c.frame.height)) a.2, rows-of-chunks n fs a.0, length-text file fs text a.0 a.1)
+
+-- there are no more chunks of a text than bytes
+pub read-number : (n file : ℕ) (fs : List Field) (text : List ℕ) (chunks : List DataChunk) → AllRead n fs (text_rows file fs text) chunks → length chunks ≤ length text
+read-number n file fs text chunks a = omega (arith, ap length a.2, number-of-chunks n fs a.0, length-text file fs text a.0 a.1)

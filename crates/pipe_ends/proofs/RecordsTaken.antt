@@ -47,3 +47,11 @@ takes-none a b f l r = left-is a l.bytes.0 l.bytes.1 ∙ all-none default_config
 pub takes : (a b : Reader (Bor (List ℕ))) (found : Bool) (f : List (List ℕ)) → IsReading a → ReadRecord slice_left a b found f → (found ≡ true → ReadsOn a b) → Takes a b found f
 takes a b true f l r on = takes-some a b f l r (on refl)
 takes a b false f l r on = takes-none a b f l r
+
+pub took : (a b : Reader (Bor (List ℕ))) (found : Bool) (f : List (List ℕ)) → found ≡ true → Takes a b found f → IsReading b × (records_left a ≡ f ∷ records_left b)
+took a b true f e h = h
+took a b false f e h = cc
+
+pub took_none : (a b : Reader (Bor (List ℕ))) (found : Bool) (f : List (List ℕ)) → found ≡ false → Takes a b found f → records_left a ≡ []
+took_none a b true f e h = cc
+took_none a b false f e h = h

@@ -4,4 +4,5 @@ pub mod CsvError
 pub mod Columns
 pub mod Numbers
 pub mod RecordsLeft
+pub mod RowChunks
 pub mod Texts

@@ -41,6 +41,7 @@ pub fn push_record(
 ) -> Result<(), CsvError>
     requires { vec_len columns.old ≡ length fields.now }
     ensures pushed { IfOk result (λ _. (values : Values) × (read_row file row fields.now (fields_of entry.now) ≡ Ok values) × (map (λ c. c.items) columns.new.items ≡ with_row values (map (λ c. c.items) columns.old.items))) }
+    ensures width { vec_len columns.new ≡ length fields.now }
     ensures stop { IfErr result (λ e. StopsBy e (read_row file row fields.now (fields_of entry.now))) }
 {
     if entry.len() != fields.len() {

@@ -2,9 +2,11 @@
 #![tactic(auto)]
 
 mod columns;
+mod csv_chunks;
 mod csv_error;
 mod field;
 mod number;
 mod records;
 
+pub use csv_chunks::read_chunks;
 pub use csv_error::CsvError;
