@@ -2,18 +2,26 @@
 //! written. Inputs and outputs count their faults.
 #![tactic(auto)]
 
+mod columns;
+mod csv_chunks;
+mod csv_error;
 mod csv_record;
 mod csv_text;
 mod failing;
+mod field;
 mod input;
 mod memory_files;
 mod memory_output;
+mod number;
 mod output;
 mod real_files;
 mod real_output;
+mod records;
 mod whole_file;
 mod worked;
 
+pub use csv_chunks::read_chunks;
+pub use csv_error::CsvError;
 pub use csv_text::frame_text;
 pub use input::{InputError, InputFiles};
 pub use memory_files::MemoryFiles;
