@@ -2,13 +2,18 @@
 //! groups to standard output.
 #![tactic(auto)]
 
+mod aggs_json;
 mod fault;
+mod json_shapes;
+mod names;
 mod query_json;
 mod read;
-#[cfg(test)]
-mod tests;
+mod schema_json;
 mod tool;
 mod worked;
+
+#[cfg(test)]
+mod tests;
 
 use crate::fault::{ToolFault, tell};
 use crate::tool::run_tool;
