@@ -1,1 +1,3 @@
 pub mod PlainQuery
+pub mod Cells
+pub mod Running

@@ -2,6 +2,8 @@
 //! is the answer itself, so faster programs are tested beside it.
 #![tactic(auto)]
 
+mod groups;
 mod query;
+mod rows;
 
 pub use query::{PlainAgg, PlainQuery};
