@@ -1,2 +1,5 @@
+pub mod ChunkFacts
 pub mod FoundFacts
 pub mod GroupFacts
+pub mod SeenFacts
+pub mod SpotFacts

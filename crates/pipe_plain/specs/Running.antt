@@ -1,7 +1,8 @@
 -- A table of running groups: keys in order, each with its running aggregates.
-use Rattle.std.specs.Prelude.{ℕ, ◌+◌, ◌≤◌, List, [], ◌∷◌, ◌++◌, map, fold}
+use Rattle.std.specs.Prelude.{◌≡◌, ℕ, ◌+◌, ◌<◌, ◌≤◌, List, [], ◌∷◌, ◌++◌, length, map, fold, take, drop}
 use Rattle.std.specs.List.{flat_map}
 use Rattle.std.specs.declared.cmp.Ordering.{Ordering}
+use Rattle.std.specs.declared.cmp.Ordering.TheVariants.{Less, Equal, Greater}
 use Rattle.std.specs.Ordering.{match_ordering}
 use Rattle.pipe_columns.specs.declared.any_value.AnyValue.{AnyValue}
 use Rattle.pipe_columns.specs.declared.place.Place.{Place}
@@ -14,6 +15,8 @@ use Rattle.pipe_model.specs.Answer.{tuple_cmp, Entry, entry_of, rows_at}
 use Rattle.pipe_plain.specs.declared.query.PlainQuery.{PlainQuery}
 use Rattle.pipe_plain.specs.declared.query.PlainAgg.{PlainAgg}
 use Rattle.pipe_plain.specs.declared.groups.Group.{Group}
+use Rattle.pipe_plain.specs.declared.groups.Spot.{Spot}
+use Rattle.pipe_plain.specs.declared.groups.Spot.TheVariants as spot
 
 -- a table in order of key, with one more value
 abbrev pub add_entry : {K V L : Type 0} → (K → K → Ordering) → (V → L) → (V → L → L) → K × V → List (K × L) → List (K × L)
@@ -63,3 +66,23 @@ StatesSeen n (s ∷ ss) = (seen s ≤ n) × StatesSeen n ss
 abbrev pub TableSeen : ℕ → Table → Type 0
 TableSeen n [] = Unit {0}
 TableSeen n (g ∷ gs) = StatesSeen n g.1 × TableSeen n gs
+
+-- each key of a table is below k
+abbrev pub AllBelow : List AnyValue → Table → Type 0
+AllBelow k [] = Unit {0}
+AllBelow k (g ∷ gs) = (tuple_cmp k g.0 ≡ Greater) × AllBelow k gs
+
+-- a table begins with the group of k
+abbrev pub BeginsAt : List AnyValue → Table → Type 0
+BeginsAt k [] = ⊥
+BeginsAt k (g ∷ gs) = tuple_cmp k g.0 ≡ Equal
+
+-- a table begins above k
+abbrev pub BeginsAbove : List AnyValue → Table → Type 0
+BeginsAbove k [] = Unit {0}
+BeginsAbove k (g ∷ gs) = tuple_cmp k g.0 ≡ Less
+
+-- where the group of k is, or where it belongs
+abbrev pub IsSpot : List AnyValue → Table → Spot → Type 0
+IsSpot k table (spot.At i) = (i < length table) × AllBelow k (take i table) × BeginsAt k (drop i table)
+IsSpot k table (spot.Before i) = (i ≤ length table) × AllBelow k (take i table) × BeginsAbove k (drop i table)

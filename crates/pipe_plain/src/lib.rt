@@ -3,6 +3,7 @@
 #![tactic(auto)]
 
 mod groups;
+mod plain;
 mod query;
 mod rows;
 

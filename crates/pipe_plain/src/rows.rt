@@ -12,6 +12,13 @@ use pipe_columns::{AnyValue, Column, Text};
 use std::alloc::{AllocError, Global};
 use std::cmp::Ordering;
 
+/// The positions of the columns that a query reads: those of its keys and those of its inputs.
+#[derive(Drop)]
+pub struct Positions {
+    pub keys: Vec<usize>,
+    pub inputs: Vec<usize>,
+}
+
 /// The position of the first column of a name, the number of columns where there is none.
 pub fn position_of(columns: &[Column], name: &Text) -> usize
     ensures { slice_get columns.now result ≡ column_named name.now columns.now }
@@ -126,10 +133,7 @@ pub fn own_key(
     let mut key = Vec::new(alloc);
     for position in positions {
         let value = own_cell(alloc, columns, row, *position)?;
-        match key.push(value) {
-            Ok(()) => {}
-            Err(_) => return Err(AllocError),
-        }
+        key.push(value)?;
     }
     Ok(key)
 }
