@@ -2,9 +2,11 @@
 //! is the answer itself, so faster programs are tested beside it.
 #![tactic(auto)]
 
+mod frame;
 mod groups;
 mod plain;
 mod query;
 mod rows;
 
+pub use plain::plain_answer;
 pub use query::{PlainAgg, PlainQuery};

@@ -5,6 +5,7 @@ ghost use Rattle.pipe_model.specs.Answer.{answer};
 ghost use Rattle.pipe_plain.specs.PlainQuery.{is_plain, query_tree};
 ghost use Rattle.pipe_plain.specs.Running.{group_seen, starts, TableSeen, with_rows};
 
+use crate::frame::{output_fields, output_frame, output_rows};
 use crate::groups::{Group, add_row};
 use crate::query::PlainQuery;
 use crate::rows::{Positions, input_positions, key_positions};
@@ -51,4 +52,21 @@ fn table_of(
         add_chunk(alloc, &mut table, query, index as u32, &chunk.frame)?;
     }
     Ok(table)
+}
+
+/// The answer of a query over chunks, whose groups are in the order of their keys. The only error
+/// is want of memory.
+pub fn plain_answer(
+    alloc: Global,
+    chunks: &[DataChunk],
+    query: &PlainQuery,
+) -> Result<DataFrame, AllocError>
+    requires chunks { AreChunksOf (query_tree query.now) chunks.now }
+    requires plain { is_plain query.now ≡ true }
+    ensures { IfOk result (λ f. f ≡ answer chunks.now (query_tree query.now) 1) }
+{
+    let table = table_of(alloc, chunks, query)?;
+    let fields = output_fields(alloc, query)?;
+    let rows = output_rows(alloc, table)?;
+    output_frame(alloc, &fields, &rows)
 }
