@@ -1,1 +1,4 @@
 pub mod PlainQuery
+pub mod Cells
+pub mod Fields
+pub mod Running

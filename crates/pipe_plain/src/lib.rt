@@ -2,8 +2,11 @@
 //! is the answer itself, so faster programs are tested beside it.
 #![tactic(auto)]
 
+mod frame;
+mod groups;
+mod plain;
 mod query;
-mod stub;
+mod rows;
 
+pub use plain::plain_answer;
 pub use query::{PlainAgg, PlainQuery};
-pub use stub::plain_answer;

@@ -3,8 +3,13 @@
 
 mod count;
 mod function;
+mod interface;
 mod sum;
 
 pub use count::CountAgg;
 pub use function::AggregateFunction;
+pub use interface::{AggregateFn, Finalized};
 pub use sum::SumAgg;
+
+#[cfg(test)]
+mod tests;

@@ -1,0 +1,103 @@
+-- The frame of the answer, as its fields, rows and columns are made.
+use Rattle.std.proofs.Common.{◌≡◌, ◌∙◌, ℕ, ◌+◌, ◌<◌, ◌≤◌, suc, Bool, true, false, ◌&&◌, List, [], ◌∷◌, ◌++◌, length, map, get_or, set, take, drop, Option, Some, None, unwrap_or, refl, sym, ap, arith}
+use Rattle.std.specs.List.{flat_map, list_all}
+use Rattle.std.proofs.lemmas.List.{append_assoc, append-nil, drop_more, drop-set-lt, length-take-le, take_all, take_more}
+use Rattle.std.proofs.lemmas.Grind.{flat_map-append}
+use Rattle.pipe_columns.specs.declared.data_type.DataType.{DataType}
+use Rattle.pipe_columns.specs.declared.data_type.DataType.TheVariants as dt
+use Rattle.pipe_columns.specs.declared.any_value.AnyValue.{AnyValue}
+use Rattle.pipe_columns.specs.declared.schema.Field.{Field}
+use Rattle.pipe_columns.specs.Frame.{ColumnData, columns_from, value_at}
+use Rattle.pipe_running.specs.declared.function.AggregateFunction.{AggregateFunction}
+use Rattle.pipe_running.specs.declared.function.AggregateFunction.TheVariants as function
+use Rattle.pipe_running.specs.Aggregate.{sum_type}
+use Rattle.pipe_running.specs.States.{given, given_type, kind_of, output_values, Suits}
+use Rattle.pipe_aggs.specs.Expr.{column, name_of}
+use Rattle.pipe_aggs.specs.Query.{each}
+use Rattle.pipe_aggs.specs.Typing.{type_of}
+use Rattle.pipe_aggs.specs.Output.{agg_fields, input_type, known_type, output_schema}
+use Rattle.pipe_plain.specs.declared.query.PlainAgg.{PlainAgg}
+use Rattle.pipe_plain.specs.declared.query.PlainQuery.{PlainQuery}
+use Rattle.pipe_plain.specs.Fields.{agg_field, key_field}
+use Rattle.pipe_plain.specs.PlainQuery.{agg_tree, is_plain, query_tree, sums_to_i64, takes}
+use Rattle.pipe_plain.proofs.ChunkFacts.{map_twice}
+
+-- ---- rows
+
+abbrev pub outputs_of : List AggregateFunction → List AnyValue
+outputs_of states = flat_map (λ s. output_values (given s)) states
+
+pub same_rest : {X : Type 0} (xs ys : List X) (j : ℕ) (x y : X) → j < length xs → j < length ys → x ≡ get_or xs j x → drop j xs ≡ drop j ys → (drop (j + 1) (set xs j y) ≡ drop (j + 1) ys) × (x ≡ get_or ys j x)
+same_rest xs ys j x y h k e same =
+    let here : get_or xs j x ∷ drop (j + 1) xs ≡ get_or ys j x ∷ drop (j + 1) ys = sym (drop_more xs j x h) ∙ same ∙ drop_more ys j x k in
+    (drop-set-lt (j + 1) xs j y (omega arith) ∙ (cc here), cc (here, e))
+
+-- what one more state gives
+pub outputs_more : (states : List AggregateFunction) (j : ℕ) (s : AggregateFunction) → j < length states → s ≡ get_or states j s → outputs_of (take j states) ++ output_values (given s) ≡ outputs_of (take (j + 1) states)
+outputs_more states j s h e =
+    let longer : take (j + 1) states ≡ take j states ++ (s ∷ []) = take_more states j s h ∙ ap (λ (x : AggregateFunction). take j states ++ (x ∷ [])) (sym e) in
+    sym (ap outputs_of longer ∙ flat_map-append (λ (x : AggregateFunction). output_values (given x)) (take j states) (s ∷ [])
+    ∙ ap (λ (t : List AnyValue). outputs_of (take j states) ++ t) (append-nil (output_values (given s))))
+
+-- ---- columns
+
+columns_from-push : (i : ℕ) (fields : List Field) (f : Field) (rows : List (List AnyValue))
+    → columns_from i (fields ++ (f ∷ [])) rows ≡ columns_from i fields rows ++ columns_from (i + length fields) (f ∷ []) rows
+columns_from-push i [] f rows = ap (λ (k : ℕ). columns_from k (f ∷ []) rows) (omega arith)
+columns_from-push i (g ∷ gs) f rows = ap (λ (t : List ColumnData). columns_from i (g ∷ []) rows ++ t) (columns_from-push (i + 1) gs f rows
+    ∙ ap (λ (k : ℕ). columns_from (i + 1) gs rows ++ columns_from k (f ∷ []) rows) (omega arith))
+
+-- the column of one more field
+pub columns_from-more : (fields : List Field) (i : ℕ) (f : Field) (rows : List (List AnyValue)) → i < length fields → f ≡ get_or fields i f
+    → columns_from 0 (take i fields) rows ++ columns_from i (f ∷ []) rows ≡ columns_from 0 (take (i + 1) fields) rows
+columns_from-more fields i f rows h e =
+    let longer : take (i + 1) fields ≡ take i fields ++ (f ∷ []) = take_more fields i f h ∙ ap (λ (x : Field). take i fields ++ (x ∷ [])) (sym e) in
+    sym (ap (λ (fs : List Field). columns_from 0 fs rows) longer ∙ columns_from-push 0 (take i fields) f rows
+    ∙ ap (λ (k : ℕ). columns_from 0 (take i fields) rows ++ columns_from k (f ∷ []) rows) (omega (arith, length-take-le i fields (omega arith))))
+
+-- ---- fields
+
+sum_type_is : (t : DataType) → sums_to_i64 t ≡ true → sum_type t ≡ dt.Int64
+sum_type_is dt.Boolean e = cc
+sum_type_is dt.Int8 e = refl
+sum_type_is dt.Int16 e = refl
+sum_type_is dt.Int32 e = cc
+sum_type_is dt.Int64 e = refl
+sum_type_is dt.UInt8 e = refl
+sum_type_is dt.UInt16 e = refl
+sum_type_is dt.UInt32 e = cc
+sum_type_is dt.UInt64 e = cc
+sum_type_is dt.Int128 e = cc
+sum_type_is dt.Date e = cc
+sum_type_is dt.String e = cc
+
+-- an aggregate that takes a column is that of values of the column's type
+pub suits : (f : AggregateFunction) (t : Option DataType) → takes f t ≡ true → Suits f (unwrap_or t dt.UInt32)
+suits f None e = cc
+suits (function.Count a) (Some t) e = tt
+suits (function.SumI64 a) (Some t) e = sum_type_is t e
+
+agg_fields_are : (name : List ℕ) (f : AggregateFunction) (t : DataType) → Suits f t → agg_fields name (kind_of f) t ≡ record { name = name; dtype = given_type f } ∷ []
+agg_fields_are name (function.Count a) t h = refl
+agg_fields_are name (function.SumI64 a) t h = rw h refl
+
+pub both : (a b : Bool) → a && b ≡ true → (a ≡ true) × (b ≡ true)
+both true b e = (refl, e)
+both false b e = cc
+
+aggs_fields : (schema : List Field) (aggs : List PlainAgg) → list_all (λ a. takes a.function (type_of (column a.input) schema)) aggs ≡ true
+    → flat_map (λ a. agg_fields a.name a.kind (input_type schema a.input)) (map agg_tree aggs) ≡ map agg_field aggs
+aggs_fields schema [] e = refl
+aggs_fields schema (a ∷ aggs) e =
+    let parts = both (takes a.function (type_of (column a.input) schema)) (list_all (λ b. takes b.function (type_of (column b.input) schema)) aggs) e in
+    rw (agg_fields_are a.name a.function (known_type (column a.input) schema) (suits a.function (type_of (column a.input) schema) parts.0)) (ap (λ (t : List Field). agg_field a ∷ t) (aggs_fields schema aggs parts.1))
+
+-- the aggregates of a plain query take their columns
+pub aggs_taken : (q : PlainQuery) → is_plain q ≡ true → list_all (λ a. takes a.function (type_of (column a.input) q.schema)) q.aggs.items ≡ true
+aggs_taken q e = (both _ _ e).1
+
+-- the fields of a plain query are its output schema
+pub fields_are : (q : PlainQuery) → is_plain q ≡ true → map (key_field q.schema) q.keys.items ++ map agg_field q.aggs.items ≡ output_schema (query_tree q)
+fields_are q e =
+    let keys : map (key_field q.schema) q.keys.items ≡ map (λ e. record { name = name_of e; dtype = known_type e q.schema }) (map column q.keys.items) = sym (map_twice (λ e. record { name = name_of e; dtype = known_type e q.schema }) column q.keys.items) in
+    rw (keys, aggs_fields q.schema q.aggs.items (aggs_taken q e)) refl

@@ -1,0 +1,7 @@
+pub mod AnswerFacts
+pub mod ChunkFacts
+pub mod FoundFacts
+pub mod FrameFacts
+pub mod GroupFacts
+pub mod SeenFacts
+pub mod SpotFacts

@@ -1,0 +1,12 @@
+use Rattle.std.proofs.Common.{◌≡◌, ◌++◌, take, drop}
+use Rattle.pipe_plain.specs.Cells.{cells}
+use Rattle.pipe_plain.specs.Running.{fed_from}
+use Rattle.pipe_plain.proofs.groups.Group.feed.Given as goal
+
+-- the states so far are fed, and the others as they were
+abbrev pub invariant-loop-j : goal.invariant-loop-j
+invariant-loop-j l = let inputs = cells l.columns l.place.row l.inputs in record {
+  key : l.self.key ≡ l.fn.self.key;
+  left : drop l.j l.self.states.items ≡ drop l.j l.fn.self.states.items;
+  fed : take l.j l.self.states.items ++ fed_from l.j inputs (drop l.j l.self.states.items) ≡ fed_from 0 inputs l.fn.self.states.items;
+}

@@ -1,0 +1,43 @@
+use Rattle.std.proofs.Common.{rules, arith, ◌≡◌, ◌<◌, ◌-◌, ◌^◌, ◌∙◌, ap, List, length, map}
+use Rattle.std.specs.Prelude.{OnOk}
+use Rattle.std.proofs.lemmas.List.{length-map}
+use Rattle.std.proofs.lemmas.Result.{on_ok_weaker}
+use Rattle.pipe_columns.specs.declared.any_value.AnyValue.{AnyValue}
+use Rattle.pipe_columns.specs.Row.{Row}
+use Rattle.pipe_running.specs.declared.function.AggregateFunction.{AggregateFunction}
+use Rattle.pipe_plain.specs.declared.groups.Group.{Group}
+use Rattle.pipe_plain.specs.declared.groups.Spot.TheVariants as spot
+use Rattle.pipe_plain.specs.Running.{fed, group_seen, IsSpot, starts}
+use Rattle.pipe_plain.specs.Cells.{row_read}
+use Rattle.pipe_plain.proofs.SeenFacts.{table-at}
+use Rattle.pipe_plain.proofs.SpotFacts.{fed_at, new_at, pair}
+use Rattle.pipe_plain.proofs.groups.add_row.Goals as goal
+
+pub feed-requires : goal.feed-requires
+feed-requires c =
+    let group : Group = c.index_mut-group.result.now in
+    let items : List Group = c.args.table.now.items in
+    let row : Row = row_read c.args.columns.now c.args.positions.now c.args.place in
+    let here : IsSpot row.key (map group_seen items) (spot.At c.in-At.i) = search rules in
+    let within : c.in-At.i < length items = rw length-map at here.0 in
+    rw c.index_mut-group.ensures.value (table-at (2 ^ 32 - 2) items c.in-At.i group within c.requires)
+
+pub returns-in-At : goal.returns-in-At
+returns-in-At c =
+    let group : Group = c.index_mut-group.result.now in
+    let after : Group = c.feed.new.self in
+    let items : List Group = c.args.table.now.items in
+    let row : Row = row_read c.args.columns.now c.args.positions.now c.args.place in
+    let here : IsSpot row.key (map group_seen items) (spot.At c.in-At.i) = search rules in
+    let feeds : OnOk c.feed.result (after.states.items ≡ fed (row.place, row.inputs) group.states.items) = rw c.deref-in-At.ensures.value at c.feed.ensures.ok in
+    on_ok_weaker c.feed.result (λ p. fed_at (starts c.args.aggs.now) row items c.in-At.i group after here c.index_mut-group.ensures.value
+    (pair after.key.items group.key.items after.states.items (fed (row.place, row.inputs) group.states.items) (search rules) p)) feeds
+
+pub returns-in_ok-insert-in-Before : goal.returns-in_ok-insert-in-Before
+returns-in_ok-insert-in-Before c =
+    let items : List Group = c.args.table.now.items in
+    let row : Row = row_read c.args.columns.now c.args.positions.now c.args.place in
+    let there : IsSpot row.key (map group_seen items) (spot.Before c.in-Before.i) = search rules in
+    let group : Group = c.in_ok-group-in-Before.group in
+    let seen : group_seen group ≡ (row.key, fed (row.place, row.inputs) (starts c.args.aggs.now)) = c.in_ok-group-in-Before.ensures in
+    ap (map group_seen) c.in_ok-insert-in-Before.ensures.items ∙ new_at (starts c.args.aggs.now) row items c.in-Before.i group there seen

@@ -1,0 +1,88 @@
+-- A table of running groups: keys in order, each with its running aggregates.
+use Rattle.std.specs.Prelude.{◌≡◌, ℕ, ◌+◌, ◌<◌, ◌≤◌, List, [], ◌∷◌, ◌++◌, length, map, fold, take, drop}
+use Rattle.std.specs.List.{flat_map}
+use Rattle.std.specs.declared.cmp.Ordering.{Ordering}
+use Rattle.std.specs.declared.cmp.Ordering.TheVariants.{Less, Equal, Greater}
+use Rattle.std.specs.Ordering.{match_ordering}
+use Rattle.pipe_columns.specs.declared.any_value.AnyValue.{AnyValue}
+use Rattle.pipe_columns.specs.declared.place.Place.{Place}
+use Rattle.pipe_columns.specs.Frame.{value_at}
+use Rattle.pipe_columns.specs.Groups.{sorted_keys, values_of}
+use Rattle.pipe_columns.specs.Row.{Row}
+use Rattle.pipe_running.specs.declared.function.AggregateFunction.{AggregateFunction}
+use Rattle.pipe_running.specs.States.{after_value, fresh, given, output_values, seen}
+use Rattle.pipe_model.specs.Answer.{tuple_cmp, Entry, entry_of, rows_at}
+use Rattle.pipe_plain.specs.declared.query.PlainQuery.{PlainQuery}
+use Rattle.pipe_plain.specs.declared.query.PlainAgg.{PlainAgg}
+use Rattle.pipe_plain.specs.declared.groups.Group.{Group}
+use Rattle.pipe_plain.specs.declared.groups.Spot.{Spot}
+use Rattle.pipe_plain.specs.declared.groups.Spot.TheVariants as spot
+
+-- a table in order of key, with one more value
+abbrev pub add_entry : {K V L : Type 0} → (K → K → Ordering) → (V → L) → (V → L → L) → K × V → List (K × L) → List (K × L)
+add_entry order first more r [] = (r.0, first r.1) ∷ []
+add_entry order first more r (g ∷ gs) = match_ordering (order r.0 g.0) ((r.0, first r.1) ∷ g ∷ gs) ((g.0, more r.1 g.1) ∷ gs) (g ∷ add_entry order first more r gs)
+
+-- running aggregates with one more row, from the input at place j on
+abbrev pub fed_from : ℕ → List AnyValue → List AggregateFunction → List AggregateFunction
+fed_from j inputs [] = []
+fed_from j inputs (s ∷ ss) = after_value (value_at inputs j) s ∷ fed_from (j + 1) inputs ss
+
+-- running aggregates with one more row
+abbrev pub fed : Place × List AnyValue → List AggregateFunction → List AggregateFunction
+fed v states = fed_from 0 v.1 states
+
+-- the aggregates of a query before any row
+abbrev pub starts : List PlainAgg → List AggregateFunction
+starts aggs = map (λ a. fresh a.function) aggs
+
+-- the running aggregates of some rows
+abbrev pub states_of : List AggregateFunction → List (Place × List AnyValue) → List AggregateFunction
+states_of start entries = fold (λ states v. fed v states) start entries
+
+abbrev pub Table : Type 0
+Table = List (List AnyValue × List AggregateFunction)
+
+-- a table with one more row
+abbrev pub with_row : List AggregateFunction → Table → Row → Table
+with_row start table r = add_entry tuple_cmp (λ v. fed v start) fed (entry_of r) table
+
+-- a table with rows added one by one
+abbrev pub with_rows : List AggregateFunction → Table → List Row → Table
+with_rows start table rs = fold (λ t r. with_row start t r) table rs
+
+abbrev pub group_seen : Group → List AnyValue × List AggregateFunction
+group_seen g = (g.key.items, g.states.items)
+
+-- the row that a group gives
+abbrev pub output_row : List AnyValue × List AggregateFunction → List AnyValue
+output_row g = g.0 ++ flat_map (λ s. output_values (given s)) g.1
+
+-- no aggregate has counted more than n values
+abbrev pub StatesSeen : ℕ → List AggregateFunction → Type 0
+StatesSeen n [] = Unit {0}
+StatesSeen n (s ∷ ss) = (seen s ≤ n) × StatesSeen n ss
+
+abbrev pub TableSeen : ℕ → Table → Type 0
+TableSeen n [] = Unit {0}
+TableSeen n (g ∷ gs) = StatesSeen n g.1 × TableSeen n gs
+
+-- each key of a table is below k
+abbrev pub AllBelow : List AnyValue → Table → Type 0
+AllBelow k [] = Unit {0}
+AllBelow k (g ∷ gs) = (tuple_cmp k g.0 ≡ Greater) × AllBelow k gs
+
+-- a table begins with the group of k
+abbrev pub BeginsAt : List AnyValue → Table → Type 0
+BeginsAt k [] = ⊥
+BeginsAt k (g ∷ gs) = tuple_cmp k g.0 ≡ Equal
+
+-- a table begins above k
+abbrev pub BeginsAbove : List AnyValue → Table → Type 0
+BeginsAbove k [] = Unit {0}
+BeginsAbove k (g ∷ gs) = tuple_cmp k g.0 ≡ Less
+
+-- where the group of k is, or where it belongs
+abbrev pub IsSpot : List AnyValue → Table → Spot → Type 0
+IsSpot k table (spot.At i) = (i < length table) × AllBelow k (take i table) × BeginsAt k (drop i table)
+IsSpot k table (spot.Before i) = (i ≤ length table) × AllBelow k (take i table) × BeginsAbove k (drop i table)

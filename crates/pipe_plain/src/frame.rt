@@ -1,0 +1,142 @@
+ghost use Rattle.std.specs.Prelude.{◌≡◌, ◌∷◌, ◌++◌, IfOk, OnOk, map, true, false};
+ghost use Rattle.pipe_columns.specs.Frame.{frame_of, value_at};
+ghost use Rattle.pipe_running.specs.States.{given_type, output_values};
+ghost use Rattle.pipe_aggs.specs.Expr.{column};
+ghost use Rattle.pipe_aggs.specs.Output.{known_type, output_schema};
+ghost use Rattle.pipe_plain.specs.PlainQuery.{is_plain, query_tree};
+ghost use Rattle.pipe_plain.specs.Running.{group_seen, output_row as row_given};
+
+use crate::groups::Group;
+use crate::query::PlainQuery;
+use pipe_columns::{AnyValue, Column, DataFrame, DataType, Field, Text};
+use pipe_running::{AggregateFn, AggregateFunction, Finalized};
+use std::alloc::{AllocError, Global};
+
+/// The type of the first field of a name, that of a count where there is none.
+fn dtype_of(fields: &[Field], name: &Text) -> DataType
+    ensures { result ≡ known_type (column name.now) fields.now }
+{
+    for field in fields {
+        if field.name == *name {
+            return field.dtype;
+        }
+    }
+    DataType::UInt32
+}
+
+/// The type of what an aggregate gives.
+fn output_dtype(function: &AggregateFunction) -> DataType
+    ensures { result ≡ given_type function.now }
+{
+    match function {
+        AggregateFunction::Count(_) => DataType::UInt32,
+        AggregateFunction::SumI64(_) => DataType::Int64,
+    }
+}
+
+/// The fields of the answer: those of the keys, then those of the aggregates.
+pub fn output_fields(alloc: Global, query: &PlainQuery) -> Result<Vec<Field>, AllocError>
+    requires { is_plain query.now ≡ true }
+    ensures { IfOk result (λ fields. fields.items ≡ output_schema (query_tree query.now)) }
+{
+    let mut fields = Vec::new(alloc);
+    let known = query.schema.fields();
+    for key in &query.keys {
+        let name = key.try_clone(alloc)?;
+        let dtype = dtype_of(known, key);
+        fields.push(Field { name, dtype })?;
+    }
+    for agg in &query.aggs {
+        let name = agg.name.try_clone(alloc)?;
+        let dtype = output_dtype(&agg.function);
+        fields.push(Field { name, dtype })?;
+    }
+    Ok(fields)
+}
+
+/// Puts what an aggregate gives at the end of a row.
+fn push_outputs(row: &mut Vec<AnyValue>, outputs: Finalized) -> Result<(), AllocError>
+    ensures { OnOk result (row.new.items ≡ row.old.items ++ output_values outputs) }
+{
+    match outputs {
+        Finalized::One(value) => row.push(value)?,
+        Finalized::Pair(first, second) => {
+            row.push(first)?;
+            row.push(second)?;
+        }
+    }
+    Ok(())
+}
+
+/// The row that a group gives.
+fn output_row(group: Group) -> Result<Vec<AnyValue>, AllocError>
+    ensures { IfOk result (λ row. row.items ≡ row_given (group_seen group)) }
+{
+    let Group {
+        key: mut row,
+        mut states,
+    } = group;
+    for j in 0..states.len() {
+        push_outputs(&mut row, states[j].finalize())?;
+    }
+    Ok(row)
+}
+
+/// The rows that groups give.
+pub fn output_rows(alloc: Global, table: Vec<Group>) -> Result<Vec<Vec<AnyValue>>, AllocError>
+    ensures { IfOk result (λ rows. map (λ row. row.items) rows.items ≡ map row_given (map group_seen table.items)) }
+{
+    let mut rows = Vec::new(alloc);
+    for group in table {
+        rows.push(output_row(group)?)?;
+    }
+    Ok(rows)
+}
+
+/// The value at a place of a row, null past its end.
+fn own_value(alloc: Global, row: &[AnyValue], place: usize) -> Result<AnyValue, AllocError>
+    ensures { IfOk result (λ v. v ≡ value_at row.now place) }
+{
+    match row.get(place) {
+        Some(value) => value.try_clone(alloc),
+        None => Ok(AnyValue::Null),
+    }
+}
+
+/// The column of a field, from the values at a place of the rows.
+fn output_column(
+    alloc: Global,
+    field: &Field,
+    rows: &[Vec<AnyValue>],
+    place: usize,
+) -> Result<Column, AllocError>
+    ensures { IfOk result (λ c. c ≡ record { name = field.now.name; dtype = field.now.dtype; sorted = false; values = map (λ row. value_at row.items place) rows.now }) }
+{
+    let mut values = Vec::new(alloc);
+    for row in rows {
+        values.push(own_value(alloc, row, place)?)?;
+    }
+    let name = field.name.try_clone(alloc)?;
+    match Column::new(name, field.dtype, false, values) {
+        Some(column) => Ok(column),
+        None => Err(AllocError),
+    }
+}
+
+/// The frame of rows.
+pub fn output_frame(
+    alloc: Global,
+    fields: &[Field],
+    rows: &[Vec<AnyValue>],
+) -> Result<DataFrame, AllocError>
+    ensures { IfOk result (λ f. f ≡ frame_of fields.now (map (λ row. row.items) rows.now)) }
+{
+    let mut columns = Vec::new(alloc);
+    for place in 0..fields.len() {
+        columns.push(output_column(alloc, &fields[place], rows, place)?)?;
+    }
+    match DataFrame::new(rows.len(), columns) {
+        Some(frame) => Ok(frame),
+        None => Err(AllocError),
+    }
+}

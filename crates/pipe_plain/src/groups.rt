@@ -1,0 +1,116 @@
+ghost use Rattle.std.specs.Prelude.{◌≡◌, ◌^◌, ◌-◌, ◌∷◌, IfOk, OnOk, map};
+ghost use Rattle.pipe_columns.specs.declared.any_value.AnyValue.{AnyValue};
+ghost use Rattle.pipe_plain.specs.Cells.{cells, row_read};
+
+use crate::query::PlainAgg;
+use crate::rows::{Positions, compare_key, own_input, own_key};
+use pipe_columns::{AnyValue, Column, Place};
+use pipe_running::{AggregateFn, AggregateFunction};
+use std::alloc::{AllocError, Global};
+use std::cmp::Ordering;
+
+/// A group: its key and its running aggregates.
+#[derive(Drop)]
+pub struct Group {
+    pub key: Vec<AnyValue>,
+    pub states: Vec<AggregateFunction>,
+}
+
+/// Where a table has the group of a key, or where such a group belongs.
+#[derive(Clone, Copy)]
+pub enum Spot {
+    At(usize),
+    Before(usize),
+}
+
+impl Group {
+    ghost use Rattle.pipe_plain.specs.Running.{fed_from, StatesSeen};
+
+    /// Takes the inputs of a row.
+    fn feed(
+        &mut self,
+        alloc: Global,
+        columns: &[Column],
+        inputs: &[usize],
+        place: Place,
+    ) -> Result<(), AllocError>
+        requires { StatesSeen (2 ^ 32 - 2) self.old.states.items }
+        ensures key { self.new.key ≡ self.old.key }
+        ensures ok { OnOk result (self.new.states.items ≡ fed_from 0 (cells columns.now place.row inputs.now) self.old.states.items) }
+    {
+        for j in 0..self.states.len() {
+            let value = own_input(alloc, columns, place.row as usize, inputs, j)?;
+            self.states[j].pre_agg(place, value);
+        }
+        Ok(())
+    }
+}
+
+ghost use Rattle.pipe_plain.specs.Running.{fed, group_seen, IsSpot, starts, TableSeen, with_row};
+
+/// The aggregates of a query before any row.
+fn starting(alloc: Global, aggs: &[PlainAgg]) -> Result<Vec<AggregateFunction>, AllocError>
+    ensures { IfOk result (λ states. states.items ≡ starts aggs.now) }
+{
+    let mut states = Vec::new(alloc);
+    for agg in aggs {
+        states.push(agg.function.split())?;
+    }
+    Ok(states)
+}
+
+/// The group of a row that is the first of its key.
+fn new_group(
+    alloc: Global,
+    aggs: &[PlainAgg],
+    columns: &[Column],
+    positions: &Positions,
+    place: Place,
+) -> Result<Group, AllocError>
+    ensures { IfOk result (λ g. let row = row_read columns.now positions.now place in group_seen g ≡ (row.key, fed (place, row.inputs) (starts aggs.now))) }
+{
+    let key = own_key(alloc, columns, place.row as usize, &positions.keys)?;
+    let states = starting(alloc, aggs)?;
+    let mut group = Group { key, states };
+    group.feed(alloc, columns, &positions.inputs, place)?;
+    Ok(group)
+}
+
+/// Where a table has the group of a row.
+fn find(table: &[Group], columns: &[Column], row: usize, keys: &[usize]) -> Spot
+    ensures { IsSpot (cells columns.now row keys.now) (map group_seen table.now) result }
+{
+    for i in 0..table.len() {
+        match compare_key(columns, row, keys, &table[i].key) {
+            Ordering::Less => return Spot::Before(i),
+            Ordering::Equal => return Spot::At(i),
+            Ordering::Greater => {}
+        }
+    }
+    Spot::Before(table.len())
+}
+
+/// Puts a row into a table.
+pub fn add_row(
+    alloc: Global,
+    table: &mut Vec<Group>,
+    aggs: &[PlainAgg],
+    columns: &[Column],
+    positions: &Positions,
+    place: Place,
+) -> Result<(), AllocError>
+    requires { TableSeen (2 ^ 32 - 2) (map group_seen table.old.items) }
+    ensures { OnOk result (map group_seen table.new.items ≡ with_row (starts aggs.now) (map group_seen table.old.items) (row_read columns.now positions.now place)) }
+{
+    match find(table, columns, place.row as usize, &positions.keys) {
+        Spot::At(i) => {
+            let group = &mut table[i];
+            group.feed(alloc, columns, &positions.inputs, place)
+        }
+        Spot::Before(i) => {
+            let group = new_group(alloc, aggs, columns, positions, place)?;
+            table.insert(i, group)?;
+            Ok(())
+        }
+    }
+}

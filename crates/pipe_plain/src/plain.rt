@@ -1,0 +1,72 @@
+ghost use Rattle.std.specs.Prelude.{◌≡◌, ◌^◌, ◌-◌, ◌<◌, IfOk, OnOk, map, true, [], ℕ};
+ghost use Rattle.pipe_aggs.specs.Expr.{column};
+ghost use Rattle.pipe_model.specs.Rows.{AreChunksOf, chunk_rows, rows};
+ghost use Rattle.pipe_model.specs.Answer.{answer};
+ghost use Rattle.pipe_plain.specs.PlainQuery.{is_plain, query_tree};
+ghost use Rattle.pipe_plain.specs.Running.{group_seen, starts, TableSeen, with_rows};
+
+use crate::frame::{output_fields, output_frame, output_rows};
+use crate::groups::{Group, add_row};
+use crate::query::PlainQuery;
+use crate::rows::{Positions, input_positions, key_positions};
+use pipe_columns::{DataChunk, DataFrame, Place};
+use std::alloc::{AllocError, Global};
+
+/// Puts the rows of a chunk into a table.
+fn add_chunk(
+    alloc: Global,
+    table: &mut Vec<Group>,
+    query: &PlainQuery,
+    index: u32,
+    frame: &DataFrame,
+) -> Result<(), AllocError>
+    requires height { frame.now.height < 2 ^ 32 }
+    requires seen { TableSeen (2 ^ 32 - 1 - frame.now.height) (map group_seen table.old.items) }
+    ensures { OnOk result (map group_seen table.new.items ≡ with_rows (starts query.now.aggs.items) (map group_seen table.old.items) (chunk_rows (query_tree query.now) index frame.now)) }
+{
+    let columns = frame.columns();
+    let keys = key_positions(alloc, columns, &query.keys)?;
+    let inputs = input_positions(alloc, columns, &query.aggs)?;
+    let positions = Positions { keys, inputs };
+    for row in 0..frame.height() {
+        let place = Place {
+            chunk: index,
+            row: row as u32,
+        };
+        add_row(alloc, table, &query.aggs, columns, &positions, place)?;
+    }
+    Ok(())
+}
+
+/// The groups of the rows of chunks.
+fn table_of(
+    alloc: Global,
+    chunks: &[DataChunk],
+    query: &PlainQuery,
+) -> Result<Vec<Group>, AllocError>
+    requires { AreChunksOf (query_tree query.now) chunks.now }
+    ensures { IfOk result (λ table. map group_seen table.items ≡ with_rows (starts query.now.aggs.items) [] (rows chunks.now (query_tree query.now))) }
+{
+    let mut table = Vec::new(alloc);
+    for (index, chunk) in chunks.iter().enumerate() {
+        add_chunk(alloc, &mut table, query, index as u32, &chunk.frame)?;
+    }
+    Ok(table)
+}
+
+/// The answer of a query over chunks, whose groups are in the order of their keys. The only error
+/// is want of memory.
+pub fn plain_answer(
+    alloc: Global,
+    chunks: &[DataChunk],
+    query: &PlainQuery,
+) -> Result<DataFrame, AllocError>
+    requires chunks { AreChunksOf (query_tree query.now) chunks.now }
+    requires plain { is_plain query.now ≡ true }
+    ensures { IfOk result (λ f. f ≡ answer chunks.now (query_tree query.now) 1) }
+{
+    let table = table_of(alloc, chunks, query)?;
+    let fields = output_fields(alloc, query)?;
+    let rows = output_rows(alloc, table)?;
+    output_frame(alloc, &fields, &rows)
+}
