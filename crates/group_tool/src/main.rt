@@ -9,11 +9,10 @@ mod names;
 mod query_json;
 mod read;
 mod schema_json;
-mod tool;
-mod worked;
-
 #[cfg(test)]
 mod tests;
+mod tool;
+mod worked;
 
 use crate::fault::{ToolFault, tell};
 use crate::tool::run_tool;
