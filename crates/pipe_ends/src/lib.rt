@@ -3,6 +3,8 @@
 
 mod columns;
 mod csv_chunks;
+#[cfg(test)]
+mod csv_chunks_tests;
 mod csv_error;
 mod field;
 mod number;
