@@ -1,13 +1,13 @@
 -- Columns of values, row by row and field by field.
-use Rattle.std.proofs.Common.{◌≡◌, ◌∙◌, ◌≤◌, ◌<◌, ◌+◌, ◌-◌, ◌&&◌, not, ℕ, zero, suc, List, [], ◌∷◌, ◌++◌, length, drop, get_or, set, map, Vec, Global, Bool, true, false, refl, sym, ap, arith}
+use Rattle.std.proofs.Common.{◌≡◌, ◌∙◌, ◌≤◌, ◌<◌, ◌+◌, ◌&&◌, not, ℕ, suc, List, [], ◌∷◌, ◌++◌, length, drop, get_or, set, map, Vec, Global, Bool, true, false, refl, sym, ap, arith}
 use Rattle.std.specs.Ordering.{is_lt}
 use Rattle.std.proofs.lemmas.List.{append_assoc, drop-set-lt, drop_all, drop_more, get_or-map, length-drop, length-map, map-set}
 use Rattle.pipe_columns.specs.declared.any_value.AnyValue.{AnyValue}
 use Rattle.pipe_columns.specs.declared.schema.Field.{Field}
 use Rattle.pipe_columns.specs.AnyValue.{value_cmp}
-use Rattle.pipe_columns.specs.Frame.{ColumnData, columns_from, value_at}
-use Rattle.pipe_ends.specs.CsvChunks.{Values, flagged, is_ascending}
-use Rattle.pipe_ends.specs.Columns.{column_of, columns_of, values_from, with_row}
+use Rattle.pipe_columns.specs.Frame.{ColumnData}
+use Rattle.pipe_ends.specs.CsvChunks.{Values, is_ascending}
+use Rattle.pipe_ends.specs.Columns.{column_of, columns_of, with_row}
 
 -- one more value of a row goes to the end of the next column
 pub with_row-more : (vs : Values) (v : AnyValue) (cs : List Values) → length vs < length cs → with_row (vs ++ (v ∷ [])) cs ≡ set (with_row vs cs) (length vs) (get_or (with_row vs cs) (length vs) [] ++ (v ∷ []))

@@ -1,13 +1,13 @@
 -- Rows cut into pieces, and the chunks of the pieces.
-use Rattle.std.proofs.Common.{◌≡◌, ◌∙◌, ◌≤◌, ◌<◌, ◌+◌, ◌-◌, ◌%◌, ◌^◌, ℕ, zero, suc, List, [], ◌∷◌, ◌++◌, length, take, drop, map, replicate, get_or, Option, Some, None, Result, Ok, Err, refl, sym, ap, arith, add-one}
+use Rattle.std.proofs.Common.{◌≡◌, ◌∙◌, ◌≤◌, ◌<◌, ◌+◌, ◌%◌, ◌^◌, ℕ, zero, suc, List, [], ◌∷◌, ◌++◌, length, take, drop, map, replicate, refl, sym, ap, arith, add-one}
 use Rattle.std.specs.List.{All, sum_by}
 use Rattle.std.proofs.lemmas.List.Elements.{All-cons, All-nil}
-use Rattle.std.proofs.lemmas.List.{append-nil, append_assoc, drop_all, drop_at, length-append, length-drop, length-take, map-append, take_all, take_at}
+use Rattle.std.proofs.lemmas.List.{drop_all, drop_at, length-append, length-drop, length-take, map-append, take_all, take_at}
 use Rattle.std.proofs.lemmas.List.Sums.{sum_by-cons}
 use Rattle.pipe_columns.specs.declared.any_value.AnyValue.{AnyValue}
 use Rattle.pipe_columns.specs.declared.schema.Field.{Field}
 use Rattle.pipe_columns.specs.declared.data_chunk.DataChunk.{DataChunk}
-use Rattle.pipe_columns.specs.Frame.{ColumnData, FrameData, FitsSchema, columns_from, frame_of, value_at}
+use Rattle.pipe_columns.specs.Frame.{ColumnData, FitsSchema, columns_from, value_at}
 use Rattle.pipe_ends.specs.CsvChunks.{Values, chunks_from, file_chunks, flagged, flagged_frame, pieces, pieces_within}
 use Rattle.pipe_ends.specs.Columns.{column_of, columns_of, values_from, with_row}
 

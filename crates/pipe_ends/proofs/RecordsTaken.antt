@@ -1,8 +1,7 @@
 -- What a reader of CSV has left to give.
-use Rattle.std.proofs.Common.{◌≡◌, ◌∙◌, ℕ, List, [], ◌∷◌, ◌++◌, Bor, Bool, true, false, Some, Option, refl, sym, ap}
-use Rattle.csv.specs.Machine.{Read, next_record}
-use Rattle.csv.specs.Reading.{Reached, ReadRecord, Ready, ReadsOn, default_config, source_of}
-use Rattle.csv.specs.declared.parser.Config.{Config}
+use Rattle.std.proofs.Common.{◌≡◌, ◌∙◌, ℕ, List, [], ◌∷◌, Bor, Bool, true, false, Some, Option, refl, sym, ap}
+use Rattle.csv.specs.Machine.{Read}
+use Rattle.csv.specs.Reading.{Reached, ReadRecord, ReadsOn, default_config}
 use Rattle.csv.specs.declared.reader.Reader.{Reader}
 use Rattle.csv.specs.declared.parser.State.{State}
 use Rattle.csv.proofs.ReadFacts.{rows-end, rows-more}

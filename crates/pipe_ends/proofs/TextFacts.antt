@@ -1,5 +1,5 @@
 -- Reading a text from its header on.
-use Rattle.std.proofs.Common.{◌≡◌, ◌∙◌, ◌≤◌, ℕ, Bool, true, List, Vec, Global, Bor, Result, Ok, Err, length, refl, sym, ap, arith, subst}
+use Rattle.std.proofs.Common.{◌≡◌, ◌∙◌, ◌≤◌, ℕ, Bool, true, List, Vec, Global, Bor, Result, Ok, Err, length, sym, ap, subst}
 use Rattle.std.specs.List.{All, sum_by}
 use Rattle.std.specs.Result.{IfOk}
 use Rattle.csv.specs.Reading.{default_config, records, strip_bom}
@@ -8,7 +8,7 @@ use Rattle.pipe_columns.specs.Frame.{FitsSchema}
 use Rattle.pipe_columns.specs.declared.data_chunk.DataChunk.{DataChunk}
 use Rattle.pipe_columns.specs.declared.schema.Field.{Field}
 use Rattle.pipe_ends.specs.declared.csv_error.CsvError.{CsvError}
-use Rattle.pipe_ends.specs.CsvChunks.{Misfit, Values, is_header, read_records, read_rows, text_rows}
+use Rattle.pipe_ends.specs.CsvChunks.{is_header, read_records, read_rows, text_rows}
 use Rattle.pipe_ends.specs.RecordsLeft.{Takes, records_left}
 use Rattle.pipe_ends.specs.RowChunks.{AllRead}
 use Rattle.pipe_ends.proofs.RecordsTaken.{took}

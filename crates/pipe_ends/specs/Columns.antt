@@ -1,6 +1,5 @@
 -- Rows as columns.
 use Rattle.std.specs.Prelude.{ℕ, ◌+◌, List, [], ◌∷◌, ◌++◌, map}
-use Rattle.pipe_columns.specs.declared.any_value.AnyValue.{AnyValue}
 use Rattle.pipe_columns.specs.declared.schema.Field.{Field}
 use Rattle.pipe_columns.specs.Frame.{ColumnData, value_at}
 use Rattle.pipe_ends.specs.CsvChunks.{Values, is_ascending}

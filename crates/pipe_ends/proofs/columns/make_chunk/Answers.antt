@@ -1,4 +1,4 @@
-use Rattle.std.proofs.Common.{◌≡◌, ◌∙◌, ◌+◌, sym, ap, arith, rules, length, true, Vec, Global}
+use Rattle.std.proofs.Common.{◌≡◌, ◌∙◌, ap, arith, rules, true, Vec, Global}
 use Rattle.std.specs.Result.{is_ok}
 use Rattle.pipe_columns.specs.declared.any_value.AnyValue.{AnyValue}
 use Rattle.pipe_ends.specs.Columns.{column_of}

@@ -1,4 +1,4 @@
-use Rattle.std.proofs.Common.{◌≡◌, ◌∙◌, ◌+◌, ◌<◌, ◌≤◌, Vec, Global, List, ℕ, arith, refl, sym, ap, rules, length, map, replicate, [], not, true, false, Bool, Result, Ok, Err, vec_len}
+use Rattle.std.proofs.Common.{◌≡◌, ◌∙◌, ◌+◌, Vec, Global, ℕ, arith, ap, length, replicate, [], not, true, Result, Ok, Err, vec_len}
 use Rattle.std.specs.Result.{OnOk, is_ok}
 use Rattle.std.proofs.lemmas.List.{length-map, length-replicate}
 use Rattle.csv.specs.Records.{fields_of}
@@ -8,7 +8,7 @@ use Rattle.pipe_ends.specs.CsvChunks.{Values, read_rows}
 use Rattle.pipe_ends.specs.RecordsLeft.{records_left}
 use Rattle.pipe_ends.proofs.ColumnFacts.{items_of}
 use Rattle.pipe_ends.proofs.RecordsTaken.{took, took_none}
-use Rattle.pipe_ends.proofs.ReadFacts.{chunk-more, row-more, row-stops, rows-end, rows-last, rows-start}
+use Rattle.pipe_ends.proofs.ReadFacts.{chunk-more, row-more, rows-end, rows-last, rows-start}
 use Rattle.pipe_ends.proofs.csv_chunks.read_rows.Goals as goal
 use Rattle.pipe_ends.proofs.csv_chunks.read_rows.Goals.{else-height-gt0-via-then-height-gt0+else-is_err, else-height-gt0-via-else-height-gt0, then-height-chunk_size+else-is_err-2+in-Ok-empty_columns, else-height-chunk_size}
 
