@@ -1,13 +1,16 @@
 -- Reading fields.
-use Rattle.std.proofs.Common.{◌≡◌, ◌∙◌, ℕ, ◌^◌, ◌<◌, Bool, true, false, ℤ, pos, negsuc, List, Option, Some, None, option_and_then, if◌then◌else◌, refl, sym, arith, subst}
+use Rattle.std.proofs.Common.{◌≡◌, ◌∙◌, ℕ, ◌^◌, ◌<◌, Bool, true, false, ℤ, pos, negsuc, List, [], ◌∷◌, Option, Some, None, option_and_then, if◌then◌else◌, refl, sym, arith, subst}
 use Rattle.std.proofs.lemmas.Bool.Decides.{nat_tests}
 use Rattle.pipe_columns.specs.declared.data_type.DataType.{DataType}
 use Rattle.pipe_columns.specs.declared.data_type.DataType.TheVariants as dt
+use Rattle.pipe_columns.specs.declared.any_value.AnyValue.{AnyValue}
 use Rattle.pipe_columns.specs.declared.any_value.AnyValue.TheVariants as av
-use Rattle.pipe_columns.specs.AnyValue.{fits_number, is_signed, is_unsigned}
-use Rattle.std.specs.Str.{IsUtf8, is_utf8}
+use Rattle.pipe_columns.specs.AnyValue.{fits, fits_number, is_signed, is_unsigned}
+use Rattle.std.specs.Prelude.{codes}
+use Rattle.std.specs.Str.{IsUtf8, bytes_eq, is_utf8}
+use Rattle.std.proofs.lemmas.Option.{none-some, same_Some}
 use Rattle.std.proofs.lemmas.Str.{IsUtf8-from_is_utf8, is_utf8-from_IsUtf8}
-use Rattle.pipe_ends.specs.Fields.{read_int, read_number, read_text}
+use Rattle.pipe_ends.specs.Fields.{read_field, read_int, read_number, read_some, read_text}
 use Rattle.pipe_ends.specs.Numbers.{narrowed, read_int128}
 
 signed-128 : (bits : ℕ) (n : ℤ) → 2 ^ bits < 2 ^ 127 → is_signed bits n ≡ true → is_signed 127 n ≡ true
@@ -67,3 +70,39 @@ pub text-none : (text copy : List ℕ) → copy ≡ text → ¬ IsUtf8 copy → 
 text-none text copy e h =
     let P : List ℕ → Type 0 = λ t. ¬ IsUtf8 t in
     (same-text text (is_utf8 text) refl).1 (subst P e h)
+
+narrow-fits : (t : DataType) (n : ℤ) (v : AnyValue) (b : Bool) → fits_number n t ≡ b → narrowed t n ≡ Some v → fits v t ≡ true
+narrow-fits t n v true e h = let same : av.Int n ≡ v = same_Some (av.Int n) v (sym (rw e refl) ∙ h) in rw (← same) e
+narrow-fits t n v false e h = let none : None ≡ Some v = sym (rw e refl) ∙ h in absurd (none-some v none)
+
+int-fits : (t : DataType) (o : Option ℤ) (v : AnyValue) → option_and_then (narrowed t) o ≡ Some v → fits v t ≡ true
+int-fits t None v h = absurd (none-some v h)
+int-fits t (Some n) v h = narrow-fits t n v (fits_number n t) refl h
+
+truth-fits : (a b : Bool) (v : AnyValue) → (if a then Some (av.Boolean true) else (if b then Some (av.Boolean false) else None)) ≡ Some v → fits v dt.Boolean ≡ true
+truth-fits true b v h = let same : av.Boolean true ≡ v = same_Some (av.Boolean true) v h in rw (← same) refl
+truth-fits false true v h = let same : av.Boolean false ≡ v = same_Some (av.Boolean false) v h in rw (← same) refl
+truth-fits false false v h = absurd (none-some v h)
+
+text-fits : (a : Bool) (text : List ℕ) (v : AnyValue) → (if a then Some (av.Text text) else None) ≡ Some v → fits v dt.String ≡ true
+text-fits true text v h = let same : av.Text text ≡ v = same_Some (av.Text text) v h in rw (← same) refl
+text-fits false text v h = absurd (none-some v h)
+
+some-fits : (t : DataType) (text : List ℕ) (v : AnyValue) → read_some t text ≡ Some v → fits v t ≡ true
+some-fits dt.Boolean text v h = truth-fits (bytes_eq text (codes "true")) (bytes_eq text (codes "false")) v h
+some-fits dt.Int8 text v h = int-fits dt.Int8 (read_number text) v h
+some-fits dt.Int16 text v h = int-fits dt.Int16 (read_number text) v h
+some-fits dt.Int32 text v h = int-fits dt.Int32 (read_number text) v h
+some-fits dt.Int64 text v h = int-fits dt.Int64 (read_number text) v h
+some-fits dt.UInt8 text v h = int-fits dt.UInt8 (read_number text) v h
+some-fits dt.UInt16 text v h = int-fits dt.UInt16 (read_number text) v h
+some-fits dt.UInt32 text v h = int-fits dt.UInt32 (read_number text) v h
+some-fits dt.UInt64 text v h = int-fits dt.UInt64 (read_number text) v h
+some-fits dt.Int128 text v h = int-fits dt.Int128 (read_number text) v h
+some-fits dt.Date text v h = int-fits dt.Date (read_number text) v h
+some-fits dt.String text v h = text-fits (is_utf8 text) text v h
+
+-- a value that is read fits its type
+pub field-fits : (t : DataType) (text : List ℕ) (v : AnyValue) → read_field t text ≡ Some v → fits v t ≡ true
+field-fits t [] v h = let same : av.Null ≡ v = same_Some av.Null v h in rw (← same) refl
+field-fits t (b ∷ bs) v h = some-fits t (b ∷ bs) v h

@@ -5,5 +5,6 @@ pub mod RecordsTaken
 pub mod RowFacts
 pub mod ColumnFacts
 pub mod PieceFacts
+pub mod HoldFacts
 pub mod ReadFacts
 pub mod TextFacts

@@ -72,29 +72,34 @@ pub length-values : (i : ℕ) (fs : List Field) (rows : List Values) → length 
 length-values i [] rows = refl
 length-values i (f ∷ fs) rows = ap (λ n. suc n) (length-values (i + 1) fs rows)
 
+-- the first of the values from a place on stands there
+pub value-here : (all : Values) (i : ℕ) (v : AnyValue) (vs : Values) → v ∷ vs ≡ drop i all → v ≡ value_at all i
+value-here [] zero v vs e = cc
+value-here [] (suc i) v vs e = cc
+value-here (x ∷ xs) zero v vs e = cc
+value-here (x ∷ xs) (suc i) v vs e = value-here xs i v vs e
+
+-- the rest of the values from a place on
+rest-here : (all : Values) (i : ℕ) (v : AnyValue) (vs : Values) → v ∷ vs ≡ drop i all → vs ≡ drop (suc i) all
+rest-here [] zero v vs e = cc
+rest-here [] (suc i) v vs e = cc
+rest-here (x ∷ xs) zero v vs e = cc
+rest-here (x ∷ xs) (suc i) v vs e = rest-here xs i v vs e
+
+pub rest-next : (all : Values) (i : ℕ) (v : AnyValue) (vs : Values) → v ∷ vs ≡ drop i all → vs ≡ drop (i + 1) all
+rest-next all i v vs e = rw add-one (rest-here all i v vs e)
+
 values-at : (i : ℕ) (fs : List Field) (rows : List Values) (all vs : Values) → vs ≡ drop i all → length vs ≡ length fs → with_row vs (values_from i fs rows) ≡ values_from i fs (rows ++ (all ∷ []))
 values-at i [] rows all [] e h = refl
 values-at i [] rows all (v ∷ vs) e h = absurd (omega arith)
 values-at i (f ∷ fs) rows all [] e h = absurd (omega arith)
 values-at i (f ∷ fs) rows all (v ∷ vs) e h =
     let here : v ≡ value_at all i = value-here all i v vs e in
-    let tail : vs ≡ drop (i + 1) all = rw add-one (rest-here all i v vs e) in
+    let tail : vs ≡ drop (i + 1) all = rest-next all i v vs e in
     let one : map (λ row. value_at row i) (rows ++ (all ∷ [])) ≡ map (λ row. value_at row i) rows ++ (value_at all i ∷ []) = map-append (λ (row : Values). value_at row i) rows (all ∷ []) in
     ap (λ (t : List Values). (map (λ row. value_at row i) rows ++ (v ∷ [])) ∷ t) (values-at (i + 1) fs rows all vs tail (omega arith))
     ∙ ap (λ (x : AnyValue). (map (λ row. value_at row i) rows ++ (x ∷ [])) ∷ values_from (i + 1) fs (rows ++ (all ∷ []))) here
     ∙ ap (λ (c : Values). c ∷ values_from (i + 1) fs (rows ++ (all ∷ []))) (sym one)
-  where
-    value-here : (all : Values) (i : ℕ) (v : AnyValue) (vs : Values) → v ∷ vs ≡ drop i all → v ≡ value_at all i
-    value-here [] zero v vs e = cc
-    value-here [] (suc i) v vs e = cc
-    value-here (x ∷ xs) zero v vs e = cc
-    value-here (x ∷ xs) (suc i) v vs e = value-here xs i v vs e
-
-    rest-here : (all : Values) (i : ℕ) (v : AnyValue) (vs : Values) → v ∷ vs ≡ drop i all → vs ≡ drop (suc i) all
-    rest-here [] zero v vs e = cc
-    rest-here [] (suc i) v vs e = cc
-    rest-here (x ∷ xs) zero v vs e = cc
-    rest-here (x ∷ xs) (suc i) v vs e = rest-here xs i v vs e
 
 -- one more row goes to the ends of the columns
 pub values-push : (fs : List Field) (rows : List Values) (row : Values) → length row ≡ length fs → with_row row (values_from 0 fs rows) ≡ values_from 0 fs (rows ++ (row ∷ []))

@@ -1,5 +1,5 @@
 -- Reading the rows of a text, chunk by chunk.
-use Rattle.std.proofs.Common.{◌≡◌, ◌∙◌, ◌≤◌, ◌<◌, ◌+◌, ◌%◌, ◌^◌, ◌==◌, ℕ, suc, Bool, true, false, List, [], ◌∷◌, ◌++◌, length, replicate, Result, Ok, Err, refl, sym, ap, arith, map, eq-eqb, if◌then◌else◌}
+use Rattle.std.proofs.Common.{◌≡◌, ◌∙◌, ◌≤◌, ◌<◌, ◌+◌, ◌%◌, ◌^◌, ◌==◌, ℕ, suc, Bool, true, false, List, [], ◌∷◌, ◌++◌, length, replicate, Result, Ok, Err, refl, sym, ap, arith, map, eq-eqb, if◌then◌else◌, subst, add-one, drop}
 use Rattle.std.specs.List.{All, sum_by}
 use Rattle.std.specs.Option.{ok_or}
 use Rattle.std.proofs.lemmas.List.Elements.{All-same}
@@ -10,16 +10,17 @@ use Rattle.csv.specs.Reading.{default_config, is_bom, records, strip_bom}
 use Rattle.csv.specs.declared.parser.State.TheVariants as st
 use Rattle.pipe_columns.specs.declared.schema.Field.{Field}
 use Rattle.pipe_columns.specs.declared.data_chunk.DataChunk.{DataChunk}
-use Rattle.pipe_columns.specs.Frame.{ColumnData, FitsSchema, columns_from}
+use Rattle.pipe_columns.specs.Frame.{ColumnData, FitsSchema, columns_from, value_at}
 use Rattle.pipe_ends.specs.Fields.{read_field}
 use Rattle.pipe_ends.specs.declared.csv_error.CsvError.{CsvError}
 use Rattle.pipe_ends.specs.declared.csv_error.CsvError.TheVariants as ce
 use Rattle.pipe_ends.specs.CsvChunks.{Misfit, Values, after, chunks_from, field, file_chunks, flagged, flagged_frame, header, in_front, is_header, pieces, read_fields, read_records, read_row, read_rows, text_rows, width}
 use Rattle.pipe_ends.specs.CsvError.{StopsBy}
-use Rattle.pipe_ends.specs.Columns.{columns_of, values_from, with_row}
+use Rattle.pipe_ends.specs.Columns.{DoHold, columns_of, values_from, with_row}
+use Rattle.pipe_ends.proofs.HoldFacts.{RowFits, RowsFit, rows-hold, rows-push, value-fits}
 use Rattle.pipe_ends.specs.RecordsLeft.{Records}
 use Rattle.pipe_ends.specs.RowChunks.{AllRead, next_chunk}
-use Rattle.pipe_ends.proofs.PieceFacts.{chunks-fit, chunks-push, columns-flagged, last-piece, length-chunks, number-of-chunks, rows-of-chunks, values-none, values-push, whole-piece}
+use Rattle.pipe_ends.proofs.PieceFacts.{rest-next, value-here, chunks-fit, chunks-push, columns-flagged, last-piece, length-chunks, number-of-chunks, rows-of-chunks, values-none, values-push, whole-piece}
 use Rattle.pipe_ends.proofs.RowFacts.{front-front, front-none, row-same, row-width}
 use Rattle.pipe_ends.proofs.RecordList.{length-records}
 
@@ -43,6 +44,7 @@ pub record RowsDone (n file : ℕ) (fs : List Field) (whole : Result (List Value
   pub made : chunks ≡ chunks_from 0 fs cut
   pub columns : held ≡ values_from 0 fs pending
   pub height : count ≡ length pending
+  pub fit : RowsFit 0 fs pending
 
 pub rows-start : (n file : ℕ) (fs : List Field) (rest : Records) (columns : List Values) → columns ≡ replicate (length fs) [] → RowsDone n file fs (read_rows file 1 fs rest) 1 rest [] columns 0
 rows-start n file fs rest columns e = record {
@@ -54,6 +56,7 @@ rows-start n file fs rest columns e = record {
   made = refl;
   columns = e ∙ sym (values-none 0 fs);
   height = refl;
+  fit = tt;
 }
 
 -- a row that stops the reading of rows
@@ -79,7 +82,7 @@ same_Ok : {A E : Type 0} (a b : A) → ◌≡◌ {A = Result A E} (Ok a) (Ok b) 
 same_Ok a b e = cc
 
 -- what was read, and what is read after it
-after-ok : {A E : Type 0} (a : Result A E) (rest : Result (List A) E) (all : List A) → after a rest ≡ Ok all → (first : A) × (more : List A) × (a ≡ Ok first) × (rest ≡ Ok more) × (all ≡ first ∷ more)
+pub after-ok : {A E : Type 0} (a : Result A E) (rest : Result (List A) E) (all : List A) → after a rest ≡ Ok all → (first : A) × (more : List A) × (a ≡ Ok first) × (rest ≡ Ok more) × (all ≡ first ∷ more)
 after-ok (Ok first) (Ok more) all e = (first, more, refl, refl, sym (same_Ok (first ∷ more) all e))
 after-ok (Ok first) (Err m) all e = cc
 after-ok (Err m) rest all e = cc
@@ -94,6 +97,20 @@ length-fields file row column (f ∷ fs) (t ∷ ts) values h e =
 length-row : (file row : ℕ) (fs : List Field) (ts : List (List ℕ)) (values : Values) (b : Bool) → (length ts == length fs) ≡ b → read_row file row fs ts ≡ Ok values → length values ≡ length fs
 length-row file row fs ts values true s e = let h : length ts ≡ length fs = (Decides-eqb (length ts) (length fs)).0 s in length-fields file row 1 fs ts values h (sym (row-same file row fs ts h) ∙ e)
 length-row file row fs ts values false s e = let f : Err (width file row) ≡ Ok values = sym (row-width file row fs ts (λ h. absurd (false≢true (sym s ∙ eq-eqb (length ts) (length fs) h)))) ∙ e in cc
+
+fields-fit : (file row column i : ℕ) (fs : List Field) (ts : List (List ℕ)) (all values : Values) → values ≡ drop i all → length ts ≡ length fs → read_fields file row column fs ts ≡ Ok values → RowFits i fs all
+fields-fit file row column i [] ts all values d h e = tt
+fields-fit file row column i (f ∷ fs) [] all values d h e = absurd (omega arith)
+fields-fit file row column i (f ∷ fs) (t ∷ ts) all values d h e =
+    let parts = after-ok (ok_or (read_field f.dtype t) (field file row column)) (read_fields file row (column + 1) fs ts) values e in
+    let here : parts.0 ≡ value_at all i = value-here all i parts.0 parts.1 (sym parts.4 ∙ d) in
+    let tail : parts.1 ≡ drop (i + 1) all = rest-next all i parts.0 parts.1 (sym parts.4 ∙ d) in
+    (rw (← here) (value-fits f t (field file row column) parts.0 parts.2), fields-fit file row (column + 1) (i + 1) fs ts all parts.1 tail (omega arith) parts.3)
+
+-- the values of a row that is read fit the schema
+row-fits : (file row : ℕ) (fs : List Field) (ts : List (List ℕ)) (values : Values) (b : Bool) → (length ts == length fs) ≡ b → read_row file row fs ts ≡ Ok values → RowFits 0 fs values
+row-fits file row fs ts values true s e = let h : length ts ≡ length fs = (Decides-eqb (length ts) (length fs)).0 s in fields-fit file row 1 0 fs ts values values refl h (sym (row-same file row fs ts h) ∙ e)
+row-fits file row fs ts values false s e = let f : Err (width file row) ≡ Ok values = sym (row-width file row fs ts (λ h. absurd (false≢true (sym s ∙ eq-eqb (length ts) (length fs) h)))) ∙ e in cc
 
 next-row : (file row : ℕ) (fs : List Field) (rest more : Records) (r : List (List ℕ)) (values : Values) → rest ≡ r ∷ more → read_row file row fs r ≡ Ok values → read_rows file row fs rest ≡ in_front (values ∷ []) (read_rows file (row + 1) fs more)
 next-row file row fs rest more r values e h = rw (e, h) refl
@@ -112,6 +129,7 @@ row-more n file fs whole row rest more chunks held now count r values d h e p =
       made = d.made;
       columns = p ∙ ap (with_row values) d.columns ∙ values-push fs d.pending values (length-row file row fs r values (length r == length fs) refl e);
       height = omega (arith, length-append d.pending (values ∷ []), d.height);
+      fit = rows-push 0 fs d.pending values d.fit (row-fits file row fs r values (length r == length fs) refl e);
     }
 
 -- a chunk of columns is that of their rows
@@ -139,6 +157,7 @@ chunk-more n file fs whole row rest chunks all held now count d p h a e = record
   made = a ∙ chunk-is fs d.cut d.pending chunks held count d.made d.columns d.height;
   columns = e ∙ sym (values-none 0 fs);
   height = refl;
+  fit = tt;
 }
 
 rows-over : (front : List Values) (file row : ℕ) (fs : List Field) (rest : Records) → rest ≡ [] → in_front front (read_rows file row fs rest) ≡ Ok front
@@ -205,3 +224,10 @@ read-few n file fs text chunks a = omega (arith, ap (sum_by (λ (c : DataChunk).
 -- there are no more chunks of a text than bytes
 pub read-number : (n file : ℕ) (fs : List Field) (text : List ℕ) (chunks : List DataChunk) → AllRead n fs (text_rows file fs text) chunks → length chunks ≤ length text
 read-number n file fs text chunks a = omega (arith, ap length a.2, number-of-chunks n fs a.0, length-text file fs text a.0 a.1)
+
+-- the columns hold what fits the schema
+pub done-hold : (n file : ℕ) (fs : List Field) (whole : Result (List Values) Misfit) (row : ℕ) (rest : Records) (chunks : List DataChunk) (held : List Values) (count : ℕ) → RowsDone n file fs whole row rest chunks held count → DoHold count fs held
+done-hold n file fs whole row rest chunks held count d =
+    let P : List Values → Type 0 = λ t. DoHold count fs t in
+    let Q : ℕ → Type 0 = λ t. DoHold t fs (values_from 0 fs d.pending) in
+    subst P (sym d.columns) (subst Q (sym d.height) (rows-hold 0 fs d.pending d.fit))

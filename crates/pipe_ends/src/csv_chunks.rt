@@ -1,7 +1,7 @@
 ghost use Rattle.std.specs.Prelude.{Ok, ◌<◌, ◌≡◌, ◌≤◌, IfErr, IfOk, List, OnOk, length, map, replicate, sum_by, vec_len, [], ◌++◌, ◌∷◌, ◌%◌, ◌^◌};
 ghost use Rattle.std.specs.List.{All};
 ghost use Rattle.pipe_columns.specs.Frame.{FitsSchema};
-ghost use Rattle.pipe_ends.specs.Columns.{columns_of};
+ghost use Rattle.pipe_ends.specs.Columns.{DoHold};
 ghost use Rattle.pipe_ends.specs.CsvChunks.{Values, file_chunks, read_rows, text_rows};
 ghost use Rattle.pipe_ends.specs.CsvError.{StopsBy};
 ghost use Rattle.pipe_ends.specs.RowChunks.{AllRead, next_chunk};
@@ -25,7 +25,8 @@ fn push_chunk(
     columns: &mut Vec<Vec<AnyValue>>,
     height: usize,
 ) -> Result<(), AllocError>
-    requires { vec_len columns.old ≡ length fields.now }
+    requires width { vec_len columns.old ≡ length fields.now }
+    requires hold { DoHold height fields.now (map (λ c. c.items) columns.old.items) }
     ensures { OnOk result (chunks.new.items ≡ chunks.old.items ++ (next_chunk fields.now chunks.old.items (map (λ c. c.items) columns.old.items) height ∷ [])) }
 {
     let chunk_index = (chunks.len() % 4294967296) as u32;
