@@ -1,4 +1,4 @@
-ghost use Rattle.std.specs.Prelude.{[], replicate, ◌≡◌, IfErr, IfOk, Ok, length, map, not, vec_len};
+ghost use Rattle.std.specs.Prelude.{[], ◌≡◌, IfErr, IfOk, Ok, length, map, replicate, vec_len};
 ghost use Rattle.std.specs.Ordering.{is_lt};
 ghost use Rattle.csv.specs.Records.{fields_of};
 ghost use Rattle.pipe_columns.specs.AnyValue.{value_cmp};
@@ -41,9 +41,13 @@ pub fn push_record(
     row: usize,
 ) -> Result<(), CsvError>
     requires { vec_len columns.old ≡ length fields.now }
-    ensures pushed { IfOk result (λ _. (values : Values) × (read_row file row fields.now (fields_of entry.now) ≡ Ok values) × (map (λ c. c.items) columns.new.items ≡ with_row values (map (λ c. c.items) columns.old.items))) }
+    ensures pushed { IfOk result (λ _. (values : Values)
+        × (read_row file row fields.now (fields_of entry.now) ≡ Ok values)
+        × (map (λ c. c.items) columns.new.items
+        ≡ with_row values (map (λ c. c.items) columns.old.items))) }
     ensures width { vec_len columns.new ≡ length fields.now }
-    ensures stop { IfErr result (λ e. StopsBy e (read_row file row fields.now (fields_of entry.now))) }
+    ensures stop { IfErr result
+        (λ e. StopsBy e (read_row file row fields.now (fields_of entry.now))) }
 {
     if entry.len() != fields.len() {
         return Err(CsvError::Width { file, row });
@@ -105,7 +109,13 @@ pub fn make_chunk(
 ) -> Result<DataChunk, AllocError>
     requires width { vec_len columns.old ≡ length fields.now }
     requires hold { DoHold height fields.now (map (λ c. c.items) columns.old.items) }
-    ensures { IfOk result (λ chunk. chunk ≡ record { chunk_index = chunk_index; frame = record { height = height; columns = columns_of fields.now (map (λ c. c.items) columns.old.items) } }) }
+    ensures { IfOk result (λ chunk. chunk ≡ record {
+      chunk_index = chunk_index;
+      frame = record {
+        height = height;
+        columns = columns_of fields.now (map (λ c. c.items) columns.old.items);
+      };
+    }) }
 {
     let mut made = Vec::with_capacity(alloc, fields.len())?;
     for (i, field) in fields.iter().enumerate() {
