@@ -1,14 +1,14 @@
 -- Columns of rows that fit a schema.
-use Rattle.std.proofs.Common.{◌≡◌, ◌∙◌, ◌<◌, ◌+◌, ◌==◌, ◌&&◌, ℕ, Bool, true, false, List, [], ◌∷◌, ◌++◌, length, drop, get_or, set, map, Vec, Global, Option, Some, None, Result, Ok, Err, refl, sym, ap, arith, eq-eqb, subst}
+use Rattle.std.proofs.Common.{◌≡◌, ◌∙◌, ◌<◌, ◌+◌, ◌&&◌, ℕ, Bool, true, false, List, [], ◌∷◌, ◌++◌, length, drop, get_or, set, map, Vec, Global, Option, Some, None, Ok, refl, sym, ap, arith, eq-eqb, subst}
 use Rattle.std.specs.Prelude.{⊤}
 use Rattle.std.specs.Option.{ok_or}
 use Rattle.std.proofs.lemmas.List.{drop-set-lt, drop_more, get_or-map, length-map, map-set}
 use Rattle.pipe_columns.specs.declared.any_value.AnyValue.{AnyValue}
 use Rattle.pipe_columns.specs.declared.schema.Field.{Field}
 use Rattle.pipe_columns.specs.AnyValue.{fits}
-use Rattle.pipe_columns.specs.Frame.{AllFit, AllHaveHeight, ColumnData, all_have_height, value_at}
+use Rattle.pipe_columns.specs.Frame.{AllFit, AllHaveHeight, ColumnData, value_at}
 use Rattle.pipe_ends.specs.Fields.{read_field}
-use Rattle.pipe_ends.specs.CsvChunks.{Misfit, Values, after, field, read_fields}
+use Rattle.pipe_ends.specs.CsvChunks.{Misfit, Values}
 use Rattle.pipe_ends.specs.Columns.{DoHold, column_of, values_from}
 use Rattle.pipe_ends.proofs.ColumnFacts.{items_of}
 use Rattle.pipe_ends.proofs.FieldFacts.{field-fits}
@@ -23,18 +23,22 @@ abbrev pub RowsFit : ℕ → List Field → List Values → Type 0
 RowsFit i fs [] = ⊤
 RowsFit i fs (r ∷ rs) = RowFits i fs r × RowsFit i fs rs
 
+-- one more row that fits
 pub rows-push : (i : ℕ) (fs : List Field) (rows : List Values) (row : Values) → RowsFit i fs rows → RowFits i fs row → RowsFit i fs (rows ++ (row ∷ []))
 rows-push i fs [] row h g = (g, tt)
 rows-push i fs (r ∷ rs) row h g = (h.0, rows-push i fs rs row h.1 g)
 
+-- two tests that hold
 both : (a b : Bool) → a ≡ true → b ≡ true → (a && b) ≡ true
 both true b e h = h
 both false b e h = cc
 
+-- the values of one place of the rows fit its field
 column-fits : (i : ℕ) (f : Field) (fs : List Field) (rows : List Values) → RowsFit i (f ∷ fs) rows → AllFit f.dtype (map (λ row. value_at row i) rows)
 column-fits i f fs [] h = refl
 column-fits i f fs (r ∷ rs) h = both _ _ h.0.0 (column-fits i f fs rs h.1)
 
+-- the values from the next place on fit
 rows-tail : (i : ℕ) (f : Field) (fs : List Field) (rows : List Values) → RowsFit i (f ∷ fs) rows → RowsFit (i + 1) fs rows
 rows-tail i f fs [] h = tt
 rows-tail i f fs (r ∷ rs) h = (h.0.1, rows-tail i f fs rs h.1)
@@ -44,6 +48,7 @@ pub rows-hold : (i : ℕ) (fs : List Field) (rows : List Values) → RowsFit i f
 rows-hold i [] rows h = tt
 rows-hold i (f ∷ fs) rows h = (column-fits i f fs rows h, length-map rows (λ row. value_at row i), rows-hold (i + 1) fs rows (rows-tail i f fs rows h))
 
+-- what reads is some value
 some-from : (o : Option AnyValue) (e : Misfit) (v : AnyValue) → ok_or o e ≡ Ok v → o ≡ Some v
 some-from None e v h = cc
 some-from (Some w) e v h = cc

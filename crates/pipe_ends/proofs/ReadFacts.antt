@@ -1,5 +1,5 @@
 -- Reading the rows of a text, chunk by chunk.
-use Rattle.std.proofs.Common.{◌≡◌, ◌∙◌, ◌≤◌, ◌<◌, ◌+◌, ◌%◌, ◌^◌, ◌==◌, ℕ, suc, Bool, true, false, List, [], ◌∷◌, ◌++◌, length, replicate, Result, Ok, Err, refl, sym, ap, arith, map, eq-eqb, if◌then◌else◌, subst, add-one, drop}
+use Rattle.std.proofs.Common.{◌≡◌, ◌∙◌, ◌≤◌, ◌<◌, ◌+◌, ◌%◌, ◌^◌, ◌==◌, ℕ, suc, Bool, true, false, List, [], ◌∷◌, ◌++◌, length, replicate, Result, Ok, Err, refl, sym, ap, arith, map, eq-eqb, if◌then◌else◌, subst, drop}
 use Rattle.std.specs.List.{All, sum_by}
 use Rattle.std.specs.Option.{ok_or}
 use Rattle.std.proofs.lemmas.List.Elements.{All-same}
@@ -28,9 +28,11 @@ use Rattle.pipe_ends.proofs.RecordList.{length-records}
 pub no_header : (file : ℕ) (fs : List Field) (rest : Records) → rest ≡ [] → read_records file fs rest ≡ Err (header file)
 no_header file fs rest e = rw e refl
 
+-- a first record that isn't the names is no header
 pub other_header : (file : ℕ) (fs : List Field) (rest more : Records) (r : List (List ℕ)) → rest ≡ r ∷ more → is_header fs r ≡ false → read_records file fs rest ≡ Err (header file)
 other_header file fs rest more r e h = rw (e, h) refl
 
+-- the rows stand after the names
 pub same_header : (file : ℕ) (fs : List Field) (rest more : Records) (r : List (List ℕ)) → rest ≡ r ∷ more → is_header fs r ≡ true → read_records file fs rest ≡ read_rows file 1 fs more
 same_header file fs rest more r e h = rw (e, h) refl
 
@@ -46,6 +48,7 @@ pub record RowsDone (n file : ℕ) (fs : List Field) (whole : Result (List Value
   pub height : count ≡ length pending
   pub fit : RowsFit 0 fs pending
 
+-- no row is read yet
 pub rows-start : (n file : ℕ) (fs : List Field) (rest : Records) (columns : List Values) → columns ≡ replicate (length fs) [] → RowsDone n file fs (read_rows file 1 fs rest) 1 rest [] columns 0
 rows-start n file fs rest columns e = record {
   cut = [];
@@ -63,6 +66,7 @@ rows-start n file fs rest columns e = record {
 stop-front : (front : List Values) (file row : ℕ) (fs : List Field) (r : List (List ℕ)) (rest more : Records) (m : Misfit) → rest ≡ r ∷ more → read_row file row fs r ≡ Err m → in_front front (read_rows file row fs rest) ≡ Err m
 stop-front front file row fs r rest more m e h = rw (e, h) refl
 
+-- an error stops what has the same misfit
 stops-same : {X Y : Type 0} (e : CsvError) (a : Result X Misfit) (b : Result Y Misfit) → ((m : Misfit) → a ≡ Err m → b ≡ Err m) → StopsBy e a → StopsBy e b
 stops-same (ce.Header file) a b f s = f _ s
 stops-same (ce.Width file row) a b f s = f _ s
@@ -78,6 +82,7 @@ pub row-stops : (n file : ℕ) (fs : List Field) (whole : Result (List Values) M
 row-stops n file fs whole row rest more chunks held count r e d h s =
     stops-same e (read_row file row fs r) whole (λ m k. d.read ∙ stop-front (d.front ++ d.pending) file row fs r rest more m h k) s
 
+-- two results that are the same have the same value
 same_Ok : {A E : Type 0} (a b : A) → ◌≡◌ {A = Result A E} (Ok a) (Ok b) → a ≡ b
 same_Ok a b e = cc
 
@@ -87,6 +92,7 @@ after-ok (Ok first) (Ok more) all e = (first, more, refl, refl, sym (same_Ok (fi
 after-ok (Ok first) (Err m) all e = cc
 after-ok (Err m) rest all e = cc
 
+-- there is a value for each field
 length-fields : (file row column : ℕ) (fs : List Field) (ts : List (List ℕ)) (values : Values) → length ts ≡ length fs → read_fields file row column fs ts ≡ Ok values → length values ≡ length fs
 length-fields file row column [] ts values h e = sym (ap length (same_Ok {E = Misfit} [] values e))
 length-fields file row column (f ∷ fs) [] values h e = absurd (omega arith)
@@ -94,10 +100,12 @@ length-fields file row column (f ∷ fs) (t ∷ ts) values h e =
     let parts = after-ok (ok_or (read_field f.dtype t) (field file row column)) (read_fields file row (column + 1) fs ts) values e in
     ap length parts.4 ∙ ap (λ n. suc n) (length-fields file row (column + 1) fs ts parts.1 (omega arith) parts.3)
 
+-- a row that is read has a value for each field
 length-row : (file row : ℕ) (fs : List Field) (ts : List (List ℕ)) (values : Values) (b : Bool) → (length ts == length fs) ≡ b → read_row file row fs ts ≡ Ok values → length values ≡ length fs
 length-row file row fs ts values true s e = let h : length ts ≡ length fs = (Decides-eqb (length ts) (length fs)).0 s in length-fields file row 1 fs ts values h (sym (row-same file row fs ts h) ∙ e)
 length-row file row fs ts values false s e = let f : Err (width file row) ≡ Ok values = sym (row-width file row fs ts (λ h. absurd (false≢true (sym s ∙ eq-eqb (length ts) (length fs) h)))) ∙ e in cc
 
+-- the values of fields fit, from a column on
 fields-fit : (file row column i : ℕ) (fs : List Field) (ts : List (List ℕ)) (all values : Values) → values ≡ drop i all → length ts ≡ length fs → read_fields file row column fs ts ≡ Ok values → RowFits i fs all
 fields-fit file row column i [] ts all values d h e = tt
 fields-fit file row column i (f ∷ fs) [] all values d h e = absurd (omega arith)
@@ -112,6 +120,7 @@ row-fits : (file row : ℕ) (fs : List Field) (ts : List (List ℕ)) (values : V
 row-fits file row fs ts values true s e = let h : length ts ≡ length fs = (Decides-eqb (length ts) (length fs)).0 s in fields-fit file row 1 0 fs ts values values refl h (sym (row-same file row fs ts h) ∙ e)
 row-fits file row fs ts values false s e = let f : Err (width file row) ≡ Ok values = sym (row-width file row fs ts (λ h. absurd (false≢true (sym s ∙ eq-eqb (length ts) (length fs) h)))) ∙ e in cc
 
+-- the values of the next row stand before those after it
 next-row : (file row : ℕ) (fs : List Field) (rest more : Records) (r : List (List ℕ)) (values : Values) → rest ≡ r ∷ more → read_row file row fs r ≡ Ok values → read_rows file row fs rest ≡ in_front (values ∷ []) (read_rows file (row + 1) fs more)
 next-row file row fs rest more r values e h = rw (e, h) refl
 
@@ -160,6 +169,7 @@ chunk-more n file fs whole row rest chunks all held now count d p h a e = record
   fit = tt;
 }
 
+-- no row is left
 rows-over : (front : List Values) (file row : ℕ) (fs : List Field) (rest : Records) → rest ≡ [] → in_front front (read_rows file row fs rest) ≡ Ok front
 rows-over front file row fs rest e = rw e (ap Ok (append-nil front))
 
@@ -183,20 +193,24 @@ rows-last n file fs whole row rest chunks all held count d h p l a = (
       ∙ ap (chunks_from 0 fs) (sym (d.piece d.pending ∙ ap (λ (t : List (List Values)). d.cut ++ t) (last-piece n d.pending (omega (arith, d.height)) (omega (arith, d.height))))),
 )
 
+-- each record is a row
 length-rows : (file row : ℕ) (fs : List Field) (rest : Records) (rows : List Values) → read_rows file row fs rest ≡ Ok rows → length rows ≡ length rest
 length-rows file row fs [] rows e = sym (ap length (same_Ok {E = Misfit} [] rows e))
 length-rows file row fs (r ∷ rs) rows e =
     let parts = after-ok (read_row file row fs r) (read_rows file (row + 1) fs rs) rows e in
     ap length parts.4 ∙ ap (λ n. suc n) (length-rows file (row + 1) fs rs parts.1 parts.3)
 
+-- there are no more rows than records under the first
 length-under : (file : ℕ) (fs : List Field) (rest : Records) (rows : List Values) (b : Bool) (r : List (List ℕ)) → is_header fs r ≡ b → read_records file fs (r ∷ rest) ≡ Ok rows → length rows ≤ length rest
 length-under file fs rest rows true r h e = let f : read_rows file 1 fs rest ≡ Ok rows = sym (same_header file fs (r ∷ rest) rest r refl h) ∙ e in omega (arith, length-rows file 1 fs rest rows f)
 length-under file fs rest rows false r h e = let f : Err (header file) ≡ Ok rows = sym (other_header file fs (r ∷ rest) rest r refl h) ∙ e in cc
 
+-- there are no more rows than records
 length-read : (file : ℕ) (fs : List Field) (rest : Records) (rows : List Values) → read_records file fs rest ≡ Ok rows → length rows ≤ length rest
 length-read file fs [] rows e = cc
 length-read file fs (r ∷ rest) rows e = omega (arith, length-under file fs rest rows (is_header fs r) r refl e)
 
+-- a text is no longer without its byte order mark
 length-strip : (text : List ℕ) → length (strip_bom text) ≤ length text
 unfolding strip_bom
 length-strip [] = omega arith

@@ -23,6 +23,7 @@ pub record HeaderRead (file : ℕ) (fs fields : List Field) (text : List ℕ) (b
   pub test : is ≡ is_header fields names
   pub same : is ≡ true
 
+-- the rows of a text are those of the records after its header
 rows-after : (file : ℕ) (fields : List Field) (text : List ℕ) (before after : Reader (Bor (List ℕ))) (found same : Bool) (names : List (List ℕ)) → HeaderRead file fields fields text before after found same names → text_rows file fields text ≡ read_rows file 1 fields (records_left after)
 rows-after file fields text before after found same names h =
     ap (read_records file fields) (sym h.records) ∙ same_header file fields (records_left before) (records_left after) names (took before after found names h.found h.takes).1 (sym h.test ∙ h.same)
@@ -40,16 +41,19 @@ text-read n file fs fields text before after found same names chunks h a =
 abbrev pub Made : Type 0
 Made = Result (Vec DataChunk Global) CsvError
 
+-- the chunks of a text have its schema
 pub text-fits : (n file : ℕ) (fs fields : List Field) (text : List ℕ) (before after : Reader (Bor (List ℕ))) (found same : Bool) (names : List (List ℕ)) (made : Made)
     → HeaderRead file fs fields text before after found same names → IfOk made (λ v. AllRead n fields (read_rows file 1 fields (records_left after)) v.items) → IfOk made (λ v. All (λ c. FitsSchema fs c.frame) v.items)
 text-fits n file fs fields text before after found same names (Ok v) h a = read-fits n file fs (text_rows file fs text) v.items (text-read n file fs fields text before after found same names v.items h a)
 text-fits n file fs fields text before after found same names (Err e) h a = tt
 
+-- the chunks of a text have no more rows than it has bytes
 pub text-few : (n file : ℕ) (fs fields : List Field) (text : List ℕ) (before after : Reader (Bor (List ℕ))) (found same : Bool) (names : List (List ℕ)) (made : Made)
     → HeaderRead file fs fields text before after found same names → IfOk made (λ v. AllRead n fields (read_rows file 1 fields (records_left after)) v.items) → IfOk made (λ v. sum_by (λ c. c.frame.height) v.items ≤ length text)
 text-few n file fs fields text before after found same names (Ok v) h a = read-few n file fs text v.items (text-read n file fs fields text before after found same names v.items h a)
 text-few n file fs fields text before after found same names (Err e) h a = tt
 
+-- a text has no more chunks than bytes
 pub text-number : (n file : ℕ) (fs fields : List Field) (text : List ℕ) (before after : Reader (Bor (List ℕ))) (found same : Bool) (names : List (List ℕ)) (made : Made)
     → HeaderRead file fs fields text before after found same names → IfOk made (λ v. AllRead n fields (read_rows file 1 fields (records_left after)) v.items) → IfOk made (λ v. length v.items ≤ length text)
 text-number n file fs fields text before after found same names (Ok v) h a = read-number n file fs text v.items (text-read n file fs fields text before after found same names v.items h a)
