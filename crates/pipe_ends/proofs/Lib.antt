@@ -7,4 +7,5 @@ pub mod ColumnFacts
 pub mod PieceFacts
 pub mod HoldFacts
 pub mod ReadFacts
+pub mod ChunkLaws
 pub mod TextFacts

@@ -1,28 +1,23 @@
 -- Reading the rows of a text, chunk by chunk.
-use Rattle.std.proofs.Common.{◌≡◌, ◌∙◌, ◌≤◌, ◌<◌, ◌+◌, ◌%◌, ◌^◌, ◌==◌, ℕ, suc, Bool, true, false, List, [], ◌∷◌, ◌++◌, length, replicate, Result, Ok, Err, refl, sym, ap, arith, map, eq-eqb, if◌then◌else◌, subst, drop}
-use Rattle.std.specs.List.{All, sum_by}
+use Rattle.std.proofs.Common.{◌≡◌, ◌∙◌, ◌≤◌, ◌<◌, ◌+◌, ◌%◌, ◌^◌, ◌==◌, ℕ, suc, Bool, true, false, List, [], ◌∷◌, ◌++◌, length, replicate, Result, Ok, Err, refl, sym, ap, arith, map, eq-eqb, subst, drop}
 use Rattle.std.specs.Option.{ok_or}
-use Rattle.std.proofs.lemmas.List.Elements.{All-same}
 use Rattle.std.proofs.lemmas.List.{append-nil, append_assoc, length-append, nil_from_length}
 use Rattle.std.proofs.lemmas.Bool.{false≢true}
 use Rattle.std.proofs.lemmas.Bool.Decides.{Decides-eqb}
-use Rattle.csv.specs.Reading.{default_config, is_bom, records, strip_bom}
-use Rattle.csv.specs.declared.parser.State.TheVariants as st
 use Rattle.pipe_columns.specs.declared.schema.Field.{Field}
 use Rattle.pipe_columns.specs.declared.data_chunk.DataChunk.{DataChunk}
-use Rattle.pipe_columns.specs.Frame.{ColumnData, FitsSchema, columns_from, value_at}
+use Rattle.pipe_columns.specs.Frame.{ColumnData, columns_from, value_at}
 use Rattle.pipe_ends.specs.Fields.{read_field}
 use Rattle.pipe_ends.specs.declared.csv_error.CsvError.{CsvError}
 use Rattle.pipe_ends.specs.declared.csv_error.CsvError.TheVariants as ce
-use Rattle.pipe_ends.specs.CsvChunks.{Misfit, Values, after, chunks_from, field, file_chunks, flagged, flagged_frame, header, in_front, is_header, pieces, read_fields, read_records, read_row, read_rows, text_rows, width}
+use Rattle.pipe_ends.specs.CsvChunks.{Misfit, Values, after, chunks_from, field, flagged, flagged_frame, header, in_front, is_header, pieces, read_fields, read_records, read_row, read_rows, width}
 use Rattle.pipe_ends.specs.CsvError.{StopsBy}
 use Rattle.pipe_ends.specs.Columns.{DoHold, columns_of, values_from, with_row}
 use Rattle.pipe_ends.proofs.HoldFacts.{RowFits, RowsFit, rows-hold, rows-push, value-fits}
 use Rattle.pipe_ends.specs.RecordsLeft.{Records}
 use Rattle.pipe_ends.specs.RowChunks.{AllRead, next_chunk}
-use Rattle.pipe_ends.proofs.PieceFacts.{rest-next, value-here, chunks-fit, chunks-push, columns-flagged, last-piece, length-chunks, number-of-chunks, rows-of-chunks, values-none, values-push, whole-piece}
+use Rattle.pipe_ends.proofs.PieceFacts.{rest-next, value-here, chunks-push, columns-flagged, last-piece, length-chunks, values-none, values-push, whole-piece}
 use Rattle.pipe_ends.proofs.RowFacts.{front-front, front-none, row-same, row-width}
-use Rattle.pipe_ends.proofs.RecordList.{length-records}
 
 -- a text without a record has no header
 pub no_header : (file : ℕ) (fs : List Field) (rest : Records) → rest ≡ [] → read_records file fs rest ≡ Err (header file)
@@ -83,7 +78,7 @@ row-stops n file fs whole row rest more chunks held count r e d h s =
     stops-same e (read_row file row fs r) whole (λ m k. d.read ∙ stop-front (d.front ++ d.pending) file row fs r rest more m h k) s
 
 -- two results that are the same have the same value
-same_Ok : {A E : Type 0} (a b : A) → ◌≡◌ {A = Result A E} (Ok a) (Ok b) → a ≡ b
+pub same_Ok : {A E : Type 0} (a b : A) → ◌≡◌ {A = Result A E} (Ok a) (Ok b) → a ≡ b
 same_Ok a b e = cc
 
 -- what was read, and what is read after it
@@ -192,52 +187,6 @@ rows-last n file fs whole row rest chunks all held count d h p l a = (
   a ∙ chunk-is fs d.cut d.pending chunks held count d.made d.columns d.height
       ∙ ap (chunks_from 0 fs) (sym (d.piece d.pending ∙ ap (λ (t : List (List Values)). d.cut ++ t) (last-piece n d.pending (omega (arith, d.height)) (omega (arith, d.height))))),
 )
-
--- each record is a row
-length-rows : (file row : ℕ) (fs : List Field) (rest : Records) (rows : List Values) → read_rows file row fs rest ≡ Ok rows → length rows ≡ length rest
-length-rows file row fs [] rows e = sym (ap length (same_Ok {E = Misfit} [] rows e))
-length-rows file row fs (r ∷ rs) rows e =
-    let parts = after-ok (read_row file row fs r) (read_rows file (row + 1) fs rs) rows e in
-    ap length parts.4 ∙ ap (λ n. suc n) (length-rows file (row + 1) fs rs parts.1 parts.3)
-
--- there are no more rows than records under the first
-length-under : (file : ℕ) (fs : List Field) (rest : Records) (rows : List Values) (b : Bool) (r : List (List ℕ)) → is_header fs r ≡ b → read_records file fs (r ∷ rest) ≡ Ok rows → length rows ≤ length rest
-length-under file fs rest rows true r h e = let f : read_rows file 1 fs rest ≡ Ok rows = sym (same_header file fs (r ∷ rest) rest r refl h) ∙ e in omega (arith, length-rows file 1 fs rest rows f)
-length-under file fs rest rows false r h e = let f : Err (header file) ≡ Ok rows = sym (other_header file fs (r ∷ rest) rest r refl h) ∙ e in cc
-
--- there are no more rows than records
-length-read : (file : ℕ) (fs : List Field) (rest : Records) (rows : List Values) → read_records file fs rest ≡ Ok rows → length rows ≤ length rest
-length-read file fs [] rows e = cc
-length-read file fs (r ∷ rest) rows e = omega (arith, length-under file fs rest rows (is_header fs r) r refl e)
-
--- a text is no longer without its byte order mark
-length-strip : (text : List ℕ) → length (strip_bom text) ≤ length text
-unfolding strip_bom
-length-strip [] = omega arith
-length-strip (a ∷ []) = omega arith
-length-strip (a ∷ b ∷ []) = omega arith
-length-strip (a ∷ b ∷ c ∷ rest) = stripped (is_bom a b c) where
-  stripped : (t : Bool) → length (if t then rest else a ∷ b ∷ c ∷ rest) ≤ length (a ∷ b ∷ c ∷ rest)
-  stripped true = omega arith
-  stripped false = omega arith
-
--- a text has no more rows than bytes
-pub length-text : (file : ℕ) (fs : List Field) (text : List ℕ) (rows : List Values) → text_rows file fs text ≡ Ok rows → length rows ≤ length text
-length-text file fs text rows e =
-    let xs : List ℕ = strip_bom text in
-    omega (arith, length-read file fs (records default_config xs) rows e, length-records default_config (length xs + 1) st.StartRecord xs tt, length-strip text)
-
--- the chunks of a text have its schema
-pub read-fits : (n file : ℕ) (fs : List Field) (whole : Result (List Values) Misfit) (chunks : List DataChunk) → AllRead n fs whole chunks → All (λ (c : DataChunk). FitsSchema fs c.frame) chunks
-read-fits n file fs whole chunks a = All-same (λ (c : DataChunk). FitsSchema fs c.frame) chunks (file_chunks 0 n fs a.0) a.2 (chunks-fit n fs a.0)
-
--- the chunks of a text have no more rows than it has bytes
-pub read-few : (n file : ℕ) (fs : List Field) (text : List ℕ) (chunks : List DataChunk) → AllRead n fs (text_rows file fs text) chunks → sum_by (λ (c : DataChunk). c.frame.height) chunks ≤ length text
-read-few n file fs text chunks a = omega (arith, ap (sum_by (λ (c : DataChunk). c.frame.height)) a.2, rows-of-chunks n fs a.0, length-text file fs text a.0 a.1)
-
--- there are no more chunks of a text than bytes
-pub read-number : (n file : ℕ) (fs : List Field) (text : List ℕ) (chunks : List DataChunk) → AllRead n fs (text_rows file fs text) chunks → length chunks ≤ length text
-read-number n file fs text chunks a = omega (arith, ap length a.2, number-of-chunks n fs a.0, length-text file fs text a.0 a.1)
 
 -- the columns hold what fits the schema
 pub done-hold : (n file : ℕ) (fs : List Field) (whole : Result (List Values) Misfit) (row : ℕ) (rest : Records) (chunks : List DataChunk) (held : List Values) (count : ℕ) → RowsDone n file fs whole row rest chunks held count → DoHold count fs held

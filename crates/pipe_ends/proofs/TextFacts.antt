@@ -12,7 +12,8 @@ use Rattle.pipe_ends.specs.CsvChunks.{is_header, read_records, read_rows, text_r
 use Rattle.pipe_ends.specs.RecordsLeft.{Takes, records_left}
 use Rattle.pipe_ends.specs.RowChunks.{AllRead}
 use Rattle.pipe_ends.proofs.RecordsTaken.{took}
-use Rattle.pipe_ends.proofs.ReadFacts.{read-few, read-fits, read-number, same_header}
+use Rattle.pipe_ends.proofs.ChunkLaws.{read-few, read-fits, read-number}
+use Rattle.pipe_ends.proofs.ReadFacts.{same_header}
 
 -- a text whose header is read, the reader before it and the reader after it
 pub record HeaderRead (file : ℕ) (fs fields : List Field) (text : List ℕ) (before after : Reader (Bor (List ℕ))) (there is : Bool) (names : List (List ℕ)) : Type 0 where
