@@ -1,13 +1,13 @@
 -- Columns of values, row by row and field by field.
-use Rattle.std.proofs.Common.{◌≡◌, ◌∙◌, ◌≤◌, ◌<◌, ◌+◌, ◌-◌, ◌&&◌, not, ℕ, zero, suc, List, [], ◌∷◌, ◌++◌, length, drop, get_or, set, map, Vec, Global, Bool, true, false, refl, sym, ap, arith}
+use Rattle.std.proofs.Common.{◌≡◌, ◌∙◌, ◌≤◌, ◌<◌, ◌+◌, ◌&&◌, not, ℕ, suc, List, [], ◌∷◌, ◌++◌, length, drop, get_or, set, map, Vec, Global, Bool, true, false, refl, sym, ap, arith}
 use Rattle.std.specs.Ordering.{is_lt}
 use Rattle.std.proofs.lemmas.List.{append_assoc, drop-set-lt, drop_all, drop_more, get_or-map, length-drop, length-map, map-set}
 use Rattle.pipe_columns.specs.declared.any_value.AnyValue.{AnyValue}
 use Rattle.pipe_columns.specs.declared.schema.Field.{Field}
 use Rattle.pipe_columns.specs.AnyValue.{value_cmp}
-use Rattle.pipe_columns.specs.Frame.{ColumnData, columns_from, value_at}
-use Rattle.pipe_ends.specs.CsvChunks.{Values, flagged, is_ascending}
-use Rattle.pipe_ends.specs.Columns.{column_of, columns_of, values_from, with_row}
+use Rattle.pipe_columns.specs.Frame.{ColumnData}
+use Rattle.pipe_ends.specs.CsvChunks.{Values, is_ascending}
+use Rattle.pipe_ends.specs.Columns.{column_of, columns_of, with_row}
 
 -- one more value of a row goes to the end of the next column
 pub with_row-more : (vs : Values) (v : AnyValue) (cs : List Values) → length vs < length cs → with_row (vs ++ (v ∷ [])) cs ≡ set (with_row vs cs) (length vs) (get_or (with_row vs cs) (length vs) [] ++ (v ∷ []))
@@ -16,6 +16,7 @@ with_row-more [] v (c ∷ cs) h = refl
 with_row-more (w ∷ ws) v [] h = absurd (omega arith)
 with_row-more (w ∷ ws) v (c ∷ cs) h = ap (λ (t : List Values). (c ++ (w ∷ [])) ∷ t) (with_row-more ws v cs (omega arith))
 
+-- a row adds no column
 pub length-with_row : (vs : Values) (cs : List Values) → length (with_row vs cs) ≡ length cs
 length-with_row [] cs = refl
 length-with_row (v ∷ vs) [] = refl
@@ -29,9 +30,11 @@ columns-step fs cs i f c h k e g =
     let b : drop i cs ≡ c ∷ drop (i + 1) cs = drop_more cs i c k ∙ ap (λ (x : Values). x ∷ drop (i + 1) cs) (sym g) in
     rw (a, b) refl
 
+-- no field is left
 pub columns-end : (fs : List Field) (cs : List Values) (i : ℕ) → length fs ≤ i → columns_of (drop i fs) (drop i cs) ≡ []
 columns-end fs cs i h = rw (drop_all i fs h) refl
 
+-- the first two values tell, and then the rest
 two-ascend : (a b : AnyValue) (vs : Values) (t : Bool) → is_lt (value_cmp b a) ≡ t → is_ascending (a ∷ b ∷ vs) ≡ (not t && is_ascending (b ∷ vs))
 two-ascend a b vs t e = rw e refl
 
@@ -40,6 +43,7 @@ ascend-at : (vs : Values) (j : ℕ) (a b : AnyValue) → j + 1 < length vs → a
 ascend-at vs j a b h e g =
     drop_more vs j a (omega arith) ∙ ap (λ (x : AnyValue). x ∷ drop (j + 1) vs) (sym e) ∙ ap (λ (x : Values). a ∷ x) (drop_more vs (j + 1) b h) ∙ ap (λ (x : AnyValue). a ∷ x ∷ drop (j + 1 + 1) vs) (sym g)
 
+-- the values from the second of the two on
 ascend-rest : (vs : Values) (j : ℕ) (b : AnyValue) → j + 1 < length vs → b ≡ get_or vs (j + 1) b → drop (j + 1) vs ≡ b ∷ drop (j + 1 + 1) vs
 ascend-rest vs j b h g = drop_more vs (j + 1) b h ∙ ap (λ (x : AnyValue). x ∷ drop (j + 1 + 1) vs) (sym g)
 
@@ -51,11 +55,13 @@ ascend-stop vs j a b d h e g t = d ∙ ap is_ascending (ascend-at vs j a b h e g
 pub ascend-more : (vs : Values) (j : ℕ) (a b : AnyValue) → is_ascending vs ≡ is_ascending (drop j vs) → j + 1 < length vs → a ≡ get_or vs j a → b ≡ get_or vs (j + 1) b → is_lt (value_cmp b a) ≡ false → is_ascending vs ≡ is_ascending (drop (j + 1) vs)
 ascend-more vs j a b d h e g t = d ∙ ap is_ascending (ascend-at vs j a b h e g) ∙ two-ascend a b (drop (j + 1 + 1) vs) false t ∙ sym (ap is_ascending (ascend-rest vs j b h g))
 
+-- one value at most ascends
 short-ascends : (vs : Values) → length vs ≤ 1 → is_ascending vs ≡ true
 short-ascends [] h = refl
 short-ascends (v ∷ []) h = refl
 short-ascends (v ∷ w ∷ vs) h = absurd (omega arith)
 
+-- no value is left
 pub ascend-end : (vs : Values) (j : ℕ) → is_ascending vs ≡ is_ascending (drop j vs) → length vs ≤ j + 1 → is_ascending vs ≡ true
 ascend-end vs j d h = d ∙ short-ascends (drop j vs) (omega (arith, length-drop {A = AnyValue}))
 

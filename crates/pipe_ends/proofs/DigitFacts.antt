@@ -23,9 +23,11 @@ number_after-grows : (n : ℕ) (digits : List ℕ) → n ≤ number_after n digi
 number_after-grows n [] = omega arith
 number_after-grows n (d ∷ ds) = let h : n * 10 + (d - 48) ≤ number_after (n * 10 + (d - 48)) ds = number_after-grows (n * 10 + (d - 48)) ds in omega arith
 
+-- a magnitude that 128 bits don't hold
 too_great : (m : ℕ) → 2 ^ 127 < m → within_magnitude m ≡ None
 too_great m h = grind (arith, nat_tests)
 
+-- it is none, whether or not digits write it
 none_within : (b : Bool) (m : ℕ) → 2 ^ 127 < m → option_and_then within_magnitude (if b then Some m else None) ≡ None
 none_within true m h = too_great m h
 none_within false m h = refl

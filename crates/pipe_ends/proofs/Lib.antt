@@ -9,5 +9,7 @@ pub mod RecordsTaken
 pub mod RowFacts
 pub mod ColumnFacts
 pub mod PieceFacts
+pub mod HoldFacts
 pub mod ReadFacts
+pub mod ChunkLaws
 pub mod TextFacts

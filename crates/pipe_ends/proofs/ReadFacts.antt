@@ -1,36 +1,33 @@
 -- Reading the rows of a text, chunk by chunk.
-use Rattle.std.proofs.Common.{◌≡◌, ◌∙◌, ◌≤◌, ◌<◌, ◌+◌, ◌%◌, ◌^◌, ◌==◌, ℕ, zero, suc, Bool, true, false, List, [], ◌∷◌, ◌++◌, length, replicate, Option, Some, None, Result, Ok, Err, refl, sym, ap, arith, map, eq-eqb, if◌then◌else◌}
-use Rattle.std.specs.List.{All, sum_by}
+use Rattle.std.proofs.Common.{◌≡◌, ◌∙◌, ◌≤◌, ◌<◌, ◌+◌, ◌%◌, ◌^◌, ◌==◌, ℕ, suc, Bool, true, false, List, [], ◌∷◌, ◌++◌, length, replicate, Result, Ok, Err, refl, sym, ap, arith, map, eq-eqb, subst, drop}
 use Rattle.std.specs.Option.{ok_or}
-use Rattle.std.proofs.lemmas.List.Elements.{All-same}
 use Rattle.std.proofs.lemmas.List.{append-nil, append_assoc, length-append, nil_from_length}
 use Rattle.std.proofs.lemmas.Bool.{false≢true}
 use Rattle.std.proofs.lemmas.Bool.Decides.{Decides-eqb}
-use Rattle.csv.specs.Reading.{default_config, is_bom, records, strip_bom}
-use Rattle.csv.specs.declared.parser.State.TheVariants as st
-use Rattle.pipe_columns.specs.declared.any_value.AnyValue.{AnyValue}
 use Rattle.pipe_columns.specs.declared.schema.Field.{Field}
 use Rattle.pipe_columns.specs.declared.data_chunk.DataChunk.{DataChunk}
-use Rattle.pipe_columns.specs.Frame.{ColumnData, FitsSchema, columns_from}
+use Rattle.pipe_columns.specs.Frame.{ColumnData, columns_from, value_at}
 use Rattle.pipe_ends.specs.Fields.{read_field}
 use Rattle.pipe_ends.specs.declared.csv_error.CsvError.{CsvError}
 use Rattle.pipe_ends.specs.declared.csv_error.CsvError.TheVariants as ce
-use Rattle.pipe_ends.specs.CsvChunks.{Misfit, Values, after, chunks_from, field, file_chunks, flagged, flagged_frame, header, in_front, is_header, pieces, read_fields, read_records, read_row, read_rows, text_rows, width}
+use Rattle.pipe_ends.specs.CsvChunks.{Misfit, Values, after, chunks_from, field, flagged, flagged_frame, header, in_front, is_header, pieces, read_fields, read_records, read_row, read_rows, width}
 use Rattle.pipe_ends.specs.CsvError.{StopsBy}
-use Rattle.pipe_ends.specs.Columns.{columns_of, values_from, with_row}
+use Rattle.pipe_ends.specs.Columns.{DoHold, columns_of, values_from, with_row}
+use Rattle.pipe_ends.proofs.HoldFacts.{RowFits, RowsFit, rows-hold, rows-push, value-fits}
 use Rattle.pipe_ends.specs.RecordsLeft.{Records}
 use Rattle.pipe_ends.specs.RowChunks.{AllRead, next_chunk}
-use Rattle.pipe_ends.proofs.PieceFacts.{chunks-fit, chunks-push, columns-flagged, last-piece, length-chunks, number-of-chunks, rows-of-chunks, values-none, values-push, whole-piece}
+use Rattle.pipe_ends.proofs.PieceFacts.{rest-next, value-here, chunks-push, columns-flagged, last-piece, length-chunks, values-none, values-push, whole-piece}
 use Rattle.pipe_ends.proofs.RowFacts.{front-front, front-none, row-same, row-width}
-use Rattle.pipe_ends.proofs.RecordList.{length-records}
 
 -- a text without a record has no header
 pub no_header : (file : ℕ) (fs : List Field) (rest : Records) → rest ≡ [] → read_records file fs rest ≡ Err (header file)
 no_header file fs rest e = rw e refl
 
+-- a first record that isn't the names is no header
 pub other_header : (file : ℕ) (fs : List Field) (rest more : Records) (r : List (List ℕ)) → rest ≡ r ∷ more → is_header fs r ≡ false → read_records file fs rest ≡ Err (header file)
 other_header file fs rest more r e h = rw (e, h) refl
 
+-- the rows stand after the names
 pub same_header : (file : ℕ) (fs : List Field) (rest more : Records) (r : List (List ℕ)) → rest ≡ r ∷ more → is_header fs r ≡ true → read_records file fs rest ≡ read_rows file 1 fs more
 same_header file fs rest more r e h = rw (e, h) refl
 
@@ -44,7 +41,9 @@ pub record RowsDone (n file : ℕ) (fs : List Field) (whole : Result (List Value
   pub made : chunks ≡ chunks_from 0 fs cut
   pub columns : held ≡ values_from 0 fs pending
   pub height : count ≡ length pending
+  pub fit : RowsFit 0 fs pending
 
+-- no row is read yet
 pub rows-start : (n file : ℕ) (fs : List Field) (rest : Records) (columns : List Values) → columns ≡ replicate (length fs) [] → RowsDone n file fs (read_rows file 1 fs rest) 1 rest [] columns 0
 rows-start n file fs rest columns e = record {
   cut = [];
@@ -55,12 +54,14 @@ rows-start n file fs rest columns e = record {
   made = refl;
   columns = e ∙ sym (values-none 0 fs);
   height = refl;
+  fit = tt;
 }
 
 -- a row that stops the reading of rows
 stop-front : (front : List Values) (file row : ℕ) (fs : List Field) (r : List (List ℕ)) (rest more : Records) (m : Misfit) → rest ≡ r ∷ more → read_row file row fs r ≡ Err m → in_front front (read_rows file row fs rest) ≡ Err m
 stop-front front file row fs r rest more m e h = rw (e, h) refl
 
+-- an error stops what has the same misfit
 stops-same : {X Y : Type 0} (e : CsvError) (a : Result X Misfit) (b : Result Y Misfit) → ((m : Misfit) → a ≡ Err m → b ≡ Err m) → StopsBy e a → StopsBy e b
 stops-same (ce.Header file) a b f s = f _ s
 stops-same (ce.Width file row) a b f s = f _ s
@@ -76,15 +77,17 @@ pub row-stops : (n file : ℕ) (fs : List Field) (whole : Result (List Values) M
 row-stops n file fs whole row rest more chunks held count r e d h s =
     stops-same e (read_row file row fs r) whole (λ m k. d.read ∙ stop-front (d.front ++ d.pending) file row fs r rest more m h k) s
 
-same_Ok : {A E : Type 0} (a b : A) → ◌≡◌ {A = Result A E} (Ok a) (Ok b) → a ≡ b
+-- two results that are the same have the same value
+pub same_Ok : {A E : Type 0} (a b : A) → ◌≡◌ {A = Result A E} (Ok a) (Ok b) → a ≡ b
 same_Ok a b e = cc
 
 -- what was read, and what is read after it
-after-ok : {A E : Type 0} (a : Result A E) (rest : Result (List A) E) (all : List A) → after a rest ≡ Ok all → (first : A) × (more : List A) × (a ≡ Ok first) × (rest ≡ Ok more) × (all ≡ first ∷ more)
+pub after-ok : {A E : Type 0} (a : Result A E) (rest : Result (List A) E) (all : List A) → after a rest ≡ Ok all → (first : A) × (more : List A) × (a ≡ Ok first) × (rest ≡ Ok more) × (all ≡ first ∷ more)
 after-ok (Ok first) (Ok more) all e = (first, more, refl, refl, sym (same_Ok (first ∷ more) all e))
 after-ok (Ok first) (Err m) all e = cc
 after-ok (Err m) rest all e = cc
 
+-- there is a value for each field
 length-fields : (file row column : ℕ) (fs : List Field) (ts : List (List ℕ)) (values : Values) → length ts ≡ length fs → read_fields file row column fs ts ≡ Ok values → length values ≡ length fs
 length-fields file row column [] ts values h e = sym (ap length (same_Ok {E = Misfit} [] values e))
 length-fields file row column (f ∷ fs) [] values h e = absurd (omega arith)
@@ -92,10 +95,27 @@ length-fields file row column (f ∷ fs) (t ∷ ts) values h e =
     let parts = after-ok (ok_or (read_field f.dtype t) (field file row column)) (read_fields file row (column + 1) fs ts) values e in
     ap length parts.4 ∙ ap (λ n. suc n) (length-fields file row (column + 1) fs ts parts.1 (omega arith) parts.3)
 
+-- a row that is read has a value for each field
 length-row : (file row : ℕ) (fs : List Field) (ts : List (List ℕ)) (values : Values) (b : Bool) → (length ts == length fs) ≡ b → read_row file row fs ts ≡ Ok values → length values ≡ length fs
 length-row file row fs ts values true s e = let h : length ts ≡ length fs = (Decides-eqb (length ts) (length fs)).0 s in length-fields file row 1 fs ts values h (sym (row-same file row fs ts h) ∙ e)
 length-row file row fs ts values false s e = let f : Err (width file row) ≡ Ok values = sym (row-width file row fs ts (λ h. absurd (false≢true (sym s ∙ eq-eqb (length ts) (length fs) h)))) ∙ e in cc
 
+-- the values of fields fit, from a column on
+fields-fit : (file row column i : ℕ) (fs : List Field) (ts : List (List ℕ)) (all values : Values) → values ≡ drop i all → length ts ≡ length fs → read_fields file row column fs ts ≡ Ok values → RowFits i fs all
+fields-fit file row column i [] ts all values d h e = tt
+fields-fit file row column i (f ∷ fs) [] all values d h e = absurd (omega arith)
+fields-fit file row column i (f ∷ fs) (t ∷ ts) all values d h e =
+    let parts = after-ok (ok_or (read_field f.dtype t) (field file row column)) (read_fields file row (column + 1) fs ts) values e in
+    let here : parts.0 ≡ value_at all i = value-here all i parts.0 parts.1 (sym parts.4 ∙ d) in
+    let tail : parts.1 ≡ drop (i + 1) all = rest-next all i parts.0 parts.1 (sym parts.4 ∙ d) in
+    (rw (← here) (value-fits f t (field file row column) parts.0 parts.2), fields-fit file row (column + 1) (i + 1) fs ts all parts.1 tail (omega arith) parts.3)
+
+-- the values of a row that is read fit the schema
+row-fits : (file row : ℕ) (fs : List Field) (ts : List (List ℕ)) (values : Values) (b : Bool) → (length ts == length fs) ≡ b → read_row file row fs ts ≡ Ok values → RowFits 0 fs values
+row-fits file row fs ts values true s e = let h : length ts ≡ length fs = (Decides-eqb (length ts) (length fs)).0 s in fields-fit file row 1 0 fs ts values values refl h (sym (row-same file row fs ts h) ∙ e)
+row-fits file row fs ts values false s e = let f : Err (width file row) ≡ Ok values = sym (row-width file row fs ts (λ h. absurd (false≢true (sym s ∙ eq-eqb (length ts) (length fs) h)))) ∙ e in cc
+
+-- the values of the next row stand before those after it
 next-row : (file row : ℕ) (fs : List Field) (rest more : Records) (r : List (List ℕ)) (values : Values) → rest ≡ r ∷ more → read_row file row fs r ≡ Ok values → read_rows file row fs rest ≡ in_front (values ∷ []) (read_rows file (row + 1) fs more)
 next-row file row fs rest more r values e h = rw (e, h) refl
 
@@ -113,6 +133,7 @@ row-more n file fs whole row rest more chunks held now count r values d h e p =
       made = d.made;
       columns = p ∙ ap (with_row values) d.columns ∙ values-push fs d.pending values (length-row file row fs r values (length r == length fs) refl e);
       height = omega (arith, length-append d.pending (values ∷ []), d.height);
+      fit = rows-push 0 fs d.pending values d.fit (row-fits file row fs r values (length r == length fs) refl e);
     }
 
 -- a chunk of columns is that of their rows
@@ -140,8 +161,10 @@ chunk-more n file fs whole row rest chunks all held now count d p h a e = record
   made = a ∙ chunk-is fs d.cut d.pending chunks held count d.made d.columns d.height;
   columns = e ∙ sym (values-none 0 fs);
   height = refl;
+  fit = tt;
 }
 
+-- no row is left
 rows-over : (front : List Values) (file row : ℕ) (fs : List Field) (rest : Records) → rest ≡ [] → in_front front (read_rows file row fs rest) ≡ Ok front
 rows-over front file row fs rest e = rw e (ap Ok (append-nil front))
 
@@ -165,44 +188,9 @@ rows-last n file fs whole row rest chunks all held count d h p l a = (
       ∙ ap (chunks_from 0 fs) (sym (d.piece d.pending ∙ ap (λ (t : List (List Values)). d.cut ++ t) (last-piece n d.pending (omega (arith, d.height)) (omega (arith, d.height))))),
 )
 
-length-rows : (file row : ℕ) (fs : List Field) (rest : Records) (rows : List Values) → read_rows file row fs rest ≡ Ok rows → length rows ≡ length rest
-length-rows file row fs [] rows e = sym (ap length (same_Ok {E = Misfit} [] rows e))
-length-rows file row fs (r ∷ rs) rows e =
-    let parts = after-ok (read_row file row fs r) (read_rows file (row + 1) fs rs) rows e in
-    ap length parts.4 ∙ ap (λ n. suc n) (length-rows file (row + 1) fs rs parts.1 parts.3)
-
-length-under : (file : ℕ) (fs : List Field) (rest : Records) (rows : List Values) (b : Bool) (r : List (List ℕ)) → is_header fs r ≡ b → read_records file fs (r ∷ rest) ≡ Ok rows → length rows ≤ length rest
-length-under file fs rest rows true r h e = let f : read_rows file 1 fs rest ≡ Ok rows = sym (same_header file fs (r ∷ rest) rest r refl h) ∙ e in omega (arith, length-rows file 1 fs rest rows f)
-length-under file fs rest rows false r h e = let f : Err (header file) ≡ Ok rows = sym (other_header file fs (r ∷ rest) rest r refl h) ∙ e in cc
-
-length-read : (file : ℕ) (fs : List Field) (rest : Records) (rows : List Values) → read_records file fs rest ≡ Ok rows → length rows ≤ length rest
-length-read file fs [] rows e = cc
-length-read file fs (r ∷ rest) rows e = omega (arith, length-under file fs rest rows (is_header fs r) r refl e)
-
-length-strip : (text : List ℕ) → length (strip_bom text) ≤ length text
-unfolding strip_bom
-length-strip [] = omega arith
-length-strip (a ∷ []) = omega arith
-length-strip (a ∷ b ∷ []) = omega arith
-length-strip (a ∷ b ∷ c ∷ rest) = stripped (is_bom a b c) where
-  stripped : (t : Bool) → length (if t then rest else a ∷ b ∷ c ∷ rest) ≤ length (a ∷ b ∷ c ∷ rest)
-  stripped true = omega arith
-  stripped false = omega arith
-
--- a text has no more rows than bytes
-pub length-text : (file : ℕ) (fs : List Field) (text : List ℕ) (rows : List Values) → text_rows file fs text ≡ Ok rows → length rows ≤ length text
-length-text file fs text rows e =
-    let xs : List ℕ = strip_bom text in
-    omega (arith, length-read file fs (records default_config xs) rows e, length-records default_config (length xs + 1) st.StartRecord xs tt, length-strip text)
-
--- the chunks of a text have its schema
-pub read-fits : (n file : ℕ) (fs : List Field) (whole : Result (List Values) Misfit) (chunks : List DataChunk) → AllRead n fs whole chunks → All (λ (c : DataChunk). FitsSchema fs c.frame) chunks
-read-fits n file fs whole chunks a = All-same (λ (c : DataChunk). FitsSchema fs c.frame) chunks (file_chunks 0 n fs a.0) a.2 (chunks-fit n fs a.0)
-
--- the chunks of a text have no more rows than it has bytes
-pub read-few : (n file : ℕ) (fs : List Field) (text : List ℕ) (chunks : List DataChunk) → AllRead n fs (text_rows file fs text) chunks → sum_by (λ (c : DataChunk). c.frame.height) chunks ≤ length text
-read-few n file fs text chunks a = omega (arith, ap (sum_by (λ (c : DataChunk). c.frame.height)) a.2, rows-of-chunks n fs a.0, length-text file fs text a.0 a.1)
-
--- there are no more chunks of a text than bytes
-pub read-number : (n file : ℕ) (fs : List Field) (text : List ℕ) (chunks : List DataChunk) → AllRead n fs (text_rows file fs text) chunks → length chunks ≤ length text
-read-number n file fs text chunks a = omega (arith, ap length a.2, number-of-chunks n fs a.0, length-text file fs text a.0 a.1)
+-- the columns hold what fits the schema
+pub done-hold : (n file : ℕ) (fs : List Field) (whole : Result (List Values) Misfit) (row : ℕ) (rest : Records) (chunks : List DataChunk) (held : List Values) (count : ℕ) → RowsDone n file fs whole row rest chunks held count → DoHold count fs held
+done-hold n file fs whole row rest chunks held count d =
+    let P : List Values → Type 0 = λ t. DoHold count fs t in
+    let Q : ℕ → Type 0 = λ t. DoHold t fs (values_from 0 fs d.pending) in
+    subst P (sym d.columns) (subst Q (sym d.height) (rows-hold 0 fs d.pending d.fit))

@@ -20,26 +20,33 @@ either : (b : Bool) (x y : State × Action) → EndsBetween x → EndsBetween y 
 either true x y p q = p
 either false x y p q = q
 
+-- after a line's end a reader stands between two records
 either_state : (b : Bool) → IsBetween (if b then st.AfterCr else st.StartRecord)
 either_state true = tt
 either_state false = tt
 
+-- so it does after each terminator
 after_end-between : (t : Terminator) (c : ℕ) → IsBetween (after_end t c)
 after_end-between term.CRLF c = either_state (c == carriage_return)
 after_end-between (term.Any t) c = tt
 
+-- an action that ends no record
 no_end : {P : Type 0} → false ≡ true → P
 no_end e = cc e
 
+-- a byte within a field
 in_field-ends : (cfg : Config) (c : ℕ) → EndsBetween (in_field cfg c)
 in_field-ends cfg c = either (c == cfg.delimiter) _ _ no_end (either (ends_with cfg.terminator c) _ _ (λ _. after_end-between cfg.terminator c) no_end)
 
+-- a byte at the start of a field
 start_field-ends : (cfg : Config) (c : ℕ) → EndsBetween (start_field cfg c)
 start_field-ends cfg c = either (cfg.quoting && (c == cfg.quote)) _ _ no_end (in_field-ends cfg c)
 
+-- a byte at the start of a record
 start_record-ends : (cfg : Config) (c : ℕ) → EndsBetween (start_record cfg c)
 start_record-ends cfg c = either (ends_with cfg.terminator c) _ _ no_end (either (is_byte cfg.comment c) _ _ no_end (start_field-ends cfg c))
 
+-- a step that ends a record leads between two, from each state
 step-ends : (cfg : Config) (s : State) (c : ℕ) → EndsBetween (step cfg s c)
 step-ends cfg st.StartRecord c = start_record-ends cfg c
 step-ends cfg st.StartField c = start_field-ends cfg c
@@ -55,18 +62,22 @@ pub record Leaves (n : ℕ) (p : Read) : Type 0 where
   pub bytes : length p.2 ≤ n
   pub between : IsBetween p.1
 
+-- what a read leaves, where there was a record
 abbrev IfRead : ℕ → Option Read → Type 0
 IfRead n None = ⊤
 IfRead n (Some p) = Leaves n p
 
+-- the end of a text leaves no byte
 at_end : (b : Bool) (fields : List (List ℕ)) → IfRead 0 (if b then Some (fields, st.StartRecord, []) else None)
 at_end true fields = record { bytes = omega arith; between = tt }
 at_end false fields = tt
 
+-- what leaves n bytes at most leaves m at most
 more-bytes : (n m : ℕ) (o : Option Read) → n ≤ m → IfRead n o → IfRead m o
 more-bytes n m None h r = tt
 more-bytes n m (Some p) h r = record { bytes = omega (arith, r.bytes); between = r.between }
 
+-- one byte ends the record, or the rest does
 one_byte : (cfg : Config) (s : State) (c : ℕ) (fields : List (List ℕ)) (rest : List ℕ) (o : Option Read) (b : Bool)
     → is_end (step cfg s c).1 ≡ b → IfRead (length rest) o → IfRead (length rest) (if b then Some (fields, (step cfg s c).0, rest) else o)
 one_byte cfg s c fields rest o true e h = record { bytes = omega arith; between = step-ends cfg s c e }
@@ -86,6 +97,7 @@ unfolding next_record
 leaves-less cfg s c rest = one_byte cfg s c _ rest _ (is_end (step cfg s c).1) refl
     (read-leaves cfg (step cfg s c).0 (fields_after (step cfg s c).1 [] []) (field_after (step cfg s c).1 c []) rest)
 
+-- at the end of a text there is no record
 ends-none : (cfg : Config) (s : State) → IsBetween s → next_record cfg s [] [] [] ≡ None
 unfolding next_record
 ends-none cfg st.StartRecord b = refl
@@ -128,6 +140,7 @@ all-some cfg s xs p b e =
     let first : records_from cfg (length xs + 1) s xs ≡ p.0 ∷ records_from cfg (length xs) p.1 p.2 = rw (add-one, e) refl in
     first ∙ ap (λ (t : Records). p.0 ∷ t) (enough_turns cfg (length xs) (length p.2 + 1) p.1 p.2 l.1 (omega arith) (omega arith))
 
+-- there are no more records than bytes, as a read and those after it
 length-next : (cfg : Config) (n : ℕ) (s : State) (xs : List ℕ) (o : Option Read) → IsBetween s → next_record cfg s [] [] xs ≡ o → ((p : Read) → IsBetween p.1 → length (records_from cfg n p.1 p.2) ≤ length p.2) → length (records_next (records_from cfg n) o) ≤ length xs
 length-next cfg n s xs None b e more = omega arith
 length-next cfg n s xs (Some p) b e more = let l = between-leaves cfg s xs p b e in omega (arith, l.0, more p l.1)

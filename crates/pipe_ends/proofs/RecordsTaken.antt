@@ -1,8 +1,7 @@
 -- What a reader of CSV has left to give.
-use Rattle.std.proofs.Common.{◌≡◌, ◌∙◌, ℕ, List, [], ◌∷◌, ◌++◌, Bor, Bool, true, false, Some, Option, refl, sym, ap}
-use Rattle.csv.specs.Machine.{Read, next_record}
-use Rattle.csv.specs.Reading.{Reached, ReadRecord, Ready, ReadsOn, default_config, source_of}
-use Rattle.csv.specs.declared.parser.Config.{Config}
+use Rattle.std.proofs.Common.{◌≡◌, ◌∙◌, ℕ, List, [], ◌∷◌, Bor, Bool, true, false, Some, Option, refl, sym, ap}
+use Rattle.csv.specs.Machine.{Read}
+use Rattle.csv.specs.Reading.{Reached, ReadRecord, ReadsOn, default_config}
 use Rattle.csv.specs.declared.reader.Reader.{Reader}
 use Rattle.csv.specs.declared.parser.State.{State}
 use Rattle.csv.proofs.ReadFacts.{rows-end, rows-more}
@@ -13,9 +12,11 @@ use Rattle.pipe_ends.proofs.RecordList.{all-none, all-some, between-leaves}
 abbrev pub slice_left : Bor (List ℕ) → Option (List ℕ)
 slice_left s = Some s.now
 
+-- what is left, by its bytes
 left-is : (r : Reader (Bor (List ℕ))) (xs : List ℕ) → bytes_left r ≡ Some xs → records_left r ≡ all_from default_config r.state xs
 left-is r xs e = rw e refl
 
+-- a record, and those after it
 go_on : (f : List (List ℕ)) (p : Read) (s : State) (z : List ℕ) → f ≡ p.0 → p.1 ≡ s → p.2 ≡ z → p.0 ∷ all_from default_config p.1 p.2 ≡ f ∷ all_from default_config s z
 go_on f p s z e1 e2 e3 = rw (e2, e3, ← e1) refl
 
@@ -48,10 +49,12 @@ pub takes : (a b : Reader (Bor (List ℕ))) (found : Bool) (f : List (List ℕ))
 takes a b true f l r on = takes-some a b f l r (on refl)
 takes a b false f l r on = takes-none a b f l r
 
+-- a record that was found was the first of those left
 pub took : (a b : Reader (Bor (List ℕ))) (found : Bool) (f : List (List ℕ)) → found ≡ true → Takes a b found f → IsReading b × (records_left a ≡ f ∷ records_left b)
 took a b true f e h = h
 took a b false f e h = cc
 
+-- none was left where none was found
 pub took_none : (a b : Reader (Bor (List ℕ))) (found : Bool) (f : List (List ℕ)) → found ≡ false → Takes a b found f → records_left a ≡ []
 took_none a b true f e h = cc
 took_none a b false f e h = h

@@ -1,5 +1,5 @@
 -- Reading the fields of a row, one after the other.
-use Rattle.std.proofs.Common.{◌≡◌, ◌∙◌, ◌≢◌, ◌≤◌, ◌<◌, ◌+◌, ◌==◌, ◌&&◌, ℕ, zero, suc, List, [], ◌∷◌, ◌++◌, length, drop, get_or, Bor, IsSome, Bool, true, false, not, Option, Some, None, Result, Ok, Err, refl, sym, ap, arith, eq-eqb}
+use Rattle.std.proofs.Common.{◌≡◌, ◌∙◌, ◌≢◌, ◌≤◌, ◌<◌, ◌+◌, ◌&&◌, ℕ, zero, suc, List, [], ◌∷◌, ◌++◌, length, drop, get_or, Bor, IsSome, Bool, true, false, not, Option, Some, None, Result, Ok, Err, refl, sym, ap, arith, eq-eqb}
 use Rattle.std.specs.Option.{ok_or, option_map}
 use Rattle.std.proofs.lemmas.Option.{none-some, same_Some}
 use Rattle.std.specs.Str.{bytes_eq}
@@ -23,11 +23,13 @@ pub get-some : (ts : List (List ℕ)) (i : ℕ) (o : Option (Bor (List ℕ))) �
 get-some ts i None h e = absurd (none-some (get_or ts i []) (e ∙ field_at-get_or ts i h))
 get-some ts i (Some b) h e = refl
 
+-- what `get` reads there
 pub get-reads : (ts : List (List ℕ)) (i : ℕ) (o : Option (Bor (List ℕ))) (b : Bor (List ℕ)) → i < length ts → option_map (λ s. s.now) o ≡ field_at ts i → o ≡ Some b → b.now ≡ get_or ts i b.now
 get-reads ts i o b h e g =
     let same : Some b.now ≡ Some (get_or ts i []) = sym (ap (option_map (λ (s : Bor (List ℕ)). s.now)) g) ∙ e ∙ field_at-get_or ts i h in
     same_Some b.now (get_or ts i []) same ∙ get_or_default ts i [] b.now h
 
+-- a test fails where its second part does
 no_and : (a b : Bool) → false ≡ b → false ≡ (a && b)
 no_and true b e = e
 no_and false b e = refl
@@ -47,6 +49,7 @@ header-step fs ts i f t h k e g =
     let b : drop i ts ≡ t ∷ drop (i + 1) ts = drop_more ts i t k ∙ ap (λ (x : List ℕ). x ∷ drop (i + 1) ts) (sym g) in
     rw (a, b) refl
 
+-- what a comparison that is turned round tells
 not-same : (a b n t : List ℕ) (r x : Bool) → a ≡ n → r ≡ not (bytes_eq a t) → r ≡ x → bytes_eq n t ≡ not x
 not-same a b n t r x e f g = let h : not (bytes_eq n t) ≡ x = ap (λ (y : List ℕ). not (bytes_eq y t)) (sym e) ∙ sym f ∙ g in twice (bytes_eq n t) x h where
   twice : (p q : Bool) → not p ≡ q → p ≡ not q
@@ -63,10 +66,12 @@ header-stop a n t r whole now rest e f g h k = let same : bytes_eq n t ≡ false
 pub header-more : (a n t : List ℕ) (r whole now rest : Bool) → whole ≡ now → now ≡ (bytes_eq n t && rest) → a ≡ n → r ≡ not (bytes_eq a t) → r ≡ false → whole ≡ rest
 header-more a n t r whole now rest e f g h k = let same : bytes_eq n t ≡ true = not-same a a n t r false g h k in e ∙ f ∙ rw same refl
 
+-- nothing in front changes nothing
 pub front-none : {A E : Type 0} (r : Result (List A) E) → r ≡ in_front [] r
 front-none (Ok rest) = refl
 front-none (Err e) = refl
 
+-- what stands in front of what stands in front
 pub front-front : {A E : Type 0} (a b : List A) (r : Result (List A) E) → in_front a (in_front b r) ≡ in_front (a ++ b) r
 front-front a b (Ok rest) = ap Ok (sym (append_assoc a b rest))
 front-front a b (Err e) = refl
@@ -87,6 +92,7 @@ fields-end file row column fs ts e = rw e refl
 pub row-width : (file row : ℕ) (fs : List Field) (ts : List (List ℕ)) → length ts ≢ length fs → read_row file row fs ts ≡ Err (width file row)
 row-width file row fs ts h = rw (ne_eqb (length ts) (length fs) h) refl
 
+-- a record of that length is read field by field
 pub row-same : (file row : ℕ) (fs : List Field) (ts : List (List ℕ)) → length ts ≡ length fs → read_row file row fs ts ≡ read_fields file row 1 fs ts
 row-same file row fs ts h = rw (eq-eqb (length ts) (length fs) h) refl
 
@@ -95,6 +101,7 @@ pub record FieldsDone (file row : ℕ) (fs : List Field) (ts : List (List ℕ)) 
   pub count : length done ≡ i
   pub read : read_row file row fs ts ≡ in_front done (read_fields file row (i + 1) (drop i fs) (drop i ts))
 
+-- no field is read yet
 pub done-start : (file row : ℕ) (fs : List Field) (ts : List (List ℕ)) → length ts ≡ length fs → FieldsDone file row fs ts 0 []
 done-start file row fs ts h = record { count = refl; read = row-same file row fs ts h ∙ front-none (read_fields file row 1 fs ts) }
 

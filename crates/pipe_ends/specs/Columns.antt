@@ -1,8 +1,7 @@
 -- Rows as columns.
-use Rattle.std.specs.Prelude.{ℕ, ◌+◌, List, [], ◌∷◌, ◌++◌, map}
-use Rattle.pipe_columns.specs.declared.any_value.AnyValue.{AnyValue}
+use Rattle.std.specs.Prelude.{◌≡◌, ℕ, ◌+◌, List, [], ◌∷◌, ◌++◌, length, map, ⊤}
 use Rattle.pipe_columns.specs.declared.schema.Field.{Field}
-use Rattle.pipe_columns.specs.Frame.{ColumnData, value_at}
+use Rattle.pipe_columns.specs.Frame.{AllFit, ColumnData, value_at}
 use Rattle.pipe_ends.specs.CsvChunks.{Values, is_ascending}
 
 -- lists of values with one more value at the end of each
@@ -25,3 +24,9 @@ abbrev pub columns_of : List Field → List Values → List ColumnData
 columns_of [] columns = []
 columns_of (f ∷ fs) [] = []
 columns_of (f ∷ fs) (c ∷ cs) = column_of f c ∷ columns_of fs cs
+
+-- each column has so many values, and they fit its field
+abbrev pub DoHold : ℕ → List Field → List Values → Type 0
+DoHold n [] columns = ⊤
+DoHold n (f ∷ fs) [] = ⊥
+DoHold n (f ∷ fs) (c ∷ cs) = AllFit f.dtype c × (length c ≡ n) × DoHold n fs cs

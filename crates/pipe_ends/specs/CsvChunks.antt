@@ -24,6 +24,7 @@ pub data Misfit : Type 0 where
   -- a field doesn't read
   field : ℕ → ℕ → ℕ → Misfit
 
+-- the values of a row or of a column
 abbrev pub Values : Type 0
 Values = List AnyValue
 

@@ -1,8 +1,8 @@
 -- Which error tells where the text of a file doesn't fit.
-use Rattle.std.specs.Prelude.{◌≡◌, List, Result, Err, ⊤}
+use Rattle.std.specs.Prelude.{◌≡◌, Result, Err, ⊤}
 use Rattle.pipe_ends.specs.declared.csv_error.CsvError.{CsvError}
 use Rattle.pipe_ends.specs.declared.csv_error.CsvError.TheVariants as ce
-use Rattle.pipe_ends.specs.CsvChunks.{Misfit, header, width, field, Values}
+use Rattle.pipe_ends.specs.CsvChunks.{Misfit, header, width, field}
 
 -- an error of the text names its first misfit, and any text may want for memory
 abbrev pub StopsBy : {X : Type 0} → CsvError → Result X Misfit → Type 0

@@ -30,11 +30,13 @@ read_number (b ∷ bs) =
 abbrev pub read_int : DataType → List ℕ → Option AnyValue
 read_int t text = option_and_then (λ n. if fits_number n t then Some (av.Int n) else None) (read_number text)
 
+-- the text of a truth value
 abbrev pub read_boolean : List ℕ → Option AnyValue
 read_boolean text =
     if bytes_eq text (codes "true") then Some (av.Boolean true)
     else (if bytes_eq text (codes "false") then Some (av.Boolean false) else None)
 
+-- a text in UTF-8
 abbrev pub read_text : List ℕ → Option AnyValue
 read_text text = if is_utf8 text then Some (av.Text text) else None
 

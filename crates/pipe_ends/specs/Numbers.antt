@@ -15,9 +15,13 @@ within_magnitude n = if nat_le n (2 ^ 127) then Some n else None
 abbrev pub read_magnitude : List ℕ → Option ℕ
 read_magnitude digits = option_and_then within_magnitude (read_digits digits)
 
--- a number of 128 bits
+-- a number in the range of 128 bits
+abbrev pub within_int128 : ℤ → Option ℤ
+within_int128 n = if fits_number n dt.Int128 then Some n else None
+
+-- a number of 128 bits, as a text writes it
 abbrev pub read_int128 : List ℕ → Option ℤ
-read_int128 text = option_and_then (λ n. if fits_number n dt.Int128 then Some n else None) (read_number text)
+read_int128 text = option_and_then within_int128 (read_number text)
 
 -- a number as a value of a type, where it is in its range
 abbrev pub narrowed : DataType → ℤ → Option AnyValue

@@ -1,8 +1,9 @@
-ghost use Rattle.std.specs.Prelude.{[], replicate, ◌≡◌, IfErr, IfOk, Ok, length, map, not, vec_len};
+ghost use Rattle.std.specs.Prelude.{[], ◌≡◌, IfErr, IfOk, Ok, length, map, replicate, vec_len};
 ghost use Rattle.std.specs.Ordering.{is_lt};
 ghost use Rattle.csv.specs.Records.{fields_of};
 ghost use Rattle.pipe_columns.specs.AnyValue.{value_cmp};
-ghost use Rattle.pipe_ends.specs.Columns.{column_of, columns_of, with_row};
+ghost use Rattle.pipe_columns.specs.Frame.{AllFit};
+ghost use Rattle.pipe_ends.specs.Columns.{DoHold, column_of, columns_of, with_row};
 ghost use Rattle.pipe_ends.specs.CsvChunks.{Values, is_ascending, read_row};
 ghost use Rattle.pipe_ends.specs.CsvError.{StopsBy};
 
@@ -40,9 +41,13 @@ pub fn push_record(
     row: usize,
 ) -> Result<(), CsvError>
     requires { vec_len columns.old ≡ length fields.now }
-    ensures pushed { IfOk result (λ _. (values : Values) × (read_row file row fields.now (fields_of entry.now) ≡ Ok values) × (map (λ c. c.items) columns.new.items ≡ with_row values (map (λ c. c.items) columns.old.items))) }
+    ensures pushed { IfOk result (λ _. (values : Values)
+        × (read_row file row fields.now (fields_of entry.now) ≡ Ok values)
+        × (map (λ c. c.items) columns.new.items
+        ≡ with_row values (map (λ c. c.items) columns.old.items))) }
     ensures width { vec_len columns.new ≡ length fields.now }
-    ensures stop { IfErr result (λ e. StopsBy e (read_row file row fields.now (fields_of entry.now))) }
+    ensures stop { IfErr result
+        (λ e. StopsBy e (read_row file row fields.now (fields_of entry.now))) }
 {
     if entry.len() != fields.len() {
         return Err(CsvError::Width { file, row });
@@ -86,11 +91,12 @@ fn is_ascending(values: &[AnyValue]) -> bool
 }
 
 fn make_column(alloc: Global, field: &Field, values: Vec<AnyValue>) -> Result<Column, AllocError>
+    requires { AllFit field.now.dtype values.items }
     ensures { IfOk result (λ c. c ≡ column_of field.now values.items) }
 {
     let name = field.name.try_clone(alloc)?;
     let sorted = is_ascending(&values);
-    Column::new(name, field.dtype, sorted, values).ok_or(AllocError)
+    Ok(Column::new(name, field.dtype, sorted, values).unwrap())
 }
 
 /// A chunk of the values of columns, which are left empty.
@@ -101,8 +107,15 @@ pub fn make_chunk(
     height: usize,
     chunk_index: u32,
 ) -> Result<DataChunk, AllocError>
-    requires { vec_len columns.old ≡ length fields.now }
-    ensures { IfOk result (λ chunk. chunk ≡ record { chunk_index = chunk_index; frame = record { height = height; columns = columns_of fields.now (map (λ c. c.items) columns.old.items) } }) }
+    requires width { vec_len columns.old ≡ length fields.now }
+    requires hold { DoHold height fields.now (map (λ c. c.items) columns.old.items) }
+    ensures { IfOk result (λ chunk. chunk ≡ record {
+      chunk_index = chunk_index;
+      frame = record {
+        height = height;
+        columns = columns_of fields.now (map (λ c. c.items) columns.old.items);
+      };
+    }) }
 {
     let mut made = Vec::with_capacity(alloc, fields.len())?;
     for (i, field) in fields.iter().enumerate() {
@@ -111,8 +124,6 @@ pub fn make_chunk(
             return Err(AllocError);
         }
     }
-    match DataFrame::new(height, made) {
-        Some(frame) => Ok(DataChunk { chunk_index, frame }),
-        None => Err(AllocError),
-    }
+    let frame = DataFrame::new(height, made).unwrap();
+    Ok(DataChunk { chunk_index, frame })
 }

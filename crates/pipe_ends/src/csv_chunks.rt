@@ -1,7 +1,8 @@
-ghost use Rattle.std.specs.Prelude.{Ok, ◌<◌, ◌≡◌, ◌≤◌, IfErr, IfOk, List, OnOk, length, map, replicate, sum_by, vec_len, [], ◌++◌, ◌∷◌, ◌%◌, ◌^◌};
+ghost use Rattle.std.specs.Prelude.{[], ◌++◌, ◌<◌, ◌≡◌, ◌≤◌, ◌∷◌, IfErr, IfOk, List, Ok, OnOk};
+ghost use Rattle.std.specs.Prelude.{length, map, sum_by, vec_len};
 ghost use Rattle.std.specs.List.{All};
 ghost use Rattle.pipe_columns.specs.Frame.{FitsSchema};
-ghost use Rattle.pipe_ends.specs.Columns.{columns_of};
+ghost use Rattle.pipe_ends.specs.Columns.{DoHold};
 ghost use Rattle.pipe_ends.specs.CsvChunks.{Values, file_chunks, read_rows, text_rows};
 ghost use Rattle.pipe_ends.specs.CsvError.{StopsBy};
 ghost use Rattle.pipe_ends.specs.RowChunks.{AllRead, next_chunk};
@@ -25,8 +26,11 @@ fn push_chunk(
     columns: &mut Vec<Vec<AnyValue>>,
     height: usize,
 ) -> Result<(), AllocError>
-    requires { vec_len columns.old ≡ length fields.now }
-    ensures { OnOk result (chunks.new.items ≡ chunks.old.items ++ (next_chunk fields.now chunks.old.items (map (λ c. c.items) columns.old.items) height ∷ [])) }
+    requires width { vec_len columns.old ≡ length fields.now }
+    requires hold { DoHold height fields.now (map (λ c. c.items) columns.old.items) }
+    ensures { OnOk result (let values = map (λ c. c.items) columns.old.items in
+        chunks.new.items
+        ≡ chunks.old.items ++ (next_chunk fields.now chunks.old.items values height ∷ [])) }
 {
     let chunk_index = (chunks.len() % 4294967296) as u32;
     let chunk = make_chunk(alloc, fields, columns, height, chunk_index)?;
@@ -46,8 +50,10 @@ fn read_rows(
 ) -> Result<Vec<DataChunk>, CsvError>
     requires reading { IsReading reader.old }
     requires size { 0 < chunk_size }
-    ensures chunks { IfOk result (λ v. AllRead chunk_size fields.now (read_rows file 1 fields.now (records_left reader.old)) v.items) }
-    ensures stop { IfErr result (λ e. StopsBy e (read_rows file 1 fields.now (records_left reader.old))) }
+    ensures chunks { IfOk result (λ v. let rows = records_left reader.old in
+        AllRead chunk_size fields.now (read_rows file 1 fields.now rows) v.items) }
+    ensures stop { IfErr result
+        (λ e. StopsBy e (read_rows file 1 fields.now (records_left reader.old))) }
 {
     let room = chunk_size.min(MOST_ROOM);
     let mut entry = ByteRecord::new(alloc);
@@ -92,7 +98,9 @@ pub fn read_chunks(
     chunk_size: usize,
 ) -> Result<Vec<DataChunk>, CsvError>
     requires { 0 < chunk_size }
-    ensures chunks { IfOk result (λ v. (rows : List Values) × (text_rows file schema.now text.now ≡ Ok rows) × (v.items ≡ file_chunks 0 chunk_size schema.now rows)) }
+    ensures chunks { IfOk result (λ v. (rows : List Values)
+        × (text_rows file schema.now text.now ≡ Ok rows)
+        × (v.items ≡ file_chunks 0 chunk_size schema.now rows)) }
     ensures stop { IfErr result (λ e. StopsBy e (text_rows file schema.now text.now)) }
     ensures columns { IfOk result (λ v. All (λ c. FitsSchema schema.now c.frame) v.items) }
     ensures few { IfOk result (λ v. sum_by (λ c. c.frame.height) v.items ≤ length text.now) }

@@ -1,6 +1,6 @@
-ghost use Rattle.std.specs.Prelude.{◌≡◌, ◌≤◌, length};
+ghost use Rattle.std.specs.Prelude.{◌^◌, ◌≡◌, ◌≤◌, IfSome, Some, length, neg_ℤ, option_and_then, pos};
 ghost use Rattle.pipe_ends.specs.Fields.{read_digits};
-ghost use Rattle.pipe_ends.specs.Numbers.{read_int128, read_magnitude};
+ghost use Rattle.pipe_ends.specs.Numbers.{read_int128, read_magnitude, within_int128};
 
 /// So many digits fit into 64 bits.
 const SHORT: usize = 18;
@@ -63,6 +63,29 @@ fn read_unsigned(digits: &[u8]) -> Option<u128>
     }
 }
 
+/// A magnitude as a number that isn't below 0.
+fn positive(magnitude: Option<u128>) -> Option<i128>
+    requires { IfSome magnitude (λ n. n ≤ 2 ^ 127) }
+    ensures { result ≡ option_and_then (λ n. within_int128 (pos n)) magnitude }
+{
+    match magnitude {
+        Some(number) if number < GREATEST => Some(number as i128),
+        _ => None,
+    }
+}
+
+/// A magnitude as a number below 0, or 0.
+fn negative(magnitude: Option<u128>) -> Option<i128>
+    requires { IfSome magnitude (λ n. n ≤ 2 ^ 127) }
+    ensures { result ≡ option_and_then (λ n. Some (neg_ℤ (pos n))) magnitude }
+{
+    match magnitude {
+        Some(number) if number < GREATEST => Some(-(number as i128)),
+        Some(_) => Some(i128::MIN),
+        None => None,
+    }
+}
+
 /// The number of 128 bits that a text writes: one sign at most, then digits.
 pub fn read_int128(text: &[u8]) -> Option<i128>
     ensures { result ≡ read_int128 text.now }
@@ -72,30 +95,5 @@ pub fn read_int128(text: &[u8]) -> Option<i128>
         [b'+', digits @ ..] => positive(read_unsigned(digits)),
         [b'-', digits @ ..] => negative(read_unsigned(digits)),
         digits => positive(read_unsigned(digits)),
-    }
-}
-
-ghost use Rattle.std.specs.Prelude.{◌^◌, Option, Some, None, IfSome, option_and_then, pos, neg_ℤ, if◌then◌else◌};
-ghost use Rattle.pipe_columns.specs.AnyValue.{fits_number};
-ghost use Rattle.pipe_columns.specs.declared.data_type.DataType.TheVariants as dt;
-
-fn positive(magnitude: Option<u128>) -> Option<i128>
-    requires { IfSome magnitude (λ n. n ≤ 2 ^ 127) }
-    ensures { result ≡ option_and_then (λ n. if fits_number (pos n) dt.Int128 then Some (pos n) else None) magnitude }
-{
-    match magnitude {
-        Some(number) if number < GREATEST => Some(number as i128),
-        _ => None,
-    }
-}
-
-fn negative(magnitude: Option<u128>) -> Option<i128>
-    requires { IfSome magnitude (λ n. n ≤ 2 ^ 127) }
-    ensures { result ≡ option_and_then (λ n. Some (neg_ℤ (pos n))) magnitude }
-{
-    match magnitude {
-        Some(number) if number < GREATEST => Some(-(number as i128)),
-        Some(_) => Some(i128::MIN),
-        None => None,
     }
 }

@@ -1,4 +1,4 @@
-use Rattle.std.proofs.Common.{◌≡◌, ◌∙◌, ◌+◌, ◌<◌, ◌≤◌, Vec, Global, List, ℕ, arith, refl, sym, ap, rules, length, map, replicate, [], not, true, false, Bool, Result, Ok, Err, vec_len}
+use Rattle.std.proofs.Common.{◌≡◌, ◌∙◌, ◌+◌, Vec, Global, ℕ, arith, ap, length, replicate, [], not, true, Result, Ok, Err, vec_len}
 use Rattle.std.specs.Result.{OnOk, is_ok}
 use Rattle.std.proofs.lemmas.List.{length-map, length-replicate}
 use Rattle.csv.specs.Records.{fields_of}
@@ -8,7 +8,7 @@ use Rattle.pipe_ends.specs.CsvChunks.{Values, read_rows}
 use Rattle.pipe_ends.specs.RecordsLeft.{records_left}
 use Rattle.pipe_ends.proofs.ColumnFacts.{items_of}
 use Rattle.pipe_ends.proofs.RecordsTaken.{took, took_none}
-use Rattle.pipe_ends.proofs.ReadFacts.{chunk-more, row-more, row-stops, rows-end, rows-last, rows-start}
+use Rattle.pipe_ends.proofs.ReadFacts.{chunk-more, done-hold, row-more, rows-end, rows-last, rows-start}
 use Rattle.pipe_ends.proofs.csv_chunks.read_rows.Goals as goal
 use Rattle.pipe_ends.proofs.csv_chunks.read_rows.Goals.{else-height-gt0-via-then-height-gt0+else-is_err, else-height-gt0-via-else-height-gt0, then-height-chunk_size+else-is_err-2+in-Ok-empty_columns, else-height-chunk_size}
 
@@ -73,3 +73,29 @@ loop-row-preserved c =
         width = rw w.columns-is c.push_record.ensures.width;
       }
     ]
+
+pub push_chunk-requires : goal.push_chunk-requires
+push_chunk-requires c =
+    let inv = c.loop-row.invariant in
+    let whole = read_rows c.args.file 1 c.args.fields.now (records_left c.args.reader.now) in
+    record {
+      width = inv.width;
+      hold = done-hold c.args.chunk_size c.args.file c.args.fields.now whole c.loop-row.row (records_left c.loop-row.reader) c.loop-row.chunks.items (items_of c.loop-row.columns.items) c.loop-row.height inv.done;
+    }
+
+pub push_chunk-requires-then-height-chunk_size : goal.push_chunk-requires-then-height-chunk_size
+push_chunk-requires-then-height-chunk_size c =
+    let inv = c.loop-row.invariant in
+    let f = fields_of c.next_record.new.entry in
+    let some = took c.loop-row.reader c.next_record.new.reader c.in-Ok-next_record.found f c.if-not-found.false c.in-Ok-next_record.ensures in
+    let rest = records_left c.loop-row.reader in
+    let more = records_left c.next_record.new.reader in
+    let whole = read_rows c.args.file 1 c.args.fields.now (records_left c.args.reader.now) in
+    let held = items_of c.loop-row.columns.items in
+    let now = items_of c.push_record.new.columns.items in
+    let values = c.in_ok-push_record.ensures.pushed in
+    let done = row-more c.args.chunk_size c.args.file c.args.fields.now whole c.loop-row.row rest more c.loop-row.chunks.items held now c.loop-row.height f values.0 inv.done some.1 values.1 values.2 in
+    record {
+      width = c.push_record.ensures.width;
+      hold = done-hold c.args.chunk_size c.args.file c.args.fields.now whole (c.loop-row.row + 1) more c.loop-row.chunks.items now (c.loop-row.height + 1) done;
+    }

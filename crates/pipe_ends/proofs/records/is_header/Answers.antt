@@ -1,7 +1,5 @@
-use Rattle.std.proofs.Common.{◌≡◌, ◌∙◌, ◌+◌, ◌&&◌, Bool, true, false, not, sym, ap, arith, rules, length, drop}
-use Rattle.std.specs.Str.{bytes_eq}
+use Rattle.std.proofs.Common.{◌∙◌, arith}
 use Rattle.csv.specs.Records.{fields_of}
-use Rattle.pipe_ends.specs.CsvChunks.{is_header}
 use Rattle.pipe_ends.proofs.RowFacts.{get-reads, get-some, header-more, header-step, header-stop, header-width}
 use Rattle.pipe_ends.proofs.records.is_header.Goals as goal
 

@@ -1,0 +1,185 @@
+use crate::csv_chunks::read_chunks;
+use crate::field::read_field;
+use pipe_columns::{AnyValue, DataChunk, DataType, Field, Schema, Text};
+use std::alloc::{AllocError, Global};
+use std::process::Abort;
+use std::test::Fail;
+
+fn field_named(alloc: Global, name: &str, dtype: DataType) -> Result<Field, AllocError> {
+    Ok(Field {
+        name: Text::new(alloc, name)?,
+        dtype,
+    })
+}
+
+/// A column `n` of numbers and a column `t` of texts.
+fn schema_of_two(alloc: Global) -> Result<Schema, AllocError> {
+    let mut fields = Vec::new(alloc);
+    let number = field_named(alloc, "n", DataType::Int64)?;
+    let text = field_named(alloc, "t", DataType::String)?;
+    if fields.push(number).is_err() || fields.push(text).is_err() {
+        return Err(AllocError);
+    }
+    Ok(Schema::new(fields))
+}
+
+fn show_value(alloc: Global, value: &AnyValue) -> Result<String, AllocError> {
+    match value {
+        AnyValue::Null => format!(in alloc; "_"),
+        AnyValue::Boolean(truth) => format!(in alloc; "{truth}"),
+        AnyValue::Int(number) => format!(in alloc; "{number}"),
+        AnyValue::Text(text) => format!(in alloc; "'{}'", text.as_str()),
+    }
+}
+
+/// Number and height of each chunk, and of each column its values, behind `<` where they ascend.
+fn show_chunks(alloc: Global, chunks: &[DataChunk]) -> Result<String, AllocError> {
+    let mut shown = String::new(alloc);
+    for chunk in chunks {
+        let head = format!(in alloc; "[{} {}", chunk.chunk_index, chunk.frame.height())?;
+        shown.push_str(&head)?;
+        for column in chunk.frame.columns() {
+            shown.push_str(if column.sorted() { " <" } else { " ." })?;
+            shown.push_str(column.name().as_str())?;
+            for value in column.values() {
+                shown.push_str(" ")?;
+                shown.push_str(&show_value(alloc, value)?)?;
+            }
+        }
+        shown.push_str("]")?;
+    }
+    Ok(shown)
+}
+
+/// Reads a text as file 3, in chunks of two rows.
+fn check_text(rt: &impl Abort, alloc: Global, text: &[u8], want: &str) -> Result<(), Fail> {
+    let schema = schema_of_two(alloc)?;
+    let shown = match read_chunks(alloc, text, 3, &schema, 2) {
+        Ok(chunks) => show_chunks(alloc, &chunks)?,
+        Err(error) => format!(in alloc; "{error:?}")?,
+    };
+    assert_eq!(rt; shown.as_str(), want);
+    Ok(())
+}
+
+#[test]
+fn reads_texts(rt: HostRuntime) -> Result<(), Fail> {
+    let alloc = rt.alloc();
+    check_text(&rt, alloc, b"\xef\xbb\xbfn,t\n1,x", "[0 1 <n 1 <t 'x']")?;
+    check_text(
+        &rt,
+        alloc,
+        b"n,t\r\n1,\"x,\"\"y\"\r\n\r\n,\"\"\r\n",
+        "[0 2 .n 1 _ .t 'x,\"y' _]",
+    )?;
+    check_text(&rt, alloc, b"n,t\n", "")?;
+    check_text(
+        &rt,
+        alloc,
+        b"n,t\n1,a\n2,b\n4,d\n3,c\n5,e\n",
+        "[0 2 <n 1 2 <t 'a' 'b'][1 2 .n 4 3 .t 'd' 'c'][2 1 <n 5 <t 'e']",
+    )
+}
+
+#[test]
+fn tells_the_first_misfit(rt: HostRuntime) -> Result<(), Fail> {
+    let alloc = rt.alloc();
+    check_text(&rt, alloc, b"", "Header { file: 3 }")?;
+    check_text(&rt, alloc, b"t,n\nx,1\n", "Header { file: 3 }")?;
+    check_text(&rt, alloc, b"n\n1\n", "Header { file: 3 }")?;
+    check_text(&rt, alloc, b"n,t\n1,x\n2\n", "Width { file: 3, row: 2 }")?;
+    check_text(&rt, alloc, b"n,t\n1,x,\n", "Width { file: 3, row: 1 }")?;
+    check_text(
+        &rt,
+        alloc,
+        b"n,t\n1,x\nz,\xff\n2\n",
+        "Field { file: 3, row: 2, column: 1 }",
+    )?;
+    check_text(
+        &rt,
+        alloc,
+        b"n,t\n1,x\n1,\xff\n",
+        "Field { file: 3, row: 2, column: 2 }",
+    )
+}
+
+fn check_field(
+    rt: &impl Abort,
+    alloc: Global,
+    dtype: DataType,
+    text: &[u8],
+    want: &str,
+) -> Result<(), Fail> {
+    let shown = match read_field(alloc, dtype, text)? {
+        Some(value) => show_value(alloc, &value)?,
+        None => String::new(alloc),
+    };
+    assert_eq!(rt; shown.as_str(), want);
+    Ok(())
+}
+
+#[test]
+fn reads_fields(rt: HostRuntime) -> Result<(), Fail> {
+    let alloc = rt.alloc();
+    let long = DataType::Int64;
+    check_field(&rt, alloc, long, b"", "_")?;
+    check_field(
+        &rt,
+        alloc,
+        long,
+        b"9223372036854775807",
+        "9223372036854775807",
+    )?;
+    check_field(&rt, alloc, long, b"9223372036854775808", "")?;
+    check_field(
+        &rt,
+        alloc,
+        long,
+        b"-9223372036854775808",
+        "-9223372036854775808",
+    )?;
+    check_field(&rt, alloc, long, b"-9223372036854775809", "")?;
+    check_field(&rt, alloc, long, b"+1", "1")?;
+    check_field(&rt, alloc, long, b"-0", "0")?;
+    check_field(&rt, alloc, long, b"007", "7")?;
+    check_field(
+        &rt,
+        alloc,
+        long,
+        b"0000000000000000000000000000000000000042",
+        "42",
+    )?;
+    check_field(
+        &rt,
+        alloc,
+        long,
+        b"1000000000000000000000000000000000000000",
+        "",
+    )?;
+    check_field(&rt, alloc, long, b"+", "")?;
+    check_field(&rt, alloc, long, b"-", "")?;
+    check_field(&rt, alloc, long, b"+-1", "")?;
+    check_field(&rt, alloc, long, b"1 ", "")?;
+    check_field(&rt, alloc, long, b"12345678901234567x", "")
+}
+
+#[test]
+fn reads_fields_of_each_kind(rt: HostRuntime) -> Result<(), Fail> {
+    let alloc = rt.alloc();
+    check_field(&rt, alloc, DataType::Boolean, b"true", "true")?;
+    check_field(&rt, alloc, DataType::Boolean, b"True", "")?;
+    check_field(&rt, alloc, DataType::Int8, b"-128", "-128")?;
+    check_field(&rt, alloc, DataType::Int8, b"128", "")?;
+    check_field(
+        &rt,
+        alloc,
+        DataType::UInt64,
+        b"18446744073709551615",
+        "18446744073709551615",
+    )?;
+    check_field(&rt, alloc, DataType::UInt64, b"-1", "")?;
+    check_field(&rt, alloc, DataType::Date, b"-2147483648", "-2147483648")?;
+    check_field(&rt, alloc, DataType::Date, b"2147483648", "")?;
+    check_field(&rt, alloc, DataType::String, b"\xc3\xa9", "'\u{e9}'")?;
+    check_field(&rt, alloc, DataType::String, b"\xc3", "")
+}
