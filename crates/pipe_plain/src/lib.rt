@@ -12,3 +12,6 @@ mod rows;
 pub use conditions::{are_chunks, is_plain_query};
 pub use plain::plain_answer;
 pub use query::{PlainAgg, PlainQuery};
+
+#[cfg(test)]
+mod tests;
