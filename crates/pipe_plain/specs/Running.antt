@@ -67,6 +67,16 @@ abbrev pub TableSeen : ℕ → Table → Type 0
 TableSeen n [] = Unit {0}
 TableSeen n (g ∷ gs) = StatesSeen n g.1 × TableSeen n gs
 
+-- k is below each key of a table
+abbrev pub AllAbove : List AnyValue → Table → Type 0
+AllAbove k [] = Unit {0}
+AllAbove k (g ∷ gs) = (tuple_cmp k g.0 ≡ Less) × AllAbove k gs
+
+-- the keys of a table ascend
+abbrev pub IsAscending : Table → Type 0
+IsAscending [] = Unit {0}
+IsAscending (g ∷ gs) = AllAbove g.0 gs × IsAscending gs
+
 -- each key of a table is below k
 abbrev pub AllBelow : List AnyValue → Table → Type 0
 AllBelow k [] = Unit {0}
@@ -77,12 +87,7 @@ abbrev pub BeginsAt : List AnyValue → Table → Type 0
 BeginsAt k [] = ⊥
 BeginsAt k (g ∷ gs) = tuple_cmp k g.0 ≡ Equal
 
--- a table begins above k
-abbrev pub BeginsAbove : List AnyValue → Table → Type 0
-BeginsAbove k [] = Unit {0}
-BeginsAbove k (g ∷ gs) = tuple_cmp k g.0 ≡ Less
-
 -- where the group of k is, or where it belongs
 abbrev pub IsSpot : List AnyValue → Table → Spot → Type 0
 IsSpot k table (spot.At i) = (i < length table) × AllBelow k (take i table) × BeginsAt k (drop i table)
-IsSpot k table (spot.Before i) = (i ≤ length table) × AllBelow k (take i table) × BeginsAbove k (drop i table)
+IsSpot k table (spot.Before i) = (i ≤ length table) × AllBelow k (take i table) × AllAbove k (drop i table)

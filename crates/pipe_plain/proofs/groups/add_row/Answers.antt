@@ -20,7 +20,7 @@ feed-requires c =
     let row : Row = row_read c.args.columns.now c.args.positions.now c.args.place in
     let here : IsSpot row.key (map group_seen items) (spot.At c.in-At.i) = search rules in
     let within : c.in-At.i < length items = rw length-map at here.0 in
-    rw c.index_mut-group.ensures.value (table-at (2 ^ 32 - 2) items c.in-At.i group within c.requires)
+    rw c.index_mut-group.ensures.value (table-at (2 ^ 32 - 2) items c.in-At.i group within c.requires.seen)
 
 pub returns-in-At : goal.returns-in-At
 returns-in-At c =
