@@ -7,12 +7,10 @@ use Rattle.std.specs.Ordering.{match_ordering}
 use Rattle.pipe_columns.specs.declared.any_value.AnyValue.{AnyValue}
 use Rattle.pipe_columns.specs.declared.place.Place.{Place}
 use Rattle.pipe_columns.specs.Frame.{value_at}
-use Rattle.pipe_columns.specs.Groups.{sorted_keys, values_of}
 use Rattle.pipe_columns.specs.Row.{Row}
 use Rattle.pipe_running.specs.declared.function.AggregateFunction.{AggregateFunction}
 use Rattle.pipe_running.specs.States.{after_value, fresh, given, output_values, seen}
-use Rattle.pipe_model.specs.Answer.{tuple_cmp, Entry, entry_of, rows_at}
-use Rattle.pipe_plain.specs.declared.query.PlainQuery.{PlainQuery}
+use Rattle.pipe_model.specs.Answer.{tuple_cmp, entry_of}
 use Rattle.pipe_plain.specs.declared.query.PlainAgg.{PlainAgg}
 use Rattle.pipe_plain.specs.declared.groups.Group.{Group}
 use Rattle.pipe_plain.specs.declared.groups.Spot.{Spot}

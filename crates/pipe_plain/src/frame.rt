@@ -131,8 +131,5 @@ pub fn output_frame(
     for place in 0..fields.len() {
         columns.push(output_column(alloc, &fields[place], rows, place)?)?;
     }
-    match DataFrame::new(rows.len(), columns) {
-        Some(frame) => Ok(frame),
-        None => Err(AllocError),
-    }
+    Ok(DataFrame::new(rows.len(), columns).unwrap())
 }

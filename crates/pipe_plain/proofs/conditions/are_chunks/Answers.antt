@@ -1,4 +1,4 @@
-use Rattle.std.proofs.Common.{rules, arith, ◌≡◌, ◌<◌, ◌≤◌, ◌^◌, ◌+◌, ◌∙◌, ap, get_or}
+use Rattle.std.proofs.Common.{rules, arith, ◌≡◌, ap, get_or}
 use Rattle.std.proofs.lemmas.List.Elements.{All-more}
 use Rattle.std.proofs.lemmas.List.Sums.{sum_by_more}
 use Rattle.pipe_columns.specs.declared.data_chunk.DataChunk.{DataChunk}

@@ -1,6 +1,5 @@
-use Rattle.std.proofs.Common.{rules, arith, ◌≡◌, ◌+◌, ◌-◌, ◌^◌, ◌∙◌, List, map, ap}
+use Rattle.std.proofs.Common.{arith, ◌≡◌, ◌+◌, ◌-◌, ◌^◌, ◌∙◌, List, map, ap}
 use Rattle.pipe_columns.specs.Frame.{FrameData}
-use Rattle.pipe_columns.specs.Row.{Row}
 use Rattle.pipe_running.specs.declared.function.AggregateFunction.{AggregateFunction}
 use Rattle.pipe_model.specs.Rows.{row_of}
 use Rattle.pipe_plain.specs.declared.query.PlainQuery.{PlainQuery}

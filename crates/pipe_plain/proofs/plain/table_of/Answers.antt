@@ -1,12 +1,11 @@
-use Rattle.std.proofs.Common.{rules, arith, ◌≡◌, ◌+◌, ◌-◌, ◌<◌, ◌^◌, ◌∙◌, List, [], length, map, take, ap}
+use Rattle.std.proofs.Common.{arith, ◌+◌, ◌-◌, ◌<◌, ◌^◌, ◌∙◌, List, [], length, take, ap}
 use Rattle.pipe_columns.specs.declared.data_chunk.DataChunk.{DataChunk}
 use Rattle.pipe_columns.specs.Row.{Row}
 use Rattle.pipe_running.specs.declared.function.AggregateFunction.{AggregateFunction}
-use Rattle.pipe_aggs.specs.Query.{QueryTree}
 use Rattle.pipe_model.specs.Rows.{chunk_rows, rows}
 use Rattle.pipe_plain.specs.declared.query.PlainQuery.{PlainQuery}
 use Rattle.pipe_plain.specs.PlainQuery.{query_tree}
-use Rattle.pipe_plain.specs.Running.{group_seen, starts, Table, with_rows}
+use Rattle.pipe_plain.specs.Running.{starts, Table, with_rows}
 use Rattle.pipe_plain.proofs.ChunkFacts.{rows_before, with_chunk_more}
 use Rattle.pipe_plain.proofs.SeenFacts.{table-weaker, with_rows-seen}
 use Rattle.pipe_plain.proofs.SpotFacts.{with_rows-ascending}
