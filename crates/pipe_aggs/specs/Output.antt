@@ -9,7 +9,7 @@ use Rattle.pipe_running.specs.Kind as kind
 use Rattle.pipe_running.specs.Aggregate.{sum_type}
 use Rattle.pipe_aggs.specs.Expr.{Expr, name_of}
 use Rattle.pipe_aggs.specs.Typing.{type_of}
-use Rattle.pipe_aggs.specs.Query.{Input, each, rows_alone, AggTree, QueryTree}
+use Rattle.pipe_aggs.specs.Query.{Input, each, rows_alone, QueryTree}
 
 -- the type of an expression that has one
 abbrev pub known_type : Expr → List Field → DataType

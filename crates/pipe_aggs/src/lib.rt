@@ -1,2 +1,4 @@
 //! Expressions and aggregates of a query.
 #![tactic(auto)]
+
+mod worked;

@@ -9,6 +9,7 @@ mod data_type;
 mod place;
 mod schema;
 mod text;
+mod worked;
 
 pub use any_value::AnyValue;
 pub use column::Column;

@@ -5,13 +5,13 @@ use Rattle.std.specs.Option.{ok_or}
 use Rattle.std.specs.Str.{bytes_eq}
 use Rattle.std.specs.Ordering.{is_lt}
 use Rattle.csv.specs.Reading.{default_config, records, strip_bom}
-use Rattle.pipe_columns.specs.declared.data_type.DataType.{DataType}
 use Rattle.pipe_columns.specs.declared.any_value.AnyValue.{AnyValue}
 use Rattle.pipe_columns.specs.declared.schema.Field.{Field}
 use Rattle.pipe_columns.specs.declared.data_chunk.DataChunk.{DataChunk}
 use Rattle.pipe_columns.specs.AnyValue.{value_cmp}
 use Rattle.pipe_columns.specs.Frame.{ColumnData, FrameData, frame_of}
 use Rattle.pipe_ends.specs.Fields.{read_field}
+use Rattle.pipe_ends.specs.Files.{Files, file_of}
 
 -- where a text doesn't fit: files, rows and columns are counted from 1, and the header is no row
 pub data Misfit : Type 0 where
@@ -105,17 +105,9 @@ file_chunks i n schema rows = chunks_from i schema (pieces n rows)
 pub record ReadOptions : Type 0 where
   pub chunk_size : ℕ
 
--- named files
-abbrev pub NamedFiles : Type 0
-NamedFiles = List (List ℕ × List ℕ)
-
--- the bytes of the first file of a name
-abbrev pub bytes_named : NamedFiles → List ℕ → Option (List ℕ)
-bytes_named files name = option_map (λ f. f.1) (find (λ f. bytes_eq f.0 name) files)
-
 -- the rows of the file of a name
-abbrev pub rows_named : NamedFiles → ℕ → List Field → List ℕ → Result (List Values) Misfit
-rows_named files file schema name = rows_if_any (bytes_named files name) where
+abbrev pub rows_named : Files → ℕ → List Field → List ℕ → Result (List Values) Misfit
+rows_named files file schema name = rows_if_any (file_of files name) where
   rows_if_any : Option (List ℕ) → Result (List Values) Misfit
   rows_if_any None = Err (missing file)
   rows_if_any (Some text) = text_rows file schema text
@@ -130,7 +122,7 @@ abbrev pub chunks_then : List DataChunk → CsvChunks → CsvChunks
 chunks_then front rest = record { chunks = front ++ rest.chunks; stop = rest.stop }
 
 -- the chunks of files from file number `file` and chunk number i on
-abbrev pub csv_chunks_from : ℕ → ℕ → NamedFiles → List (List ℕ) → List Field → ReadOptions → CsvChunks
+abbrev pub csv_chunks_from : ℕ → ℕ → Files → List (List ℕ) → List Field → ReadOptions → CsvChunks
 csv_chunks_from file i files [] schema options = record { chunks = []; stop = None }
 csv_chunks_from file i files (name ∷ names) schema options = go_on (rows_named files file schema name) (λ j. csv_chunks_from (file + 1) j files names schema options) where
   go_on : Result (List Values) Misfit → (ℕ → CsvChunks) → CsvChunks
@@ -140,5 +132,5 @@ csv_chunks_from file i files (name ∷ names) schema options = go_on (rows_named
       chunks_then given (rest (i + length given))
 
 -- the chunks of the files of some names, up to the first misfit
-abbrev pub csv_chunks : NamedFiles → List (List ℕ) → List Field → ReadOptions → CsvChunks
+abbrev pub csv_chunks : Files → List (List ℕ) → List Field → ReadOptions → CsvChunks
 csv_chunks files names schema options = csv_chunks_from 1 0 files names schema options

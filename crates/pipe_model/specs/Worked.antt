@@ -1,16 +1,15 @@
 -- Inputs of worked rows.
-use Rattle.std.specs.Prelude.{ℕ, ℤ, pos, ◌+◌, Bool, true, false, List, [], ◌∷◌, map, length, codes, Option, Some, None}
+use Rattle.std.specs.Prelude.{ℕ, pos, true, false, List, [], ◌∷◌, map, codes, Some, None}
 use Rattle.pipe_columns.specs.declared.data_type.DataType.{DataType}
-use Rattle.pipe_columns.specs.declared.data_type.DataType.TheVariants as dt
 use Rattle.pipe_columns.specs.declared.any_value.AnyValue.{AnyValue}
 use Rattle.pipe_columns.specs.declared.any_value.AnyValue.TheVariants as av
 use Rattle.pipe_columns.specs.declared.schema.Field.{Field}
 use Rattle.pipe_columns.specs.declared.data_chunk.DataChunk.{DataChunk}
-use Rattle.pipe_columns.specs.Frame.{frame_of, FrameData, ColumnData}
+use Rattle.pipe_columns.specs.Frame.{frame_of, FrameData}
 use Rattle.pipe_running.specs.Kind.{Kind}
 use Rattle.pipe_running.specs.Kind as kind
-use Rattle.pipe_aggs.specs.Expr.{Expr, column}
-use Rattle.pipe_aggs.specs.Query.{AggTree, Input, each, rows_alone, QueryTree}
+use Rattle.pipe_aggs.specs.Expr.{column}
+use Rattle.pipe_aggs.specs.Query.{AggTree, each, rows_alone, QueryTree}
 
 abbrev pub int : ℕ → AnyValue
 int n = av.Int (pos n)
@@ -39,6 +38,37 @@ sum_and_count = agg_of (codes "s") kind.sum ∷ agg_of (codes "c") kind.count �
 abbrev pub sum_alone : List AggTree
 sum_alone = agg_of (codes "s") kind.sum ∷ []
 
--- the rows of an answer
+-- the columns of an answer
 abbrev pub shown : FrameData → List (List AnyValue)
 shown f = map (λ c. c.values) f.columns
+
+-- a query that keeps a slice of its groups
+abbrev pub with_slice : ℕ → ℕ → QueryTree → QueryTree
+with_slice offset len q = record q { slice = Some (offset, len) }
+
+-- a query whose groups come in the order of their first rows
+abbrev pub in_order : QueryTree → QueryTree
+in_order q = record q { keeps_order = true }
+
+abbrev pub text : List ℕ → AnyValue
+text s = av.Text s
+
+abbrev pub all_kinds : List AggTree
+all_kinds = agg_of (codes "a") kind.first ∷ agg_of (codes "b") kind.last ∷ agg_of (codes "c") kind.count ∷ len_of (codes "d") ∷ agg_of (codes "e") kind.sum ∷ agg_of (codes "f") kind.min ∷ agg_of (codes "g") kind.max ∷ agg_of (codes "h") kind.mean ∷ []
+
+-- the sums of k and of v
+abbrev pub both_sums : List AggTree
+both_sums = record { name = codes "a"; kind = kind.sum; input = each (column (codes "k")) } ∷ agg_of (codes "b") kind.sum ∷ []
+
+abbrev pub sum_min_mean : List AggTree
+sum_min_mean = agg_of (codes "s") kind.sum ∷ agg_of (codes "lo") kind.min ∷ agg_of (codes "m") kind.mean ∷ []
+
+abbrev pub sum_and_mean : List AggTree
+sum_and_mean = agg_of (codes "s") kind.sum ∷ agg_of (codes "m") kind.mean ∷ []
+
+-- rows whose key is each of the numbers and whose value is 1
+abbrev pub each_with_one : List ℕ → List (List AnyValue)
+each_with_one keys = map (λ k. int k ∷ int 1 ∷ []) keys
+
+abbrev pub numbers : List ℕ → List AnyValue
+numbers ns = map int ns

@@ -9,6 +9,7 @@ use Rattle.pipe_columns.specs.declared.place.Place.{Place}
 use Rattle.pipe_columns.specs.AnyValue.{is_null}
 use Rattle.pipe_running.specs.declared.interface.Finalized.{Finalized}
 use Rattle.pipe_running.specs.declared.interface.Finalized.TheVariants as finalized
+use Rattle.pipe_running.specs.declared.count.CountAgg.{CountAgg}
 use Rattle.pipe_running.specs.declared.sum.SumAgg.{SumAgg}
 use Rattle.pipe_running.specs.declared.function.AggregateFunction.{AggregateFunction}
 use Rattle.pipe_running.specs.declared.function.AggregateFunction.TheVariants as function
@@ -31,6 +32,14 @@ sum_after (av.Text s) sum = sum
 abbrev pub sum_state_after : AnyValue → SumAgg ℤ → SumAgg ℤ
 sum_state_after v s = record { sum = sum_after v s.sum; came = s.came || not (is_null v) }
 
+-- a count before any value, whether nulls count or not
+abbrev pub empty_count : {nulls : ℕ} → CountAgg nulls
+empty_count = record { count = 0 }
+
+-- a sum before any value
+abbrev pub empty_sum : SumAgg ℤ
+empty_sum = record { sum = pos 0; came = false }
+
 -- the kind of a running aggregate
 abbrev pub kind_of : AggregateFunction → Kind
 kind_of (function.Count a) = kind.count
@@ -38,8 +47,8 @@ kind_of (function.SumI64 a) = kind.sum
 
 -- the same aggregate before any value
 abbrev pub fresh : AggregateFunction → AggregateFunction
-fresh (function.Count a) = function.Count (record { count = 0 })
-fresh (function.SumI64 a) = function.SumI64 (record { sum = pos 0; came = false })
+fresh (function.Count a) = function.Count empty_count
+fresh (function.SumI64 a) = function.SumI64 empty_sum
 
 -- a running aggregate with one more value
 abbrev pub after_value : AnyValue → AggregateFunction → AggregateFunction

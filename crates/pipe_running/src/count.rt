@@ -1,7 +1,7 @@
 ghost use Rattle.std.specs.Prelude.{◌≡◌};
 ghost use Rattle.pipe_running.specs.declared.interface.Finalized.TheVariants as finalized;
 ghost use Rattle.pipe_running.specs.Aggregate.{counted};
-ghost use Rattle.pipe_running.specs.States.{count_after};
+ghost use Rattle.pipe_running.specs.States.{count_after, empty_count};
 
 use crate::interface::{AggregateFn, Finalized};
 use pipe_columns::{AnyValue, Place};
@@ -16,7 +16,7 @@ pub struct CountAgg<const INCLUDE_NULL: bool> {
 impl<const INCLUDE_NULL: bool> CountAgg<INCLUDE_NULL> {
     /// The count of none.
     pub fn new() -> CountAgg<INCLUDE_NULL>
-        ensures { result ≡ record { count = 0 } }
+        ensures { result ≡ empty_count }
     {
         CountAgg { count: 0 }
     }
@@ -29,7 +29,7 @@ impl<const INCLUDE_NULL: bool> AggregateFn for CountAgg<INCLUDE_NULL> {
 
     ghost given = { λ s. finalized.One (counted s.count) };
 
-    ghost fresh = { λ s. record { count = 0 } };
+    ghost fresh = { λ s. empty_count };
 
     fn pre_agg(&mut self, _place: Place, value: AnyValue) {
         if INCLUDE_NULL || !matches!(&value, AnyValue::Null) {

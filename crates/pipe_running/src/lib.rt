@@ -4,6 +4,7 @@
 mod count;
 mod function;
 mod interface;
+mod laws;
 mod sum;
 
 pub use count::CountAgg;

@@ -2,7 +2,7 @@ ghost use Rattle.std.specs.Prelude.{◌≡◌, pos, false};
 ghost use Rattle.std.specs.Int.{int_wrap, w64};
 ghost use Rattle.pipe_columns.specs.declared.any_value.AnyValue.TheVariants as av;
 ghost use Rattle.pipe_running.specs.declared.interface.Finalized.TheVariants as finalized;
-ghost use Rattle.pipe_running.specs.States.{sum_after, sum_state_after};
+ghost use Rattle.pipe_running.specs.States.{empty_sum, sum_after, sum_state_after};
 
 use crate::interface::{AggregateFn, Finalized};
 use pipe_columns::{AnyValue, Place};
@@ -39,7 +39,7 @@ fn plus(sum: i64, value: &AnyValue) -> i64
 impl SumAgg<i64> {
     /// The sum of no value.
     pub fn new() -> SumAgg<i64>
-        ensures { result ≡ record { sum = pos 0; came = false } }
+        ensures { result ≡ empty_sum }
     {
         SumAgg {
             sum: 0,
@@ -55,7 +55,7 @@ impl AggregateFn for SumAgg<i64> {
 
     ghost given = { λ s. finalized.One (av.Int s.sum) };
 
-    ghost fresh = { λ s. record { sum = pos 0; came = false } };
+    ghost fresh = { λ s. empty_sum };
 
     fn pre_agg(&mut self, _place: Place, value: AnyValue) {
         self.sum = plus(self.sum, &value);

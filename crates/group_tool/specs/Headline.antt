@@ -1,0 +1,71 @@
+-- What a run of the tool is asked, and what it owes.
+use Rattle.std.specs.Prelude.{◌≡◌, ◌⊎◌, ℕ, ◌^◌, nat_lt, List, [], ◌∷◌, length, codes, Option, Some, None, is_ok, ⊤, if◌then◌else◌, IfSome}
+use Rattle.std.specs.Io.KnownBytes.{Appends}
+use Rattle.pipe_columns.specs.declared.schema.Field.{Field}
+use Rattle.pipe_columns.specs.declared.data_chunk.DataChunk.{DataChunk}
+use Rattle.pipe_aggs.specs.Query.{QueryTree}
+use Rattle.pipe_model.specs.Answer.{answer}
+use Rattle.pipe_ends.specs.CsvChunks.{CsvChunks, ReadOptions, csv_chunks, text_rows}
+use Rattle.pipe_ends.specs.Files.{Files, file_of}
+use Rattle.pipe_ends.specs.Output.{WroteFront}
+use Rattle.pipe_ends.specs.Texts.{csv_text}
+
+-- the name of the file that is read: standard input
+abbrev pub input_name : List ℕ
+input_name = codes "-"
+
+-- the most bytes that a file may have
+abbrev pub most_bytes : ℕ
+most_bytes = 2 ^ 30
+
+abbrev pub read_options : ReadOptions
+read_options = record { chunk_size = 50000 }
+
+-- the chunks of standard input
+abbrev pub input_chunks : Files → List Field → CsvChunks
+input_chunks files schema = csv_chunks files (input_name ∷ []) schema read_options
+
+-- the text that a query owes
+abbrev pub answer_text : Files → QueryTree → List ℕ
+answer_text files q = csv_text (answer (input_chunks files q.schema).chunks q 1)
+
+-- the status that a text owes, where nothing fails: 7 for too many bytes, 4 for a misfit
+abbrev pub text_status : List Field → List ℕ → ℕ
+text_status schema text = if nat_lt most_bytes (length text) then 7 else (if is_ok (text_rows 1 schema text) then 0 else 4)
+
+-- the status that a file owes, where nothing fails: 4 where there is none
+abbrev pub file_status : List Field → Option (List ℕ) → ℕ
+file_status schema None = 4
+file_status schema (Some text) = text_status schema text
+
+-- the status that a query owes over files, where nothing fails: 11 where there is no query
+abbrev pub due_status : Option QueryTree → Files → ℕ
+due_status None files = 11
+due_status (Some q) files = file_status q.schema (file_of files input_name)
+
+-- where the input tells its files, this status is due
+abbrev pub IsDue : ℕ → Option QueryTree → Option Files → Type 0
+IsDue status query told = IfSome told (λ files. due_status query files ≡ status)
+
+-- where the input tells its files, a status is the one due, or that of a fault of reading, of writing or of memory
+abbrev pub EndsAsDue : ℕ → Option QueryTree → Option Files → Type 0
+EndsAsDue status query told = IfSome told (λ files. (status ≡ due_status query files) ⊎ (status ≡ 5) ⊎ (status ≡ 6) ⊎ (status ≡ 10))
+
+-- where the input tells its files, these are the chunks of standard input, which fits
+abbrev pub AreInput : List Field → Option Files → List DataChunk → Type 0
+AreInput schema told chunks = IfSome told (λ files. input_chunks files schema ≡ record { chunks = chunks; stop = None })
+
+-- where the input tells its files, this is the text that a query owes
+abbrev pub IsAnswerText : Option QueryTree → Option Files → List ℕ → Type 0
+IsAnswerText None told text = ⊥
+IsAnswerText (Some q) told text = IfSome told (λ files. text ≡ answer_text files q)
+
+-- where input and output tell, the output grew by exactly the text that a query owes
+abbrev pub IsAnswered : Option QueryTree → Option Files → Option (List ℕ) → Option (List ℕ) → Type 0
+IsAnswered None told old new = ⊥
+IsAnswered (Some q) told old new = IfSome told (λ files. Appends old new (answer_text files q))
+
+-- where input and output tell, the output grew by a front of the text that a query owes
+abbrev pub IsBegun : Option QueryTree → Option Files → Option (List ℕ) → Option (List ℕ) → Type 0
+IsBegun None told old new = ⊥
+IsBegun (Some q) told old new = IfSome told (λ files. WroteFront old new (answer_text files q))

@@ -1,0 +1,5 @@
+pub mod QueryJson
+pub mod WorkedQuery
+pub mod Status
+pub mod Headline
+pub mod Faults

@@ -1,0 +1,13 @@
+pub mod MemoryFacts
+pub mod ReadOn
+pub mod RowsLemmas
+pub mod WrittenLemmas
+pub mod DigitFacts
+pub mod FieldFacts
+pub mod RecordList
+pub mod RecordsTaken
+pub mod RowFacts
+pub mod ColumnFacts
+pub mod PieceFacts
+pub mod ReadFacts
+pub mod TextFacts
