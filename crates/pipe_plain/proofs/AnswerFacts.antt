@@ -1,11 +1,10 @@
 -- What the groups of a table give is the answer, where there is one partition.
-use Rattle.std.proofs.Common.{◌≡◌, ◌∙◌, ℕ, zero, ◌+◌, ◌%◌, Bool, true, List, [], ◌∷◌, ◌++◌, map, refl, sym, ap, arith}
+use Rattle.std.proofs.Common.{◌≡◌, ◌∙◌, ℕ, ◌+◌, ◌%◌, true, List, [], ◌∷◌, ◌++◌, map, refl, sym, ap}
 use Rattle.std.specs.List.{fold, list_all}
 use Rattle.std.specs.Ordering.{nat_cmp, ordering_then}
 use Rattle.std.specs.declared.cmp.Ordering.{Ordering}
 use Rattle.std.proofs.Math.Nat.{mod-one}
 use Rattle.std.proofs.lemmas.List.Sums.{fold-append}
-use Rattle.pipe_columns.specs.declared.data_type.DataType.{DataType}
 use Rattle.pipe_columns.specs.declared.any_value.AnyValue.{AnyValue}
 use Rattle.pipe_columns.specs.declared.data_chunk.DataChunk.{DataChunk}
 use Rattle.pipe_columns.specs.declared.place.Place.{Place}
@@ -22,7 +21,7 @@ use Rattle.pipe_running.proofs.Folds.{given-after_entries}
 use Rattle.pipe_aggs.specs.Expr.{column}
 use Rattle.pipe_aggs.specs.Output.{key_types, known_type, output_schema}
 use Rattle.pipe_aggs.specs.Typing.{type_of}
-use Rattle.pipe_model.specs.Answer.{aggs_from, answer, answer_row, entry_of, group_cmp, groups, partition_cmp, rows_at, tuple_cmp}
+use Rattle.pipe_model.specs.Answer.{aggs_from, answer, answer_row, entry_of, group_cmp, groups, rows_at, tuple_cmp}
 use Rattle.pipe_model.specs.Rows.{rows}
 use Rattle.pipe_plain.specs.declared.query.PlainAgg.{PlainAgg}
 use Rattle.pipe_plain.specs.declared.query.PlainQuery.{PlainQuery}

@@ -1,6 +1,6 @@
 -- The rows of chunks, as they are read by the positions of columns.
-use Rattle.std.proofs.Common.{◌≡◌, ◌∙◌, ℕ, ◌+◌, ◌<◌, ◌≤◌, ◌-◌, ◌^◌, suc, List, [], ◌∷◌, ◌++◌, length, map, get_or, take, Option, refl, sym, ap, arith}
-use Rattle.std.specs.List.{fold, range_with_len, slice_get, sum_by}
+use Rattle.std.proofs.Common.{◌≡◌, ◌∙◌, ℕ, ◌+◌, ◌<◌, ◌^◌, suc, List, [], ◌∷◌, ◌++◌, length, map, get_or, take, Option, refl, sym, ap, arith}
+use Rattle.std.specs.List.{range_with_len, slice_get}
 use Rattle.std.proofs.lemmas.List.{append_assoc, append-nil, length-append, length-take-le, take_more}
 use Rattle.std.proofs.lemmas.List.FromFn.{length-map-range_with_len, map-range_with_len_more}
 use Rattle.std.proofs.lemmas.List.Sums.{fold-append, sum_by-cons, sum_by_more, sum_by-take-le}

@@ -1,19 +1,19 @@
 -- The frame of the answer, as its fields, rows and columns are made.
-use Rattle.std.proofs.Common.{◌≡◌, ◌∙◌, ℕ, ◌+◌, ◌<◌, ◌≤◌, suc, Bool, true, false, ◌&&◌, List, [], ◌∷◌, ◌++◌, length, map, get_or, set, take, drop, Option, Some, None, unwrap_or, refl, sym, ap, arith}
+use Rattle.std.proofs.Common.{◌≡◌, ◌∙◌, ℕ, ◌+◌, ◌<◌, Bool, true, false, ◌&&◌, List, [], ◌∷◌, ◌++◌, length, map, get_or, set, take, drop, Option, Some, None, unwrap_or, refl, sym, ap, arith, eq-eqb}
+use Rattle.std.specs.Prelude.{IfNone, IsSome}
 use Rattle.std.specs.List.{flat_map, list_all}
-use Rattle.std.proofs.lemmas.List.{append_assoc, append-nil, drop_more, drop-set-lt, length-take-le, take_all, take_more}
+use Rattle.std.proofs.lemmas.List.{append-nil, drop_more, drop-set-lt, length-map, length-take-le, take_more}
 use Rattle.std.proofs.lemmas.Grind.{flat_map-append}
 use Rattle.pipe_columns.specs.declared.data_type.DataType.{DataType}
 use Rattle.pipe_columns.specs.declared.data_type.DataType.TheVariants as dt
 use Rattle.pipe_columns.specs.declared.any_value.AnyValue.{AnyValue}
 use Rattle.pipe_columns.specs.declared.schema.Field.{Field}
-use Rattle.pipe_columns.specs.Frame.{ColumnData, columns_from, value_at}
+use Rattle.pipe_columns.specs.Frame.{all_have_height, ColumnData, columns_from, value_at}
 use Rattle.pipe_running.specs.declared.function.AggregateFunction.{AggregateFunction}
 use Rattle.pipe_running.specs.declared.function.AggregateFunction.TheVariants as function
 use Rattle.pipe_running.specs.Aggregate.{sum_type}
 use Rattle.pipe_running.specs.States.{given, given_type, kind_of, output_values, Suits}
 use Rattle.pipe_aggs.specs.Expr.{column, name_of}
-use Rattle.pipe_aggs.specs.Query.{each}
 use Rattle.pipe_aggs.specs.Typing.{type_of}
 use Rattle.pipe_aggs.specs.Output.{agg_fields, input_type, known_type, output_schema}
 use Rattle.pipe_plain.specs.declared.query.PlainAgg.{PlainAgg}
@@ -54,6 +54,16 @@ columns_from-more fields i f rows h e =
     let longer : take (i + 1) fields ≡ take i fields ++ (f ∷ []) = take_more fields i f h ∙ ap (λ (x : Field). take i fields ++ (x ∷ [])) (sym e) in
     sym (ap (λ (fs : List Field). columns_from 0 fs rows) longer ∙ columns_from-push 0 (take i fields) f rows
     ∙ ap (λ (k : ℕ). columns_from 0 (take i fields) rows ++ columns_from k (f ∷ []) rows) (omega (arith, length-take-le i fields (omega arith))))
+
+-- each column has a value a row
+pub heights : (i : ℕ) (fields : List Field) (rows : List (List AnyValue)) → all_have_height (length rows) (columns_from i fields rows) ≡ true
+heights i [] rows = refl
+heights i (f ∷ fs) rows = rw (eq-eqb (length (map (λ row. value_at row i) rows)) (length rows) (length-map rows (λ row. value_at row i)), heights (i + 1) fs rows) refl
+
+-- what is none only where a test fails is there where it passes
+pub is_there : {X : Type 0} (r : Option X) (b : Bool) → IfNone r (b ≡ false) → b ≡ true → IsSome r
+is_there None b e t = cc
+is_there (Some x) b e t = refl
 
 -- ---- fields
 

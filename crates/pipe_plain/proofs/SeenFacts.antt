@@ -1,21 +1,19 @@
 -- How many values the running aggregates of a table have counted at most.
-use Rattle.std.proofs.Common.{◌≡◌, ◌∙◌, ℕ, zero, suc, ◌+◌, ◌<◌, ◌≤◌, Bool, true, false, not, ◌||◌, List, [], ◌∷◌, length, map, get_or, drop, refl, sym, ap, subst, arith, if◌then◌else◌}
-use Rattle.std.specs.List.{fold}
+use Rattle.std.proofs.Common.{◌≡◌, ℕ, zero, suc, ◌+◌, ◌<◌, ◌≤◌, false, List, [], ◌∷◌, length, map, get_or, drop, subst, arith}
 use Rattle.std.specs.declared.cmp.Ordering.{Ordering}
 use Rattle.std.specs.declared.cmp.Ordering.TheVariants.{Less, Equal, Greater}
 use Rattle.std.specs.Ordering.{match_ordering}
 use Rattle.pipe_columns.specs.declared.any_value.AnyValue.{AnyValue}
 use Rattle.pipe_columns.specs.declared.any_value.AnyValue.TheVariants as av
-use Rattle.pipe_columns.specs.declared.place.Place.{Place}
 use Rattle.pipe_columns.specs.Frame.{value_at}
 use Rattle.pipe_columns.specs.Row.{Row}
 use Rattle.pipe_running.specs.declared.function.AggregateFunction.{AggregateFunction}
 use Rattle.pipe_running.specs.declared.function.AggregateFunction.TheVariants as function
 use Rattle.pipe_running.specs.States.{after_value, count_after, fresh, seen}
-use Rattle.pipe_model.specs.Answer.{entry_of, tuple_cmp}
+use Rattle.pipe_model.specs.Answer.{tuple_cmp}
 use Rattle.pipe_plain.specs.declared.query.PlainAgg.{PlainAgg}
 use Rattle.pipe_plain.specs.declared.groups.Group.{Group}
-use Rattle.pipe_plain.specs.Running.{add_entry, fed, fed_from, group_seen, starts, StatesSeen, Table, TableSeen, with_row, with_rows}
+use Rattle.pipe_plain.specs.Running.{fed, fed_from, group_seen, starts, StatesSeen, Table, TableSeen, with_row, with_rows}
 
 fresh-seen : (n : ℕ) (f : AggregateFunction) → seen (fresh f) ≤ n
 fresh-seen n (function.Count a) = omega arith

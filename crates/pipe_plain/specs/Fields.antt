@@ -1,6 +1,7 @@
 -- The fields of the answer of a query of columns.
 use Rattle.std.specs.Prelude.{ℕ, List}
 use Rattle.pipe_columns.specs.declared.schema.Field.{Field}
+use Rattle.pipe_columns.specs.Frame.{ColumnData}
 use Rattle.pipe_running.specs.States.{given_type}
 use Rattle.pipe_aggs.specs.Expr.{column}
 use Rattle.pipe_aggs.specs.Output.{known_type}
@@ -11,3 +12,7 @@ key_field schema name = record { name = name; dtype = known_type (column name) s
 
 abbrev pub agg_field : PlainAgg → Field
 agg_field a = record { name = a.name; dtype = given_type a.function }
+
+-- the field of a column
+abbrev pub field_of : ColumnData → Field
+field_of c = record { name = c.name; dtype = c.dtype }

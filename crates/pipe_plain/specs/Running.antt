@@ -7,12 +7,10 @@ use Rattle.std.specs.Ordering.{match_ordering}
 use Rattle.pipe_columns.specs.declared.any_value.AnyValue.{AnyValue}
 use Rattle.pipe_columns.specs.declared.place.Place.{Place}
 use Rattle.pipe_columns.specs.Frame.{value_at}
-use Rattle.pipe_columns.specs.Groups.{sorted_keys, values_of}
 use Rattle.pipe_columns.specs.Row.{Row}
 use Rattle.pipe_running.specs.declared.function.AggregateFunction.{AggregateFunction}
 use Rattle.pipe_running.specs.States.{after_value, fresh, given, output_values, seen}
-use Rattle.pipe_model.specs.Answer.{tuple_cmp, Entry, entry_of, rows_at}
-use Rattle.pipe_plain.specs.declared.query.PlainQuery.{PlainQuery}
+use Rattle.pipe_model.specs.Answer.{tuple_cmp, entry_of}
 use Rattle.pipe_plain.specs.declared.query.PlainAgg.{PlainAgg}
 use Rattle.pipe_plain.specs.declared.groups.Group.{Group}
 use Rattle.pipe_plain.specs.declared.groups.Spot.{Spot}
@@ -67,6 +65,16 @@ abbrev pub TableSeen : ℕ → Table → Type 0
 TableSeen n [] = Unit {0}
 TableSeen n (g ∷ gs) = StatesSeen n g.1 × TableSeen n gs
 
+-- k is below each key of a table
+abbrev pub AllAbove : List AnyValue → Table → Type 0
+AllAbove k [] = Unit {0}
+AllAbove k (g ∷ gs) = (tuple_cmp k g.0 ≡ Less) × AllAbove k gs
+
+-- the keys of a table ascend
+abbrev pub IsAscending : Table → Type 0
+IsAscending [] = Unit {0}
+IsAscending (g ∷ gs) = AllAbove g.0 gs × IsAscending gs
+
 -- each key of a table is below k
 abbrev pub AllBelow : List AnyValue → Table → Type 0
 AllBelow k [] = Unit {0}
@@ -77,12 +85,7 @@ abbrev pub BeginsAt : List AnyValue → Table → Type 0
 BeginsAt k [] = ⊥
 BeginsAt k (g ∷ gs) = tuple_cmp k g.0 ≡ Equal
 
--- a table begins above k
-abbrev pub BeginsAbove : List AnyValue → Table → Type 0
-BeginsAbove k [] = Unit {0}
-BeginsAbove k (g ∷ gs) = tuple_cmp k g.0 ≡ Less
-
 -- where the group of k is, or where it belongs
 abbrev pub IsSpot : List AnyValue → Table → Spot → Type 0
 IsSpot k table (spot.At i) = (i < length table) × AllBelow k (take i table) × BeginsAt k (drop i table)
-IsSpot k table (spot.Before i) = (i ≤ length table) × AllBelow k (take i table) × BeginsAbove k (drop i table)
+IsSpot k table (spot.Before i) = (i ≤ length table) × AllBelow k (take i table) × AllAbove k (drop i table)

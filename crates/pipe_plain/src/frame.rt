@@ -6,6 +6,7 @@ ghost use Rattle.pipe_aggs.specs.Output.{known_type, output_schema};
 ghost use Rattle.pipe_plain.specs.PlainQuery.{is_plain, query_tree};
 ghost use Rattle.pipe_plain.specs.Running.{group_seen, output_row as row_given};
 
+use crate::conditions::dtype_named;
 use crate::groups::Group;
 use crate::query::PlainQuery;
 use pipe_columns::{AnyValue, Column, DataFrame, DataType, Field, Text};
@@ -16,12 +17,7 @@ use std::alloc::{AllocError, Global};
 fn dtype_of(fields: &[Field], name: &Text) -> DataType
     ensures { result ≡ known_type (column name.now) fields.now }
 {
-    for field in fields {
-        if field.name == *name {
-            return field.dtype;
-        }
-    }
-    DataType::UInt32
+    dtype_named(fields, name).unwrap_or(DataType::UInt32)
 }
 
 /// The type of what an aggregate gives.
@@ -135,8 +131,5 @@ pub fn output_frame(
     for place in 0..fields.len() {
         columns.push(output_column(alloc, &fields[place], rows, place)?)?;
     }
-    match DataFrame::new(rows.len(), columns) {
-        Some(frame) => Ok(frame),
-        None => Err(AllocError),
-    }
+    Ok(DataFrame::new(rows.len(), columns).unwrap())
 }

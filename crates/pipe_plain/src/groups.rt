@@ -46,7 +46,7 @@ impl Group {
     }
 }
 
-ghost use Rattle.pipe_plain.specs.Running.{fed, group_seen, IsSpot, starts, TableSeen, with_row};
+ghost use Rattle.pipe_plain.specs.Running.{fed, group_seen, IsAscending, IsSpot, starts, TableSeen, with_row};
 
 /// The aggregates of a query before any row.
 fn starting(alloc: Global, aggs: &[PlainAgg]) -> Result<Vec<AggregateFunction>, AllocError>
@@ -78,16 +78,20 @@ fn new_group(
 
 /// Where a table has the group of a row.
 fn find(table: &[Group], columns: &[Column], row: usize, keys: &[usize]) -> Spot
+    requires { IsAscending (map group_seen table.now) }
     ensures { IsSpot (cells columns.now row keys.now) (map group_seen table.now) result }
 {
-    for i in 0..table.len() {
-        match compare_key(columns, row, keys, &table[i].key) {
-            Ordering::Less => return Spot::Before(i),
-            Ordering::Equal => return Spot::At(i),
-            Ordering::Greater => {}
+    let mut low = 0;
+    let mut high = table.len();
+    while low < high {
+        let middle = low + (high - low) / 2;
+        match compare_key(columns, row, keys, &table[middle].key) {
+            Ordering::Less => high = middle,
+            Ordering::Equal => return Spot::At(middle),
+            Ordering::Greater => low = middle + 1,
         }
     }
-    Spot::Before(table.len())
+    Spot::Before(low)
 }
 
 /// Puts a row into a table.
@@ -99,7 +103,8 @@ pub fn add_row(
     positions: &Positions,
     place: Place,
 ) -> Result<(), AllocError>
-    requires { TableSeen (2 ^ 32 - 2) (map group_seen table.old.items) }
+    requires seen { TableSeen (2 ^ 32 - 2) (map group_seen table.old.items) }
+    requires ascending { IsAscending (map group_seen table.old.items) }
     ensures { OnOk result (map group_seen table.new.items ≡ with_row (starts aggs.now) (map group_seen table.old.items) (row_read columns.now positions.now place)) }
 {
     match find(table, columns, place.row as usize, &positions.keys) {

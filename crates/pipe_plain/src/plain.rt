@@ -3,7 +3,7 @@ ghost use Rattle.pipe_aggs.specs.Expr.{column};
 ghost use Rattle.pipe_model.specs.Rows.{AreChunksOf, chunk_rows, rows};
 ghost use Rattle.pipe_model.specs.Answer.{answer};
 ghost use Rattle.pipe_plain.specs.PlainQuery.{is_plain, query_tree};
-ghost use Rattle.pipe_plain.specs.Running.{group_seen, starts, TableSeen, with_rows};
+ghost use Rattle.pipe_plain.specs.Running.{group_seen, IsAscending, starts, TableSeen, with_rows};
 
 use crate::frame::{output_fields, output_frame, output_rows};
 use crate::groups::{Group, add_row};
@@ -22,6 +22,7 @@ fn add_chunk(
 ) -> Result<(), AllocError>
     requires height { frame.now.height < 2 ^ 32 }
     requires seen { TableSeen (2 ^ 32 - 1 - frame.now.height) (map group_seen table.old.items) }
+    requires ascending { IsAscending (map group_seen table.old.items) }
     ensures { OnOk result (map group_seen table.new.items ≡ with_rows (starts query.now.aggs.items) (map group_seen table.old.items) (chunk_rows (query_tree query.now) index frame.now)) }
 {
     let columns = frame.columns();

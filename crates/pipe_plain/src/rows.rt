@@ -75,9 +75,10 @@ fn value_in(columns: &[Column], row: usize, position: usize) -> Option<&AnyValue
 fn compare_cell(columns: &[Column], row: usize, position: usize, value: &AnyValue) -> Ordering
     ensures { result ≡ value_cmp (cell columns.now row position) value.now }
 {
-    match value_in(columns, row, position) {
-        Some(own) => own.cmp(value),
-        None => AnyValue::Null.cmp(value),
+    match (value_in(columns, row, position), value) {
+        (Some(AnyValue::Int(own)), AnyValue::Int(other)) => own.cmp(other),
+        (Some(own), _) => own.cmp(value),
+        (None, _) => AnyValue::Null.cmp(value),
     }
 }
 

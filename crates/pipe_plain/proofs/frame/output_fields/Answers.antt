@@ -1,6 +1,5 @@
-use Rattle.std.proofs.Common.{arith, ◌∙◌, ◌≤◌, List, ◌++◌, length, map, take, ap}
+use Rattle.std.proofs.Common.{arith, ◌∙◌, ◌≤◌, List, ◌++◌, length, map, ap}
 use Rattle.std.proofs.lemmas.List.{take_all}
-use Rattle.pipe_columns.specs.declared.schema.Field.{Field}
 use Rattle.pipe_plain.specs.declared.query.PlainAgg.{PlainAgg}
 use Rattle.pipe_plain.specs.declared.query.PlainQuery.{PlainQuery}
 use Rattle.pipe_plain.specs.Fields.{agg_field, key_field}

@@ -1,9 +1,10 @@
-use Rattle.std.proofs.Common.{◌∙◌, ◌≡◌, false, List, ◌∷◌, [], ◌++◌, map, take, ap, sym}
+use Rattle.std.proofs.Common.{◌∙◌, ◌≡◌, arith, false, true, length, List, ◌∷◌, [], ◌++◌, map, take, ap, sym}
+use Rattle.std.proofs.lemmas.List.{length-map, take_all}
 use Rattle.pipe_columns.specs.declared.any_value.AnyValue.{AnyValue}
 use Rattle.pipe_columns.specs.declared.schema.Field.{Field}
-use Rattle.pipe_columns.specs.Frame.{ColumnData, columns_from, value_at}
+use Rattle.pipe_columns.specs.Frame.{all_have_height, ColumnData, columns_from, value_at}
 use Rattle.pipe_plain.proofs.ChunkFacts.{map_twice}
-use Rattle.pipe_plain.proofs.FrameFacts.{columns_from-more}
+use Rattle.pipe_plain.proofs.FrameFacts.{columns_from-more, heights, is_there}
 use Rattle.pipe_plain.proofs.frame.output_frame.Goals as goal
 
 pub loop-place-preserved : goal.loop-place-preserved
@@ -17,3 +18,12 @@ loop-place-preserved c =
     c.in_ok-push.ensures.items ∙ ap (λ (t : List ColumnData). t ++ (c.in_ok-output_column.field-0 ∷ [])) c.loop-place.invariant
     ∙ ap (λ (x : ColumnData). columns_from 0 (take place c.args.fields.now) rows ++ (x ∷ [])) column
     ∙ columns_from-more c.args.fields.now place f rows c.loop-place-test.true c.index-fields-place.is
+
+pub unwrap-requires : goal.unwrap-requires
+unwrap-requires c =
+    let rows : List (List AnyValue) = map (λ row. row.items) c.args.rows.now in
+    let fields : List Field = c.args.fields.now in
+    let all : columns_from 0 (take c.loop-place.place fields) rows ≡ columns_from 0 fields rows = ap (λ (fs : List Field). columns_from 0 fs rows) (take_all c.loop-place.place fields (omega (arith, c.loop-place-test.false))) in
+    let same : length rows ≡ length c.args.rows.now = length-map c.args.rows.now (λ row. row.items) in
+    let high : all_have_height (length c.args.rows.now) c.loop-place.columns.items ≡ true = rw (c.loop-place.invariant, all, ← same) (heights 0 fields rows) in
+    is_there c.new.result (all_have_height (length c.args.rows.now) c.loop-place.columns.items) c.new.ensures.none high

@@ -1,4 +1,4 @@
-use Rattle.std.proofs.Common.{arith, ◌∙◌, ◌≡◌, ◌<◌, List, ◌++◌, length, take, drop, ap}
+use Rattle.std.proofs.Common.{arith, ◌∙◌, ◌<◌, List, ◌++◌, length, take, ap}
 use Rattle.std.proofs.lemmas.List.{append_assoc, length-drop}
 use Rattle.pipe_columns.specs.declared.any_value.AnyValue.{AnyValue}
 use Rattle.pipe_running.specs.declared.interface.Finalized.{Finalized}

@@ -1,10 +1,8 @@
-use Rattle.std.proofs.Common.{rules, arith, ◌≡◌, ◌<◌, ◌-◌, ◌^◌, ◌∙◌, ap, List, length, map}
+use Rattle.std.proofs.Common.{rules, ◌≡◌, ◌<◌, ◌-◌, ◌^◌, ◌∙◌, ap, List, length, map}
 use Rattle.std.specs.Prelude.{OnOk}
 use Rattle.std.proofs.lemmas.List.{length-map}
 use Rattle.std.proofs.lemmas.Result.{on_ok_weaker}
-use Rattle.pipe_columns.specs.declared.any_value.AnyValue.{AnyValue}
 use Rattle.pipe_columns.specs.Row.{Row}
-use Rattle.pipe_running.specs.declared.function.AggregateFunction.{AggregateFunction}
 use Rattle.pipe_plain.specs.declared.groups.Group.{Group}
 use Rattle.pipe_plain.specs.declared.groups.Spot.TheVariants as spot
 use Rattle.pipe_plain.specs.Running.{fed, group_seen, IsSpot, starts}
@@ -20,7 +18,7 @@ feed-requires c =
     let row : Row = row_read c.args.columns.now c.args.positions.now c.args.place in
     let here : IsSpot row.key (map group_seen items) (spot.At c.in-At.i) = search rules in
     let within : c.in-At.i < length items = rw length-map at here.0 in
-    rw c.index_mut-group.ensures.value (table-at (2 ^ 32 - 2) items c.in-At.i group within c.requires)
+    rw c.index_mut-group.ensures.value (table-at (2 ^ 32 - 2) items c.in-At.i group within c.requires.seen)
 
 pub returns-in-At : goal.returns-in-At
 returns-in-At c =

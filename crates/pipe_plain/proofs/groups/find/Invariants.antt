@@ -1,8 +1,16 @@
-use Rattle.std.proofs.Common.{map, take}
+use Rattle.std.proofs.Common.{◌≤◌, ◌-◌, length, map, take, drop}
 use Rattle.pipe_plain.specs.Cells.{cells}
-use Rattle.pipe_plain.specs.Running.{AllBelow, group_seen}
+use Rattle.pipe_plain.specs.Running.{AllAbove, AllBelow, group_seen}
 use Rattle.pipe_plain.proofs.groups.find.Given as goal
 
--- the groups so far are below the row's key
-abbrev pub invariant-loop-i : goal.invariant-loop-i
-invariant-loop-i l = AllBelow (cells l.columns l.row l.keys) (map group_seen (take l.i l.table))
+-- the groups before low are below the row's key, and those from high on are above it
+abbrev pub invariant-loop-low : goal.invariant-loop-low
+invariant-loop-low l = record {
+  ordered : l.low ≤ l.high;
+  within : l.high ≤ length l.table;
+  below : AllBelow (cells l.columns l.row l.keys) (take l.low (map group_seen l.table));
+  above : AllAbove (cells l.columns l.row l.keys) (drop l.high (map group_seen l.table));
+}
+
+abbrev pub decreases-loop-low : goal.decreases-loop-low
+decreases-loop-low l = l.high - l.low

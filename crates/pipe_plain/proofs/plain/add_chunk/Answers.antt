@@ -1,6 +1,5 @@
-use Rattle.std.proofs.Common.{rules, arith, ◌≡◌, ◌+◌, ◌-◌, ◌^◌, ◌∙◌, List, map, ap}
+use Rattle.std.proofs.Common.{arith, ◌≡◌, ◌+◌, ◌-◌, ◌^◌, ◌∙◌, List, map, ap}
 use Rattle.pipe_columns.specs.Frame.{FrameData}
-use Rattle.pipe_columns.specs.Row.{Row}
 use Rattle.pipe_running.specs.declared.function.AggregateFunction.{AggregateFunction}
 use Rattle.pipe_model.specs.Rows.{row_of}
 use Rattle.pipe_plain.specs.declared.query.PlainQuery.{PlainQuery}
@@ -10,10 +9,11 @@ use Rattle.pipe_plain.specs.PlainQuery.{query_tree}
 use Rattle.pipe_plain.specs.Running.{group_seen, starts, Table, TableSeen, with_row}
 use Rattle.pipe_plain.proofs.ChunkFacts.{row_read_is, with_rows_more}
 use Rattle.pipe_plain.proofs.SeenFacts.{starts-seen, table-weaker, with_row-seen}
+use Rattle.pipe_plain.proofs.SpotFacts.{with_row-ascending}
 use Rattle.pipe_plain.proofs.plain.add_chunk.Goals as goal
 
-pub add_row-requires : goal.add_row-requires
-add_row-requires c =
+pub add_row-requires-clause-seen : goal.add_row-requires-clause-seen
+add_row-requires-clause-seen c =
     let height = c.height-row-end.ensures in
     let test = c.loop-row-test.true in
     table-weaker (2 ^ 32 - 1 - c.args.frame.now.height + c.loop-row.row) (2 ^ 32 - 2) (map group_seen c.loop-row.table.items) (omega (arith, height, test)) c.loop-row.invariant.seen
@@ -37,5 +37,6 @@ loop-row-preserved c =
     record {
       table = added ∙ ap (with_row start before) read ∙ ap (λ (t : Table). with_row start t (row_of (query_tree q) i frame n)) c.loop-row.invariant.table
           ∙ with_rows_more (query_tree q) start (map group_seen c.args.table.now.items) i n frame;
+      ascending = rw added (with_row-ascending start before (row_read frame.columns positions (record { chunk = i; row = n })) c.loop-row.invariant.ascending);
       seen = table-weaker (room + 1) (2 ^ 32 - 1 - frame.height + (n + 1)) (map group_seen c.add_row.new.table.items) (omega arith) (rw added seen);
     }

@@ -22,4 +22,4 @@ returns c =
     let made : frame_of c.deref.result.now (map (λ row. row.items) c.deref-2.result.now) ≡ answer c.args.chunks.now (query_tree q) 1 =
     ap (λ (fs : List Field). frame_of fs (map (λ row. row.items) c.deref-2.result.now)) fields ∙ ap (λ (rs : List (List AnyValue)). frame_of (output_schema (query_tree q)) rs) rows ∙ whole in
     IfOk-weaker c.output_frame.result (λ (f : FrameData). f ≡ frame_of c.deref.result.now (map (λ row. row.items) c.deref-2.result.now)) (λ (f : FrameData). f ≡ answer c.args.chunks.now (query_tree q) 1)
-        (λ f e. e ∙ made) c.output_frame.ensures
+    (λ f e. e ∙ made) c.output_frame.ensures

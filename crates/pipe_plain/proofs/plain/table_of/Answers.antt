@@ -1,14 +1,14 @@
-use Rattle.std.proofs.Common.{rules, arith, ◌≡◌, ◌+◌, ◌-◌, ◌<◌, ◌^◌, ◌∙◌, List, [], length, map, take, ap}
+use Rattle.std.proofs.Common.{arith, ◌+◌, ◌-◌, ◌<◌, ◌^◌, ◌∙◌, List, [], length, take, ap}
 use Rattle.pipe_columns.specs.declared.data_chunk.DataChunk.{DataChunk}
 use Rattle.pipe_columns.specs.Row.{Row}
 use Rattle.pipe_running.specs.declared.function.AggregateFunction.{AggregateFunction}
-use Rattle.pipe_aggs.specs.Query.{QueryTree}
 use Rattle.pipe_model.specs.Rows.{chunk_rows, rows}
 use Rattle.pipe_plain.specs.declared.query.PlainQuery.{PlainQuery}
 use Rattle.pipe_plain.specs.PlainQuery.{query_tree}
-use Rattle.pipe_plain.specs.Running.{group_seen, starts, Table, with_rows}
+use Rattle.pipe_plain.specs.Running.{starts, Table, with_rows}
 use Rattle.pipe_plain.proofs.ChunkFacts.{rows_before, with_chunk_more}
 use Rattle.pipe_plain.proofs.SeenFacts.{table-weaker, with_rows-seen}
+use Rattle.pipe_plain.proofs.SpotFacts.{with_rows-ascending}
 use Rattle.pipe_plain.proofs.plain.table_of.Goals as goal
 
 pub add_chunk-requires-clause-seen : goal.add_chunk-requires-clause-seen
@@ -27,3 +27,8 @@ loop-index-preserved c =
     let start : List AggregateFunction = starts q.aggs.items in
     c.in_ok-add_chunk.ensures ∙ ap (λ (t : Table). with_rows start t (chunk_rows (query_tree q) i chunk.frame)) c.loop-index.invariant
     ∙ with_chunk_more (query_tree q) start c.args.chunks.now i chunk c.loop-index-test.true c.index-chunks-index.is
+
+pub add_chunk-requires-clause-ascending : goal.add_chunk-requires-clause-ascending
+add_chunk-requires-clause-ascending c =
+    let q : PlainQuery = c.args.query.now in
+    rw c.loop-index.invariant (with_rows-ascending (starts q.aggs.items) [] (rows (take c.loop-index.index c.args.chunks.now) (query_tree q)) tt)

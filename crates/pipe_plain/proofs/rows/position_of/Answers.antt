@@ -1,4 +1,4 @@
-use Rattle.std.proofs.Common.{rules, arith, ◌≡◌, true, get_or}
+use Rattle.std.proofs.Common.{rules, arith, ◌≡◌, true}
 use Rattle.std.specs.Str.{bytes_eq}
 use Rattle.pipe_columns.specs.Frame.{ColumnData}
 use Rattle.pipe_plain.proofs.FoundFacts.{found_at, found_nowhere}

@@ -1,6 +1,6 @@
 use Rattle.std.proofs.Common.{◌≡◌, drop}
 use Rattle.pipe_aggs.specs.Typing.{field_named}
-use Rattle.pipe_plain.proofs.frame.dtype_of.Given as goal
+use Rattle.pipe_plain.proofs.conditions.dtype_named.Given as goal
 
 -- the fields so far have other names
 abbrev pub invariant-loop-field : goal.invariant-loop-field
