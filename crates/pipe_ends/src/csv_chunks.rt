@@ -117,3 +117,6 @@ pub fn read_chunks(
     }
     read_rows(alloc, &mut reader, fields, file, chunk_size)
 }
+
+#[cfg(test)]
+mod tests;

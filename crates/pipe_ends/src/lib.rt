@@ -4,8 +4,6 @@
 
 mod columns;
 mod csv_chunks;
-#[cfg(test)]
-mod csv_chunks_tests;
 mod csv_error;
 mod csv_record;
 mod csv_text;
