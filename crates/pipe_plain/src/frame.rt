@@ -99,7 +99,8 @@ fn own_value(alloc: Global, row: &[AnyValue], place: usize) -> Result<AnyValue, 
     }
 }
 
-/// The column of a field, from the values at a place of the rows.
+/// The column of a field, from the values at a place of the rows. Values that don't fit the field's
+/// type are an error.
 fn output_column(
     alloc: Global,
     field: &Field,

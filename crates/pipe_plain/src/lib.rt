@@ -1,5 +1,5 @@
-//! The plain program: groups in a sorted list. It is slow in the number of groups, and its contract
-//! is the answer itself, so faster programs are tested beside it.
+//! The plain program: groups in a sorted list. It is simple, and its contract is the answer itself,
+//! so faster programs are tested beside it.
 #![tactic(auto)]
 
 mod conditions;

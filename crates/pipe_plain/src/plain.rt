@@ -55,8 +55,8 @@ fn table_of(
     Ok(table)
 }
 
-/// The answer of a query over chunks, whose groups are in the order of their keys. The only error
-/// is want of memory.
+/// The answer of a query over chunks, whose groups are in the order of their keys. The error is want
+/// of memory.
 pub fn plain_answer(
     alloc: Global,
     chunks: &[DataChunk],
