@@ -90,16 +90,19 @@ groups_are q rs = ap (λ (o : List AnyValue → List AnyValue → Ordering). sor
 
 -- ---- the answer
 
--- what the groups of all rows give is the answer
-pub answer_is : (q : PlainQuery) (chunks : List DataChunk) (table : Table) → is_plain q ≡ true → table ≡ with_rows (starts q.aggs.items) [] (rows chunks (query_tree q))
-    → frame_of (output_schema (query_tree q)) (map output_row table) ≡ answer chunks (query_tree q) 1
-answer_is q chunks table plain e =
+-- each group of all rows gives a row of the answer
+pub rows_given : (q : PlainQuery) (chunks : List DataChunk) (table : Table) → is_plain q ≡ true → table ≡ with_rows (starts q.aggs.items) [] (rows chunks (query_tree q))
+    → map output_row table ≡ map (answer_row (query_tree q) (rows chunks (query_tree q))) (groups (rows chunks (query_tree q)) (query_tree q) 1)
+rows_given q chunks table plain e =
     let rs : List Row = rows chunks (query_tree q) in
     let start : List AggregateFunction = starts q.aggs.items in
     let line : List AnyValue → List AnyValue × List AggregateFunction = λ k. (k, states_of start (rows_at rs k)) in
     let rows_are : (k : List AnyValue) → output_row (line k) ≡ answer_row (query_tree q) rs k = λ k. ap (λ (t : List AnyValue). k ++ t) (outputs_from q.schema q.aggs.items 0 (rows_at rs k) (aggs_taken q plain)) in
-    let all : map output_row table ≡ map (answer_row (query_tree q) rs) (groups rs (query_tree q) 1) =
     ap (map output_row) (e ∙ table_is start rs) ∙ map_twice output_row line (sorted_keys tuple_cmp (map (λ (r : Row). r.key) rs))
     ∙ ap (λ (f : List AnyValue → List AnyValue). map f (sorted_keys tuple_cmp (map (λ (r : Row). r.key) rs))) (λ i k. rows_are k i)
-    ∙ ap (map (answer_row (query_tree q) rs)) (sym (groups_are q rs)) in
-    ap (frame_of (output_schema (query_tree q))) all
+    ∙ ap (map (answer_row (query_tree q) rs)) (sym (groups_are q rs))
+
+-- what the groups of all rows give is the answer
+pub answer_is : (q : PlainQuery) (chunks : List DataChunk) (table : Table) → is_plain q ≡ true → table ≡ with_rows (starts q.aggs.items) [] (rows chunks (query_tree q))
+    → frame_of (output_schema (query_tree q)) (map output_row table) ≡ answer chunks (query_tree q) 1
+answer_is q chunks table plain e = ap (frame_of (output_schema (query_tree q))) (rows_given q chunks table plain e)

@@ -79,7 +79,8 @@ with_chunk_more q start chunks i c h e =
 
 -- ---- how many rows
 
-length-rows_from : (q : QueryTree) (i : ℕ) (cs : List DataChunk) → length (rows_from q i cs) ≡ total_height cs
+-- each row of each chunk is one
+pub length-rows_from : (q : QueryTree) (i : ℕ) (cs : List DataChunk) → length (rows_from q i cs) ≡ total_height cs
 length-rows_from q i [] = refl
 length-rows_from q i (c ∷ cs) = length-append (chunk_rows q i c.frame) (rows_from q (i + 1) cs)
     ∙ omega (arith, length-map-range_with_len (λ n. row_of q i c.frame n) 0 c.frame.height, length-rows_from q (i + 1) cs, sum_by-cons (λ (x : DataChunk). x.frame.height) c cs)

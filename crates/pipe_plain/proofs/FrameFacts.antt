@@ -95,7 +95,8 @@ pub both : (a b : Bool) → a && b ≡ true → (a ≡ true) × (b ≡ true)
 both true b e = (refl, e)
 both false b e = cc
 
-aggs_fields : (schema : List Field) (aggs : List PlainAgg) → list_all (λ a. takes a.function (type_of (column a.input) schema)) aggs ≡ true
+-- the columns of the aggregates are one each
+pub aggs_fields : (schema : List Field) (aggs : List PlainAgg) → list_all (λ a. takes a.function (type_of (column a.input) schema)) aggs ≡ true
     → flat_map (λ a. agg_fields a.name a.kind (input_type schema a.input)) (map agg_tree aggs) ≡ map agg_field aggs
 aggs_fields schema [] e = refl
 aggs_fields schema (a ∷ aggs) e =

@@ -1,5 +1,6 @@
 pub mod AnswerFacts
 pub mod ChunkFacts
+pub mod FitFacts
 pub mod FoundFacts
 pub mod FrameFacts
 pub mod GroupFacts

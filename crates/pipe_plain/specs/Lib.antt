@@ -1,4 +1,5 @@
 pub mod PlainQuery
 pub mod Cells
 pub mod Fields
+pub mod Fits
 pub mod Running

@@ -1,8 +1,9 @@
 ghost use Rattle.std.specs.Prelude.{◌≡◌, ◌∷◌, ◌++◌, IfOk, OnOk, map, true, false};
-ghost use Rattle.pipe_columns.specs.Frame.{frame_of, value_at};
+ghost use Rattle.pipe_columns.specs.Frame.{all_fit, frame_of, value_at};
 ghost use Rattle.pipe_running.specs.States.{given_type, output_values};
 ghost use Rattle.pipe_aggs.specs.Expr.{column};
 ghost use Rattle.pipe_aggs.specs.Output.{known_type, output_schema};
+ghost use Rattle.pipe_plain.specs.Fits.{RowsFit};
 ghost use Rattle.pipe_plain.specs.PlainQuery.{is_plain, query_tree};
 ghost use Rattle.pipe_plain.specs.Running.{group_seen, output_row as row_given};
 
@@ -99,14 +100,14 @@ fn own_value(alloc: Global, row: &[AnyValue], place: usize) -> Result<AnyValue, 
     }
 }
 
-/// The column of a field, from the values at a place of the rows. Values that don't fit the field's
-/// type are an error.
+/// The column of a field, from the values at a place of the rows.
 fn output_column(
     alloc: Global,
     field: &Field,
     rows: &[Vec<AnyValue>],
     place: usize,
 ) -> Result<Column, AllocError>
+    requires { all_fit field.now.dtype (map (λ row. value_at row.items place) rows.now) ≡ true }
     ensures { IfOk result (λ c. c ≡ record { name = field.now.name; dtype = field.now.dtype; sorted = false; values = map (λ row. value_at row.items place) rows.now }) }
 {
     let mut values = Vec::new(alloc);
@@ -114,18 +115,16 @@ fn output_column(
         values.push(own_value(alloc, row, place)?)?;
     }
     let name = field.name.try_clone(alloc)?;
-    match Column::new(name, field.dtype, false, values) {
-        Some(column) => Ok(column),
-        None => Err(AllocError),
-    }
+    Ok(Column::new(name, field.dtype, false, values).unwrap())
 }
 
-/// The frame of rows.
+/// The frame of rows that fit the fields.
 pub fn output_frame(
     alloc: Global,
     fields: &[Field],
     rows: &[Vec<AnyValue>],
 ) -> Result<DataFrame, AllocError>
+    requires { RowsFit fields.now (map (λ row. row.items) rows.now) }
     ensures { IfOk result (λ f. f ≡ frame_of fields.now (map (λ row. row.items) rows.now)) }
 {
     let mut columns = Vec::new(alloc);

@@ -4,6 +4,7 @@ use Rattle.pipe_columns.specs.declared.any_value.AnyValue.{AnyValue}
 use Rattle.pipe_columns.specs.declared.schema.Field.{Field}
 use Rattle.pipe_columns.specs.Frame.{all_have_height, ColumnData, columns_from, value_at}
 use Rattle.pipe_plain.proofs.ChunkFacts.{map_twice}
+use Rattle.pipe_plain.proofs.FitFacts.{column-fits}
 use Rattle.pipe_plain.proofs.FrameFacts.{columns_from-more, heights, is_there}
 use Rattle.pipe_plain.proofs.frame.output_frame.Goals as goal
 
@@ -27,3 +28,6 @@ unwrap-requires c =
     let same : length rows ≡ length c.args.rows.now = length-map c.args.rows.now (λ row. row.items) in
     let high : all_have_height (length c.args.rows.now) c.loop-place.columns.items ≡ true = rw (c.loop-place.invariant, all, ← same) (heights 0 fields rows) in
     is_there c.new.result (all_have_height (length c.args.rows.now) c.loop-place.columns.items) c.new.ensures.none high
+
+pub output_column-requires : goal.output_column-requires
+output_column-requires c = column-fits c.args.fields.now c.loop-place.place c.index-fields-place.result c.args.rows.now c.loop-place-test.true c.index-fields-place.is c.requires
