@@ -1,3 +1,4 @@
 pub mod Shapes
 pub mod PlainForms
 pub mod OutputNames
+pub mod ChunksHold
