@@ -46,6 +46,7 @@ row-fits file row fs ts values false s e = let f : Err (width file row) ≡ Ok v
 
 -- ---- rows
 
+-- so do those of each row, where all read
 rows-fit : (file row : ℕ) (fs : List Field) (rest : Records) (rows : List Values) → read_rows file row fs rest ≡ Ok rows → All (λ r. RowFits 0 fs r) rows
 rows-fit file row fs [] rows e = let P : List Values → Type 0 = λ rs. All (λ r. RowFits 0 fs r) rs in subst P (same_Ok {E = Misfit} [] rows e) (All-nil (λ r. RowFits 0 fs r))
 rows-fit file row fs (r ∷ rs) rows e =
@@ -54,16 +55,19 @@ rows-fit file row fs (r ∷ rs) rows e =
     let F : Values → Type 0 = λ r. RowFits 0 fs r in
     subst P (sym parts.4) (All-cons F parts.0 parts.1 (row-fits file row fs r parts.0 (length r == length fs) refl parts.2) (rows-fit file (row + 1) fs rs parts.1 parts.3))
 
+-- so do those of the rows under a header
 under-fit : (file : ℕ) (fs : List Field) (rest : Records) (rows : List Values) (b : Bool) (r : List (List ℕ)) → is_header fs r ≡ b → read_records file fs (r ∷ rest) ≡ Ok rows → All (λ r. RowFits 0 fs r) rows
 under-fit file fs rest rows true r h e = rows-fit file 1 fs rest rows (sym (same_header file fs (r ∷ rest) rest r refl h) ∙ e)
 under-fit file fs rest rows false r h e = let f : Err (header file) ≡ Ok rows = sym (other_header file fs (r ∷ rest) rest r refl h) ∙ e in cc
 
+-- so do those of the rows of records
 records-fit : (file : ℕ) (fs : List Field) (rest : Records) (rows : List Values) → read_records file fs rest ≡ Ok rows → All (λ r. RowFits 0 fs r) rows
 records-fit file fs [] rows e = cc
 records-fit file fs (r ∷ rest) rows e = under-fit file fs rest rows (is_header fs r) r refl e
 
 -- ---- chunks
 
+-- rows that fit, one after the other
 rows-each : (fs : List Field) (rows : List Values) → All (λ r. RowFits 0 fs r) rows → RowsFit 0 fs rows
 rows-each fs [] h = tt
 rows-each fs (r ∷ rs) h = let F : Values → Type 0 = λ r. RowFits 0 fs r in (All-head F r rs h, rows-each fs rs (All-tail F r rs h))
@@ -75,11 +79,13 @@ columns-hold n i (f ∷ fs) rows h =
     let P : ColumnData → Type 0 = λ c. AllFit c.dtype c.values in
     All-cons P (record { name = f.name; dtype = f.dtype; sorted = false; values = map (λ row. value_at row i) rows }) (columns_from (i + 1) fs rows) h.0 (columns-hold n (i + 1) fs rows h.2)
 
+-- the frame of rows that fit holds values of its types
 frame-holds : (fs : List Field) (rows : List Values) → All (λ r. RowFits 0 fs r) rows → HoldsTypes (flagged_frame fs rows)
 frame-holds fs rows h =
     let P : ColumnData → Type 0 = λ c. AllFit c.dtype c.values in
     All-map P flagged (columns_from 0 fs rows) (columns-hold (length rows) 0 fs rows (rows-hold 0 fs rows (rows-each fs rows h)))
 
+-- so do the frames of their pieces
 pieces-hold : (most n i : ℕ) (fs : List Field) (rows : List Values) → All (λ r. RowFits 0 fs r) rows → All (λ c. HoldsTypes c.frame) (chunks_from i fs (pieces_within most n rows))
 pieces-hold zero n i fs rows h = All-nil (λ c. HoldsTypes c.frame)
 pieces-hold (suc most) n i fs [] h = All-nil (λ c. HoldsTypes c.frame)

@@ -55,6 +55,7 @@ fits-at (f ∷ fs) [] i d lt h = absurd h
 fits-at (f ∷ fs) (v ∷ vs) zero d lt h = h.0
 fits-at (f ∷ fs) (v ∷ vs) (suc i) d lt h = fits-at fs vs i d (omega arith) h.1
 
+-- two tests that hold
 joined : (a b : Bool) → a ≡ true → b ≡ true → (a && b) ≡ true
 joined true b e h = h
 joined false b e h = cc
@@ -103,13 +104,16 @@ key-fits schema frame n (column name ∷ keys) e h =
 abbrev key_fields : QueryTree → List Field
 key_fields q = map (λ e. record { name = name_of e; dtype = known_type e q.schema }) q.keys
 
+-- the key of a row fits the fields of the keys
 abbrev KeyFits : QueryTree → Row → Type 0
 KeyFits q r = RowFits (key_fields q) r.key
 
+-- so do the keys of the rows of a chunk
 chunk_keys-fit : (q : QueryTree) (i : ℕ) (frame : FrameData) (ns : List ℕ) → FitsSchema q.schema frame → HoldsTypes frame → All (KeyFits q) (map (λ n. row_of q i frame n) ns)
 chunk_keys-fit q i frame [] e h = All-nil (KeyFits q)
 chunk_keys-fit q i frame (n ∷ ns) e h = All-cons (KeyFits q) (row_of q i frame n) (map (λ m. row_of q i frame m) ns) (key-fits q.schema frame n q.keys e h) (chunk_keys-fit q i frame ns e h)
 
+-- so do those of the rows of chunks
 keys-fit : (q : QueryTree) (i : ℕ) (chunks : List DataChunk) → All (λ c. FitsSchema q.schema c.frame) chunks → All (λ c. HoldsTypes c.frame) chunks → All (KeyFits q) (rows_from q i chunks)
 keys-fit q i [] e h = All-nil (KeyFits q)
 keys-fit q i (c ∷ cs) e h =
@@ -131,6 +135,7 @@ module _ {K : Type 0} (P : K → Type 0) (order : K → K → Ordering) where
     put_at Equal rest = h
     put_at Greater rest = All-cons P x (put_key order k xs) (All-head P x xs h) rest
 
+  -- so it does of keys that are put one by one
   fold-holds : (done ks : List K) → All P done → All P ks → All P (fold (λ sorted k. put_key order k sorted) done ks)
   fold-holds done [] d h = d
   fold-holds done (k ∷ ks) d h = fold-holds (put_key order k done) ks (put-holds k done (All-head P k ks h) d) (All-tail P k ks h)
@@ -147,6 +152,7 @@ agg-fits : (name : List ℕ) (f : AggregateFunction) (t : DataType) (fs : List F
 agg-fits name (function.Count a) t fs entries rest s few h = ((both _ _ (fits-given (function.Count a) t entries s few)).0, h)
 agg-fits name (function.SumI64 a) t fs entries rest s few h = ((both _ _ (fits-given (function.SumI64 a) t entries s few)).0, h)
 
+-- what the aggregates of some rows give fits their fields
 aggs-fit : (schema : List Field) (aggs : List PlainAgg) (j : ℕ) (entries : List (Place × List AnyValue)) → list_all (λ a. takes a.function (type_of (column a.input) schema)) aggs ≡ true → length entries < 2 ^ 32
     → RowFits (map agg_field aggs) (aggs_from j schema (map agg_tree aggs) entries)
 aggs-fit schema [] j entries e few = tt
