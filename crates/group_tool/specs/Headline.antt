@@ -31,7 +31,9 @@ answer_text files q = csv_text (answer (input_chunks files q.schema).chunks q 1)
 
 -- the status that a text owes, where nothing fails: 7 for too many bytes, 4 for a misfit
 abbrev pub text_status : List Field → List ℕ → ℕ
-text_status schema text = if nat_lt most_bytes (length text) then 7 else (if is_ok (text_rows 1 schema text) then 0 else 4)
+text_status schema text =
+    if nat_lt most_bytes (length text) then 7
+    else (if is_ok (text_rows 1 schema text) then 0 else 4)
 
 -- the status that a file owes, where nothing fails: 4 where there is none
 abbrev pub file_status : List Field → Option (List ℕ) → ℕ
@@ -47,13 +49,16 @@ due_status (Some q) files = file_status q.schema (file_of files input_name)
 abbrev pub IsDue : ℕ → Option QueryTree → Option Files → Type 0
 IsDue status query told = IfSome told (λ files. due_status query files ≡ status)
 
--- where the input tells its files, a status is the one due, or that of a fault of reading, of writing or of memory
+-- where the input tells its files, a status is the one due, or that of a fault of reading, of
+-- writing or of memory
 abbrev pub EndsAsDue : ℕ → Option QueryTree → Option Files → Type 0
-EndsAsDue status query told = IfSome told (λ files. (status ≡ due_status query files) ⊎ (status ≡ 5) ⊎ (status ≡ 6) ⊎ (status ≡ 10))
+EndsAsDue status query told =
+    IfSome told (λ files. (status ≡ due_status query files) ⊎ (status ≡ 5) ⊎ (status ≡ 6) ⊎ (status ≡ 10))
 
 -- where the input tells its files, these are the chunks of standard input, which fits
 abbrev pub AreInput : List Field → Option Files → List DataChunk → Type 0
-AreInput schema told chunks = IfSome told (λ files. input_chunks files schema ≡ record { chunks = chunks; stop = None })
+AreInput schema told chunks =
+    IfSome told (λ files. input_chunks files schema ≡ record { chunks = chunks; stop = None })
 
 -- where the input tells its files, this is the text that a query owes
 abbrev pub IsAnswerText : Option QueryTree → Option Files → List ℕ → Type 0

@@ -58,8 +58,10 @@ fn line(fault: ToolFault) -> &'static [u8]
 /// status is that of wanting memory.
 pub fn tell<E: Output>(faults: &mut E, fault: ToolFault) -> u8
     ensures status { result ≢ 10 → result ≡ status_of fault }
-    ensures whole { result ≢ 10 → (Rose (E.faults faults.old) (E.faults faults.new) → ⊥) → Appends (E.told faults.old) (E.told faults.new) (status_line (status_of fault)) }
-    ensures front { WroteFront (E.told faults.old) (E.told faults.new) (status_line (status_of fault)) }
+    ensures whole { result ≢ 10 → (Rose (E.faults faults.old) (E.faults faults.new) → ⊥)
+        → Appends (E.told faults.old) (E.told faults.new) (status_line (status_of fault)) }
+    ensures front { WroteFront (E.told faults.old) (E.told faults.new)
+        (status_line (status_of fault)) }
 {
     match write_all(faults, line(fault)) {
         Ok(()) => status(fault),

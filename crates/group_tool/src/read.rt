@@ -42,7 +42,8 @@ pub fn read_input<I: InputFiles>(
     ensures fits { OnOk result (IsDue 0 (Some (query_tree query.now)) (I.told input.old)) }
     ensures chunks { IfOk result (λ v. AreChunksOf (query_tree query.now) v.items) }
     ensures cause { IfErr result (λ f. IsCaused f (Some (query_tree query.now)) (I.told input.old)) }
-    ensures failed { IsErrOf result fault.InputFailed → Rose (I.faults input.old) (I.faults input.new) }
+    ensures failed { IsErrOf result fault.InputFailed
+        → Rose (I.faults input.old) (I.faults input.new) }
     ensures written { IsErrOf result fault.OutputFailed → ⊥ }
 {
     let Ok(name) = Text::new(alloc, "-") else {

@@ -5,7 +5,7 @@ ghost use Rattle.std.specs.Io.KnownBytes.{Appends};
 ghost use Rattle.pipe_ends.specs.Causes.{Rose};
 ghost use Rattle.group_tool.specs.Faults.{IsBefore, IsCaused};
 ghost use Rattle.group_tool.specs.Headline.{EndsAsDue, IsAnswerText, IsAnswered, IsBegun, IsDue, due_status};
-ghost use Rattle.group_tool.specs.QueryJson as spec;
+ghost use Rattle.group_tool.specs.QueryJson.{words_query as query_of};
 ghost use Rattle.group_tool.specs.Status.{Tells, TellsFront, is_before_output, is_status, status_line};
 ghost use Rattle.group_tool.specs.declared.fault.ToolFault.TheVariants as fault;
 
@@ -23,12 +23,15 @@ fn make_text<I: InputFiles>(
     words: &[Text],
     input: &mut I,
 ) -> Result<Vec<u8>, ToolFault>
-    ensures text { IfOk result (λ v. IsAnswerText (spec.words_query words.now) (I.told input.old) v.items) }
-    ensures fits { OnOk result (IsDue 0 (spec.words_query words.now) (I.told input.old)) }
-    ensures cause { IfErr result (λ f. IsCaused f (spec.words_query words.now) (I.told input.old)) }
-    ensures failed { IsErrOf result fault.InputFailed → Rose (I.faults input.old) (I.faults input.new) }
+    ensures text { IfOk result
+        (λ v. IsAnswerText (query_of words.now) (I.told input.old) v.items) }
+    ensures fits { OnOk result (IsDue 0 (query_of words.now) (I.told input.old)) }
+    ensures cause { IfErr result (λ f. IsCaused f (query_of words.now) (I.told input.old)) }
+    ensures failed { IsErrOf result fault.InputFailed
+        → Rose (I.faults input.old) (I.faults input.new) }
     ensures written { IsErrOf result fault.OutputFailed → ⊥ }
-    ensures built { spec.words_query words.now ≡ None → IsErrOf result fault.NotBuilt ⊎ IsErrOf result fault.Memory }
+    ensures built { query_of words.now ≡ None
+        → IsErrOf result fault.NotBuilt ⊎ IsErrOf result fault.Memory }
 {
     let query = match words_query(alloc, words) {
         Ok(Some(query)) => query,
@@ -52,15 +55,21 @@ fn run<I: InputFiles, O: Output>(
     input: &mut I,
     output: &mut O,
 ) -> Result<(), ToolFault>
-    ensures answered { OnOk result (IsAnswered (spec.words_query words.now) (I.told input.old) (O.told output.old) (O.told output.new)) }
-    ensures fits { OnOk result (IsDue 0 (spec.words_query words.now) (I.told input.old)) }
-    ensures cause { IfErr result (λ f. IsCaused f (spec.words_query words.now) (I.told input.old)) }
-    ensures input_failed { IsErrOf result fault.InputFailed → Rose (I.faults input.old) (I.faults input.new) }
-    ensures output_failed { IsErrOf result fault.OutputFailed → Rose (O.faults output.old) (O.faults output.new) }
-    ensures begun { IsErrOf result fault.OutputFailed → IsBegun (spec.words_query words.now) (I.told input.old) (O.told output.old) (O.told output.new) }
+    ensures answered { OnOk result
+        (IsAnswered (query_of words.now) (I.told input.old) (O.told output.old) (O.told output.new)) }
+    ensures fits { OnOk result (IsDue 0 (query_of words.now) (I.told input.old)) }
+    ensures cause { IfErr result (λ f. IsCaused f (query_of words.now) (I.told input.old)) }
+    ensures input_failed { IsErrOf result fault.InputFailed
+        → Rose (I.faults input.old) (I.faults input.new) }
+    ensures output_failed { IsErrOf result fault.OutputFailed
+        → Rose (O.faults output.old) (O.faults output.new) }
+    ensures begun { IsErrOf result fault.OutputFailed
+        → IsBegun (query_of words.now) (I.told input.old) (O.told output.old) (O.told output.new) }
     ensures untouched { IfErr result (λ f. IsBefore f → output.new ≡ output.old) }
-    ensures memory { IsErrOf result fault.Memory → (output.new ≡ output.old) ⊎ IsBegun (spec.words_query words.now) (I.told input.old) (O.told output.old) (O.told output.new) }
-    ensures built { spec.words_query words.now ≡ None → IsErrOf result fault.NotBuilt ⊎ IsErrOf result fault.Memory }
+    ensures memory { IsErrOf result fault.Memory → (output.new ≡ output.old)
+        ⊎ IsBegun (query_of words.now) (I.told input.old) (O.told output.old) (O.told output.new) }
+    ensures built { query_of words.now ≡ None
+        → IsErrOf result fault.NotBuilt ⊎ IsErrOf result fault.Memory }
 {
     let text = make_text(alloc, words, input)?;
     match write_all(output, &text) {
@@ -80,30 +89,38 @@ pub fn run_tool<I: InputFiles, O: Output, E: Output>(
     faults: &mut E,
 ) -> u8
     // Where input and output tell, the output grew by exactly the answer's text.
-    ensures answered { result ≡ 0 → IsAnswered (spec.words_query words.now) (I.told input.old) (O.told output.old) (O.told output.new) }
+    ensures answered { result ≡ 0
+        → IsAnswered (query_of words.now) (I.told input.old) (O.told output.old) (O.told output.new) }
 
     // Where the input tells, each status comes exactly where it is due.
-    ensures done { result ≡ 0 → IsDue 0 (spec.words_query words.now) (I.told input.old) }
-    ensures refused { result ≡ 4 → IsDue 4 (spec.words_query words.now) (I.told input.old) }
-    ensures too_large { result ≡ 7 → IsDue 7 (spec.words_query words.now) (I.told input.old) }
-    ensures as_due { EndsAsDue result (spec.words_query words.now) (I.told input.old) }
+    ensures done { result ≡ 0 → IsDue 0 (query_of words.now) (I.told input.old) }
+    ensures refused { result ≡ 4 → IsDue 4 (query_of words.now) (I.told input.old) }
+    ensures too_large { result ≡ 7 → IsDue 7 (query_of words.now) (I.told input.old) }
+    ensures as_due { EndsAsDue result (query_of words.now) (I.told input.old) }
 
     // A fault of reading or writing comes only where its count rose.
     ensures input_failed { result ≡ 5 → Rose (I.faults input.old) (I.faults input.new) }
     ensures output_failed { result ≡ 6 → Rose (O.faults output.old) (O.faults output.new) }
-    ensures output_due { result ≡ 6 → IsDue 0 (spec.words_query words.now) (I.told input.old) }
-    ensures output_begun { result ≡ 6 → IsBegun (spec.words_query words.now) (I.told input.old) (O.told output.old) (O.told output.new) }
+    ensures output_due { result ≡ 6 → IsDue 0 (query_of words.now) (I.told input.old) }
+    ensures output_begun { result ≡ 6
+        → IsBegun (query_of words.now) (I.told input.old) (O.told output.old) (O.told output.new) }
 
     // Words that are no query are refused, and no others.
-    ensures not_built { result ≡ 11 → spec.words_query words.now ≡ None }
-    ensures built { spec.words_query words.now ≡ None → (result ≡ 11) ⊎ (result ≡ 10) }
-    ensures complete { IsDue 0 (spec.words_query words.now) (I.told input.old) → IsSome (I.told input.old) → (Rose (I.faults input.old) (I.faults input.new) → ⊥) → (Rose (O.faults output.old) (O.faults output.new) → ⊥) → (result ≡ 0) ⊎ (result ≡ 10) }
+    ensures not_built { result ≡ 11 → query_of words.now ≡ None }
+    ensures built { query_of words.now ≡ None → (result ≡ 11) ⊎ (result ≡ 10) }
+    ensures complete { IsSome (I.told input.old) → IsDue 0 (query_of words.now) (I.told input.old)
+        → (Rose (I.faults input.old) (I.faults input.new) → ⊥)
+        → (Rose (O.faults output.old) (O.faults output.new) → ⊥)
+        → (result ≡ 0) ⊎ (result ≡ 10) }
 
     // What is written where the output isn't due, and what the fault output is told.
     ensures untouched { IsTrue (is_before_output result) → output.new ≡ output.old }
-    ensures memory_begun { result ≡ 10 → (output.new ≡ output.old) ⊎ IsBegun (spec.words_query words.now) (I.told input.old) (O.told output.old) (O.told output.new) }
+    ensures memory_begun { result ≡ 10 → (output.new ≡ output.old)
+        ⊎ IsBegun (query_of words.now) (I.told input.old) (O.told output.old) (O.told output.new) }
     ensures silent { result ≡ 0 → faults.new ≡ faults.old }
-    ensures told { result ≢ 0 → result ≢ 10 → Tells (status_line result) (E.faults faults.old) (E.faults faults.new) (E.told faults.old) (E.told faults.new) }
+    ensures told { result ≢ 0 → result ≢ 10
+        → Tells (status_line result) (E.faults faults.old) (E.faults faults.new)
+        (E.told faults.old) (E.told faults.new) }
     ensures told_of_memory { result ≡ 10 → TellsFront (E.told faults.old) (E.told faults.new) }
     ensures statuses { IsTrue (is_status result) }
 {

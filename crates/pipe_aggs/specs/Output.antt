@@ -26,7 +26,9 @@ key_types q = map (λ e. known_type e q.schema) q.keys
 -- the two halves of a mean are its exact sum and its count
 abbrev pub mean_fields : List ℕ → DataType → List Field
 mean_fields name dt.String = record { name = name; dtype = dt.String } ∷ []
-mean_fields name t = record { name = name ++ codes "_sum"; dtype = dt.Int128 } ∷ record { name = name ++ codes "_count"; dtype = dt.UInt32 } ∷ []
+mean_fields name t =
+    record { name = name ++ codes "_sum"; dtype = dt.Int128 }
+    ∷ record { name = name ++ codes "_count"; dtype = dt.UInt32 } ∷ []
 
 -- the output columns of an aggregate of a name over values of a type
 abbrev pub agg_fields : List ℕ → Kind → DataType → List Field

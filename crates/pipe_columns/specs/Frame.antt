@@ -41,7 +41,9 @@ value_at values i = unwrap_or (slice_get values i) av.Null
 -- the columns of rows, from the place i of each row on
 abbrev pub columns_from : ℕ → List Field → List (List AnyValue) → List ColumnData
 columns_from i [] rows = []
-columns_from i (f ∷ fs) rows = record { name = f.name; dtype = f.dtype; sorted = false; values = map (λ row. value_at row i) rows } ∷ columns_from (i + 1) fs rows
+columns_from i (f ∷ fs) rows =
+    record { name = f.name; dtype = f.dtype; sorted = false; values = map (λ row. value_at row i) rows }
+    ∷ columns_from (i + 1) fs rows
 
 -- the frame of a schema with these rows
 abbrev pub frame_of : List Field → List (List AnyValue) → FrameData

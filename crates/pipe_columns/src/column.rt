@@ -20,7 +20,8 @@ impl Model for Column {
 
     ghost Value = { ColumnData };
 
-    ghost view = { λ a. record { name = a.name; dtype = a.dtype; sorted = a.sorted; values = a.values.items } };
+    ghost view = { λ a.
+        record { name = a.name; dtype = a.dtype; sorted = a.sorted; values = a.values.items } };
 
     ghost invariant = { λ a. AllFit a.dtype a.values.items };
 }
@@ -35,7 +36,8 @@ fn do_fit(values: &[AnyValue], dtype: DataType) -> bool
 impl Column {
     /// A column, or none exactly where a value doesn't fit.
     pub fn new(name: Text, dtype: DataType, sorted: bool, values: Vec<AnyValue>) -> Option<Column>
-        ensures some { IfSome result (λ c. c ≡ record { name = name; dtype = dtype; sorted = sorted; values = values.items }) }
+        ensures some { IfSome result (λ c.
+            c ≡ record { name = name; dtype = dtype; sorted = sorted; values = values.items }) }
         ensures fits { IfSome result (λ c. all_fit dtype values.items ≡ true) }
         ensures none { IfNone result (all_fit dtype values.items ≡ false) }
     {

@@ -41,16 +41,19 @@ after (Err e) rest = Err e
 abbrev pub read_fields : ℕ → ℕ → ℕ → List Field → List (List ℕ) → Result Values Misfit
 read_fields file row column [] texts = Ok []
 read_fields file row column (f ∷ fs) [] = Ok []
-read_fields file row column (f ∷ fs) (t ∷ ts) = after (ok_or (read_field f.dtype t) (field file row column)) (read_fields file row (column + 1) fs ts)
+read_fields file row column (f ∷ fs) (t ∷ ts) =
+    after (ok_or (read_field f.dtype t) (field file row column)) (read_fields file row (column + 1) fs ts)
 
 -- the values of a row
 abbrev pub read_row : ℕ → ℕ → List Field → List (List ℕ) → Result Values Misfit
-read_row file row schema texts = if length texts == length schema then read_fields file row 1 schema texts else Err (width file row)
+read_row file row schema texts =
+    if length texts == length schema then read_fields file row 1 schema texts else Err (width file row)
 
 -- the values of rows, from a row on
 abbrev pub read_rows : ℕ → ℕ → List Field → List (List (List ℕ)) → Result (List Values) Misfit
 read_rows file row schema [] = Ok []
-read_rows file row schema (r ∷ rs) = after (read_row file row schema r) (read_rows file (row + 1) schema rs)
+read_rows file row schema (r ∷ rs) =
+    after (read_row file row schema r) (read_rows file (row + 1) schema rs)
 
 -- whether a record is the names of a schema, in order
 abbrev pub is_header : List Field → List (List ℕ) → Bool
@@ -62,7 +65,8 @@ is_header (f ∷ fs) (t ∷ ts) = bytes_eq f.name t && is_header fs ts
 -- the rows of records, the first of which is the header
 abbrev pub read_records : ℕ → List Field → List (List (List ℕ)) → Result (List Values) Misfit
 read_records file schema [] = Err (header file)
-read_records file schema (r ∷ rs) = if is_header schema r then read_rows file 1 schema rs else Err (header file)
+read_records file schema (r ∷ rs) =
+    if is_header schema r then read_rows file 1 schema rs else Err (header file)
 
 -- the rows of the text of a file
 abbrev pub text_rows : ℕ → List Field → List ℕ → Result (List Values) Misfit
@@ -80,7 +84,8 @@ flagged c = record c { sorted = is_ascending c.values }
 
 -- a frame of rows whose columns tell whether their values ascend
 abbrev pub flagged_frame : List Field → List Values → FrameData
-flagged_frame schema rows = record { height = length rows; columns = map flagged (frame_of schema rows).columns }
+flagged_frame schema rows =
+    record { height = length rows; columns = map flagged (frame_of schema rows).columns }
 
 -- a list cut into pieces of n, the last perhaps shorter, of which there are at most `most`
 abbrev pub pieces_within : {A : Type 0} → ℕ → ℕ → List A → List (List A)
@@ -95,9 +100,10 @@ pieces n xs = pieces_within (length xs) n xs
 -- chunks of rows, counted from a number on
 abbrev pub chunks_from : ℕ → List Field → List (List Values) → List DataChunk
 chunks_from i schema [] = []
-chunks_from i schema (p ∷ ps) = record { chunk_index = i % 2 ^ 32; frame = flagged_frame schema p } ∷ chunks_from (i + 1) schema ps
+chunks_from i schema (p ∷ ps) =
+    record { chunk_index = i % 2 ^ 32; frame = flagged_frame schema p } ∷ chunks_from (i + 1) schema ps
 
--- the rows of a file, as pieces of n
+-- the chunks of a file's rows, n rows each but the last
 abbrev pub file_chunks : ℕ → ℕ → List Field → List Values → List DataChunk
 file_chunks i n schema rows = chunks_from i schema (pieces n rows)
 
@@ -124,12 +130,13 @@ chunks_then front rest = record { chunks = front ++ rest.chunks; stop = rest.sto
 -- the chunks of files from file number `file` and chunk number i on
 abbrev pub csv_chunks_from : ℕ → ℕ → Files → List (List ℕ) → List Field → ReadOptions → CsvChunks
 csv_chunks_from file i files [] schema options = record { chunks = []; stop = None }
-csv_chunks_from file i files (name ∷ names) schema options = go_on (rows_named files file schema name) (λ j. csv_chunks_from (file + 1) j files names schema options) where
-  go_on : Result (List Values) Misfit → (ℕ → CsvChunks) → CsvChunks
-  go_on (Err m) rest = record { chunks = []; stop = Some m }
-  go_on (Ok rows) rest =
-      let given : List DataChunk = file_chunks i options.chunk_size schema rows in
-      chunks_then given (rest (i + length given))
+csv_chunks_from file i files (name ∷ names) schema options =
+    go_on (rows_named files file schema name) (λ j. csv_chunks_from (file + 1) j files names schema options) where
+      go_on : Result (List Values) Misfit → (ℕ → CsvChunks) → CsvChunks
+      go_on (Err m) rest = record { chunks = []; stop = Some m }
+      go_on (Ok rows) rest =
+          let given : List DataChunk = file_chunks i options.chunk_size schema rows in
+          chunks_then given (rest (i + length given))
 
 -- the chunks of the files of some names, up to the first misfit
 abbrev pub csv_chunks : Files → List (List ℕ) → List Field → ReadOptions → CsvChunks

@@ -24,7 +24,8 @@ header_text frame = line_of (map (λ c. c.name) frame.columns)
 
 -- the record of each row
 abbrev pub rows_text : FrameData → List ℕ
-rows_text frame = flat_map (λ n. line_of (map field_of (row_at frame.columns n))) (range_with_len 0 frame.height)
+rows_text frame =
+    flat_map (λ n. line_of (map field_of (row_at frame.columns n))) (range_with_len 0 frame.height)
 
 -- the header, then a record for each row
 abbrev pub csv_text : FrameData → List ℕ

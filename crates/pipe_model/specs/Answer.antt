@@ -45,7 +45,8 @@ first_place_cmp (Some e) (Some f) = place_cmp e.0 f.0
 
 -- by partition, then by tuple
 abbrev pub partition_cmp : ℕ → List DataType → List AnyValue → List AnyValue → Ordering
-partition_cmp partitions types a b = ordering_then (nat_cmp (partition partitions types a) (partition partitions types b)) (tuple_cmp a b)
+partition_cmp partitions types a b =
+    ordering_then (nat_cmp (partition partitions types a) (partition partitions types b)) (tuple_cmp a b)
 
 -- the order of the groups of rows: where the query keeps order, that of their least places
 abbrev pub group_cmp : QueryTree → ℕ → List Row → List AnyValue → List AnyValue → Ordering
@@ -60,7 +61,9 @@ groups rs q partitions = sorted_keys (group_cmp q partitions rs) (map (λ r. r.k
 -- the aggregates of some rows, whose inputs begin at place j
 abbrev pub aggs_from : ℕ → List Field → List AggTree → List (Place × List AnyValue) → List AnyValue
 aggs_from j schema [] entries = []
-aggs_from j schema (a ∷ others) entries = agg a.kind (input_type schema a.input) (map (λ e. (e.0, value_at e.1 j)) entries) ++ aggs_from (j + 1) schema others entries
+aggs_from j schema (a ∷ others) entries =
+    agg a.kind (input_type schema a.input) (map (λ e. (e.0, value_at e.1 j)) entries)
+    ++ aggs_from (j + 1) schema others entries
 
 -- the row of a group: its key, then the aggregates of its rows
 abbrev pub answer_row : QueryTree → List Row → List AnyValue → List AnyValue

@@ -81,7 +81,8 @@ fn output_row(group: Group) -> Result<Vec<AnyValue>, AllocError>
 
 /// The rows that groups give.
 pub fn output_rows(alloc: Global, table: Vec<Group>) -> Result<Vec<Vec<AnyValue>>, AllocError>
-    ensures { IfOk result (λ rows. map (λ row. row.items) rows.items ≡ map row_given (map group_seen table.items)) }
+    ensures { IfOk result (λ rows. map (λ row. row.items) rows.items
+        ≡ map row_given (map group_seen table.items)) }
 {
     let mut rows = Vec::new(alloc);
     for group in table {
@@ -108,7 +109,12 @@ fn output_column(
     place: usize,
 ) -> Result<Column, AllocError>
     requires { all_fit field.now.dtype (map (λ row. value_at row.items place) rows.now) ≡ true }
-    ensures { IfOk result (λ c. c ≡ record { name = field.now.name; dtype = field.now.dtype; sorted = false; values = map (λ row. value_at row.items place) rows.now }) }
+    ensures { IfOk result (λ c. c ≡ record {
+      name = field.now.name;
+      dtype = field.now.dtype;
+      sorted = false;
+      values = map (λ row. value_at row.items place) rows.now;
+    }) }
 {
     let mut values = Vec::new(alloc);
     for row in rows {

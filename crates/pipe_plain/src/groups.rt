@@ -36,7 +36,8 @@ impl Group {
     ) -> Result<(), AllocError>
         requires { StatesSeen (2 ^ 32 - 2) self.old.states.items }
         ensures key { self.new.key ≡ self.old.key }
-        ensures ok { OnOk result (self.new.states.items ≡ fed_from 0 (cells columns.now place.row inputs.now) self.old.states.items) }
+        ensures ok { OnOk result (self.new.states.items
+            ≡ fed_from 0 (cells columns.now place.row inputs.now) self.old.states.items) }
     {
         for j in 0..self.states.len() {
             let value = own_input(alloc, columns, place.row as usize, inputs, j)?;
@@ -67,7 +68,8 @@ fn new_group(
     positions: &Positions,
     place: Place,
 ) -> Result<Group, AllocError>
-    ensures { IfOk result (λ g. let row = row_read columns.now positions.now place in group_seen g ≡ (row.key, fed (place, row.inputs) (starts aggs.now))) }
+    ensures { IfOk result (λ g. let row = row_read columns.now positions.now place in
+        group_seen g ≡ (row.key, fed (place, row.inputs) (starts aggs.now))) }
 {
     let key = own_key(alloc, columns, place.row as usize, &positions.keys)?;
     let states = starting(alloc, aggs)?;
@@ -105,7 +107,9 @@ pub fn add_row(
 ) -> Result<(), AllocError>
     requires seen { TableSeen (2 ^ 32 - 2) (map group_seen table.old.items) }
     requires ascending { IsAscending (map group_seen table.old.items) }
-    ensures { OnOk result (map group_seen table.new.items ≡ with_row (starts aggs.now) (map group_seen table.old.items) (row_read columns.now positions.now place)) }
+    ensures { OnOk result (map group_seen table.new.items
+        ≡ with_row (starts aggs.now) (map group_seen table.old.items)
+        (row_read columns.now positions.now place)) }
 {
     match find(table, columns, place.row as usize, &positions.keys) {
         Spot::At(i) => {

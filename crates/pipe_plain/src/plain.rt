@@ -23,7 +23,9 @@ fn add_chunk(
     requires height { frame.now.height < 2 ^ 32 }
     requires seen { TableSeen (2 ^ 32 - 1 - frame.now.height) (map group_seen table.old.items) }
     requires ascending { IsAscending (map group_seen table.old.items) }
-    ensures { OnOk result (map group_seen table.new.items ≡ with_rows (starts query.now.aggs.items) (map group_seen table.old.items) (chunk_rows (query_tree query.now) index frame.now)) }
+    ensures { OnOk result (map group_seen table.new.items
+        ≡ with_rows (starts query.now.aggs.items) (map group_seen table.old.items)
+        (chunk_rows (query_tree query.now) index frame.now)) }
 {
     let columns = frame.columns();
     let keys = key_positions(alloc, columns, &query.keys)?;
@@ -46,7 +48,8 @@ fn table_of(
     query: &PlainQuery,
 ) -> Result<Vec<Group>, AllocError>
     requires { AreChunksOf (query_tree query.now) chunks.now }
-    ensures { IfOk result (λ table. map group_seen table.items ≡ with_rows (starts query.now.aggs.items) [] (rows chunks.now (query_tree query.now))) }
+    ensures { IfOk result (λ table. map group_seen table.items
+        ≡ with_rows (starts query.now.aggs.items) [] (rows chunks.now (query_tree query.now))) }
 {
     let mut table = Vec::new(alloc);
     for (index, chunk) in chunks.iter().enumerate() {

@@ -37,7 +37,8 @@ pub fn key_positions(
     columns: &[Column],
     names: &[Text],
 ) -> Result<Vec<usize>, AllocError>
-    ensures { IfOk result (λ ps. columns_at columns.now ps.items ≡ columns_named columns.now names.now) }
+    ensures { IfOk result (λ ps. columns_at columns.now ps.items
+        ≡ columns_named columns.now names.now) }
 {
     let mut positions = Vec::new(alloc);
     for name in names {
@@ -52,7 +53,8 @@ pub fn input_positions(
     columns: &[Column],
     aggs: &[PlainAgg],
 ) -> Result<Vec<usize>, AllocError>
-    ensures { IfOk result (λ ps. columns_at columns.now ps.items ≡ columns_named columns.now (map (λ a. a.input) aggs.now)) }
+    ensures { IfOk result (λ ps. columns_at columns.now ps.items
+        ≡ columns_named columns.now (map (λ a. a.input) aggs.now)) }
 {
     let mut positions = Vec::new(alloc);
     for agg in aggs {
