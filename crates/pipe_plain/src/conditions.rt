@@ -1,4 +1,4 @@
-ghost use Rattle.std.specs.Prelude.{◌≡◌, IsTrue, is_some};
+ghost use Rattle.std.specs.Prelude.{◌≡◌, ◌↔◌, IsTrue, is_some};
 ghost use Rattle.std.specs.List.{list_all};
 ghost use Rattle.pipe_columns.specs.Frame.{FitsSchema};
 ghost use Rattle.pipe_aggs.specs.Expr.{column};
@@ -64,14 +64,14 @@ pub fn is_plain_query(query: &PlainQuery) -> bool
 
 /// Whether a column has the name and the type of a field.
 fn is_of_field(column: &Column, field: &Field) -> bool
-    ensures { IsTrue result → field_of column.now ≡ field.now }
+    ensures { IsTrue result ↔ (field_of column.now ≡ field.now) }
 {
     column.name() == &field.name && column.dtype() == field.dtype
 }
 
 /// Whether a frame has the fields of a schema.
 fn has_fields(frame: &DataFrame, fields: &[Field]) -> bool
-    ensures { IsTrue result → FitsSchema fields.now frame.now }
+    ensures { IsTrue result ↔ FitsSchema fields.now frame.now }
 {
     let columns = frame.columns();
     if columns.len() != fields.len() {
@@ -98,7 +98,7 @@ fn recall_types(frame: &DataFrame)
 /// Whether `plain_answer` takes chunks: they have the columns of the query's schema, and fewer than
 /// 2^32 rows in all.
 pub fn are_chunks(chunks: &[DataChunk], query: &PlainQuery) -> bool
-    ensures { IsTrue result → AreChunksOf (query_tree query.now) chunks.now }
+    ensures { IsTrue result ↔ AreChunksOf (query_tree query.now) chunks.now }
 {
     if chunks.len() >= MOST {
         return false;
