@@ -1,4 +1,3 @@
 pub mod Shapes
 pub mod PlainForms
 pub mod OutputNames
-pub mod ChunksHold

@@ -4,7 +4,7 @@ use Rattle.std.specs.List.{range_with_len}
 use Rattle.pipe_columns.specs.declared.any_value.AnyValue.{AnyValue}
 use Rattle.pipe_columns.specs.declared.any_value.AnyValue.TheVariants as av
 use Rattle.pipe_columns.specs.declared.data_chunk.DataChunk.{DataChunk}
-use Rattle.pipe_columns.specs.Frame.{AllFit, FitsSchema, FrameData}
+use Rattle.pipe_columns.specs.Frame.{FitsSchema, FrameData}
 use Rattle.pipe_columns.specs.Row.{Row}
 use Rattle.pipe_aggs.specs.Value.{value}
 use Rattle.pipe_aggs.specs.Query.{Input, each, rows_alone, QueryTree}
@@ -39,14 +39,8 @@ rows chunks q = rows_from q 0 chunks
 abbrev pub total_height : List DataChunk → ℕ
 total_height chunks = sum_by (λ c. c.frame.height) chunks
 
--- each value of a frame fits its column's type
-abbrev pub HoldsTypes : FrameData → Type 0
-HoldsTypes frame = All (λ c. AllFit c.dtype c.values) frame.columns
-
--- chunks that a query may be asked of: each has the columns of its schema, of values of their types,
--- and their rows have places
+-- chunks that a query may be asked of: each has the columns of its schema, and their rows have places
 pub record AreChunksOf (q : QueryTree) (chunks : List DataChunk) : Type 0 where
   pub columns : All (λ c. FitsSchema q.schema c.frame) chunks
-  pub values : All (λ c. HoldsTypes c.frame) chunks
   pub rows : total_height chunks < 2 ^ 32
   pub number : length chunks < 2 ^ 32

@@ -30,11 +30,11 @@ use Rattle.pipe_aggs.specs.Query.{QueryTree}
 use Rattle.pipe_aggs.specs.Typing.{type_of}
 use Rattle.pipe_aggs.specs.Value.{column_named, value, values_if_any}
 use Rattle.pipe_model.specs.Answer.{aggs_from, answer_row, entry_of, groups, rows_at, tuple_cmp}
-use Rattle.pipe_model.specs.Rows.{AreChunksOf, chunk_rows, HoldsTypes, row_of, rows, rows_from}
+use Rattle.pipe_model.specs.Rows.{AreChunksOf, chunk_rows, row_of, rows, rows_from}
 use Rattle.pipe_plain.specs.declared.query.PlainAgg.{PlainAgg}
 use Rattle.pipe_plain.specs.declared.query.PlainQuery.{PlainQuery}
 use Rattle.pipe_plain.specs.Fields.{agg_field, field_of}
-use Rattle.pipe_plain.specs.Fits.{RowFits, RowsFit}
+use Rattle.pipe_plain.specs.Fits.{HoldsTypes, RowFits, RowsFit}
 use Rattle.pipe_plain.specs.PlainQuery.{agg_tree, is_plain, query_tree, takes}
 use Rattle.pipe_plain.proofs.ChunkFacts.{length-rows_from}
 use Rattle.pipe_plain.proofs.FrameFacts.{aggs_fields, aggs_taken, both, suits}
@@ -174,15 +174,15 @@ rows_at-few rs key few =
 -- ---- the answer
 
 -- each row of the answer of chunks fits the answer's fields
-pub answer_rows-fit : (q : PlainQuery) (chunks : List DataChunk) → is_plain q ≡ true → AreChunksOf (query_tree q) chunks
+pub answer_rows-fit : (q : PlainQuery) (chunks : List DataChunk) → is_plain q ≡ true → AreChunksOf (query_tree q) chunks → All (λ c. HoldsTypes c.frame) chunks
     → RowsFit (output_schema (query_tree q)) (map (answer_row (query_tree q) (rows chunks (query_tree q))) (groups (rows chunks (query_tree q)) (query_tree q) 1))
-answer_rows-fit q chunks plain are =
+answer_rows-fit q chunks plain are hold =
     let tree : QueryTree = query_tree q in
     let rs : List Row = rows chunks tree in
     let few : length rs < 2 ^ 32 = omega (arith, are.rows, length-rows_from tree 0 chunks) in
     let P : List AnyValue → Type 0 = λ key. RowFits (key_fields tree) key in
     let Q : List AnyValue → Type 0 = λ row. RowFits (output_schema tree) row in
-    let keys : All P (map (λ r. r.key) rs) = All-map P (λ (r : Row). r.key) rs (keys-fit tree 0 chunks are.columns are.values) in
+    let keys : All P (map (λ r. r.key) rs) = All-map P (λ (r : Row). r.key) rs (keys-fit tree 0 chunks are.columns hold) in
     let sorted : All P (groups rs tree 1) = sorted-holds P _ (map (λ r. r.key) rs) keys in
     let taken = aggs_taken q plain in
     let row-fits : (key : List AnyValue) → P key → Q (answer_row tree rs key) = λ key h.

@@ -3,7 +3,7 @@ ghost use Rattle.std.specs.List.{list_all};
 ghost use Rattle.pipe_columns.specs.Frame.{FitsSchema};
 ghost use Rattle.pipe_aggs.specs.Expr.{column};
 ghost use Rattle.pipe_aggs.specs.Typing.{type_of};
-ghost use Rattle.pipe_model.specs.Rows.{AreChunksOf, HoldsTypes};
+ghost use Rattle.pipe_model.specs.Rows.{AreChunksOf};
 ghost use Rattle.pipe_plain.specs.Fields.{field_of};
 ghost use Rattle.pipe_plain.specs.PlainQuery.{is_plain, query_tree, takes};
 
@@ -85,16 +85,6 @@ fn has_fields(frame: &DataFrame, fields: &[Field]) -> bool
     true
 }
 
-/// Recalls, at no cost, that the values of a frame fit their columns' types.
-fn recall_types(frame: &DataFrame)
-    ensures { HoldsTypes frame.now }
-{
-    let columns = frame.columns();
-    for column in columns {
-        column.values();
-    }
-}
-
 /// Whether `plain_answer` takes chunks: they have the columns of the query's schema, and fewer than
 /// 2^32 rows in all.
 pub fn are_chunks(chunks: &[DataChunk], query: &PlainQuery) -> bool
@@ -108,7 +98,6 @@ pub fn are_chunks(chunks: &[DataChunk], query: &PlainQuery) -> bool
         if !has_fields(&chunk.frame, query.schema.fields()) {
             return false;
         }
-        recall_types(&chunk.frame);
         if chunk.frame.height() >= MOST - rows {
             return false;
         }

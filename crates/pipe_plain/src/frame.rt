@@ -1,16 +1,16 @@
-ghost use Rattle.std.specs.Prelude.{◌≡◌, ◌∷◌, ◌++◌, IfOk, OnOk, map, true, false};
+ghost use Rattle.std.specs.Prelude.{◌≡◌, ◌∷◌, ◌++◌, All, IfOk, OnOk, map, true, false};
 ghost use Rattle.pipe_columns.specs.Frame.{all_fit, frame_of, value_at};
 ghost use Rattle.pipe_running.specs.States.{given_type, output_values};
 ghost use Rattle.pipe_aggs.specs.Expr.{column};
 ghost use Rattle.pipe_aggs.specs.Output.{known_type, output_schema};
-ghost use Rattle.pipe_plain.specs.Fits.{RowsFit};
+ghost use Rattle.pipe_plain.specs.Fits.{HoldsTypes, RowsFit};
 ghost use Rattle.pipe_plain.specs.PlainQuery.{is_plain, query_tree};
 ghost use Rattle.pipe_plain.specs.Running.{group_seen, output_row as row_given};
 
 use crate::conditions::dtype_named;
 use crate::groups::Group;
 use crate::query::PlainQuery;
-use pipe_columns::{AnyValue, Column, DataFrame, DataType, Field, Text};
+use pipe_columns::{AnyValue, Column, DataChunk, DataFrame, DataType, Field, Text};
 use pipe_running::{AggregateFn, AggregateFunction, Finalized};
 use std::alloc::{AllocError, Global};
 
@@ -122,6 +122,25 @@ fn output_column(
     }
     let name = field.name.try_clone(alloc)?;
     Ok(Column::new(name, field.dtype, false, values).unwrap())
+}
+
+/// Recalls that the values of a frame fit their columns' types, by a look at each column.
+fn recall_types(frame: &DataFrame)
+    ensures { HoldsTypes frame.now }
+{
+    let columns = frame.columns();
+    for column in columns {
+        column.values();
+    }
+}
+
+/// Recalls that the values of chunks fit their columns' types.
+pub fn recall_chunk_types(chunks: &[DataChunk])
+    ensures { All (λ c. HoldsTypes c.frame) chunks.now }
+{
+    for chunk in chunks {
+        recall_types(&chunk.frame);
+    }
 }
 
 /// The frame of rows that fit the fields.

@@ -5,7 +5,7 @@ ghost use Rattle.pipe_model.specs.Answer.{answer};
 ghost use Rattle.pipe_plain.specs.PlainQuery.{is_plain, query_tree};
 ghost use Rattle.pipe_plain.specs.Running.{group_seen, IsAscending, starts, TableSeen, with_rows};
 
-use crate::frame::{output_fields, output_frame, output_rows};
+use crate::frame::{output_fields, output_frame, output_rows, recall_chunk_types};
 use crate::groups::{Group, add_row};
 use crate::query::PlainQuery;
 use crate::rows::{Positions, input_positions, key_positions};
@@ -69,6 +69,7 @@ pub fn plain_answer(
     requires plain { is_plain query.now ≡ true }
     ensures { IfOk result (λ f. f ≡ answer chunks.now (query_tree query.now) 1) }
 {
+    recall_chunk_types(chunks);
     let table = table_of(alloc, chunks, query)?;
     let fields = output_fields(alloc, query)?;
     let rows = output_rows(alloc, table)?;

@@ -14,16 +14,16 @@ pub enum Finalized {
 
 /// A running aggregate: it takes the values of a group one by one, in any order of places.
 pub trait AggregateFn {
-    // how many values it has counted, 0 where it counts none
+    /// How many values it has counted, 0 where it counts none.
     ghost seen: { Self → ℕ };
 
-    // the state with one more value
+    /// The state with one more value.
     ghost after_value: { Place → AnyValue → Self → Self };
 
-    // what the state gives
+    /// What the state gives.
     ghost given: { Self → Finalized };
 
-    // the state before any value
+    /// The state before any value.
     ghost fresh: { Self → Self };
 
     /// Takes one more value.

@@ -3,7 +3,6 @@ use Rattle.std.proofs.lemmas.List.Elements.{All-more}
 use Rattle.std.proofs.lemmas.List.Sums.{sum_by_more}
 use Rattle.pipe_columns.specs.declared.data_chunk.DataChunk.{DataChunk}
 use Rattle.pipe_columns.specs.Frame.{FitsSchema}
-use Rattle.pipe_model.specs.Rows.{HoldsTypes}
 use Rattle.pipe_plain.proofs.conditions.are_chunks.Goals as goal
 
 pub loop-chunk-preserved : goal.loop-chunk-preserved
@@ -13,11 +12,9 @@ loop-chunk-preserved c =
     let chunks = c.args.chunks.now in
     let inv = c.loop-chunk.invariant in
     let fits : FitsSchema c.args.query.now.schema chunk.frame = search rules in
-    let hold : HoldsTypes chunk.frame = search rules in
     let same : chunk.frame.height ≡ (get_or chunks i chunk).frame.height = ap (λ (x : DataChunk). x.frame.height) c.chunk-item.is in
     record {
       fit = All-more (λ (x : DataChunk). FitsSchema c.args.query.now.schema x.frame) chunks i chunk c.loop-chunk-test.true inv.fit (rw (← c.chunk-item.is) fits);
-      values = All-more (λ (x : DataChunk). HoldsTypes x.frame) chunks i chunk c.loop-chunk-test.true inv.values (rw (← c.chunk-item.is) hold);
       rows = omega (arith, inv.rows, same, c.height-rows.ensures, sum_by_more (λ (x : DataChunk). x.frame.height) chunks i chunk c.loop-chunk-test.true);
       few = omega (arith, inv.few, c.if-height-rows.false, c.height-rows.ensures, c.height.ensures);
     }

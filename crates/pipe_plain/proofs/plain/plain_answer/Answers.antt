@@ -37,4 +37,4 @@ output_frame-requires c =
     let given : map (λ row. row.items) c.deref-2.result.now ≡ due = rows ∙ rows_given q c.args.chunks.now table c.requires.plain c.in_ok-table.ensures in
     let F : List Field → Type 0 = λ fs. RowsFit fs due in
     let R : List (List AnyValue) → Type 0 = λ rs. RowsFit c.deref.result.now rs in
-    subst R (sym given) (subst F (sym fields) (answer_rows-fit q c.args.chunks.now c.requires.plain c.requires.chunks))
+    subst R (sym given) (subst F (sym fields) (answer_rows-fit q c.args.chunks.now c.requires.plain c.requires.chunks c.recall_chunk_types.ensures))
