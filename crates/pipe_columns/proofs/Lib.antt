@@ -1,1 +1,2 @@
 pub mod ValueOrder
+pub mod FrameFacts

@@ -1,12 +1,12 @@
 -- Columns and frames as data.
-use Rattle.std.specs.Prelude.{◌≡◌, ◌==◌, Bool, true, false, List, [], ◌∷◌, ℕ, ◌+◌, length, map}
+use Rattle.std.specs.Prelude.{◌≡◌, ◌==◌, Bool, true, false, List, [], ◌∷◌, ◌++◌, ℕ, ◌+◌, ◌-◌, min, length, map, take, Some, unwrap_or}
 use Rattle.std.specs.List.{list_all, slice_get}
-use Rattle.std.specs.Prelude.{unwrap_or}
 use Rattle.pipe_columns.specs.declared.data_type.DataType.{DataType}
 use Rattle.pipe_columns.specs.declared.any_value.AnyValue.{AnyValue}
 use Rattle.pipe_columns.specs.declared.any_value.AnyValue.TheVariants as av
 use Rattle.pipe_columns.specs.declared.schema.Field.{Field}
 use Rattle.pipe_columns.specs.AnyValue.{fits}
+use Rattle.pipe_columns.specs.Slice.{sliced}
 
 pub record ColumnData : Type 0 where
   pub name : List ℕ
@@ -30,9 +30,16 @@ all_have_height n columns = list_all (λ c. length c.values == n) columns
 abbrev pub AllHaveHeight : ℕ → List ColumnData → Type 0
 AllHaveHeight n columns = all_have_height n columns ≡ true
 
+-- the field of a column
+abbrev pub field_of : ColumnData → Field
+field_of c = record { name = c.name; dtype = c.dtype }
+
+abbrev pub fields_of : List ColumnData → List Field
+fields_of columns = map field_of columns
+
 -- a frame has the names and the types of fields, in order
 abbrev pub FitsSchema : List Field → FrameData → Type 0
-FitsSchema fields frame = map (λ c. record { name = c.name; dtype = c.dtype }) frame.columns ≡ fields
+FitsSchema fields frame = fields_of frame.columns ≡ fields
 
 -- the value at a place of a list, null past its end
 abbrev pub value_at : List AnyValue → ℕ → AnyValue
@@ -52,3 +59,39 @@ frame_of fields rows = record { height = length rows; columns = columns_from 0 f
 -- the values of the row at a place
 abbrev pub row_at : List ColumnData → ℕ → List AnyValue
 row_at columns i = map (λ c. value_at c.values i) columns
+
+-- a column with the values of another below its own
+abbrev pub appended : ColumnData → ColumnData → ColumnData
+appended c d = record c { values = c.values ++ d.values }
+
+-- columns with the values of others below their own, one by one
+abbrev pub appended_all : List ColumnData → List ColumnData → List ColumnData
+appended_all [] cs = cs
+appended_all (d ∷ ds) [] = []
+appended_all (d ∷ ds) (c ∷ cs) = appended c d ∷ appended_all ds cs
+
+-- a column with its flag cleared
+abbrev pub unsorted : ColumnData → ColumnData
+unsorted c = record c { sorted = false }
+
+-- a frame with the rows of another below its own
+abbrev pub stacked : FrameData → FrameData → FrameData
+stacked f g = record {
+  height = f.height + g.height;
+  columns = map unsorted (appended_all g.columns f.columns);
+}
+
+-- the first values of a column
+abbrev pub truncated : ℕ → ColumnData → ColumnData
+truncated len c = record c { values = take len c.values }
+
+-- a column without its first values, and with so many of the rest at most
+abbrev pub sliced_column : ℕ → ℕ → ColumnData → ColumnData
+sliced_column offset len c = record c { values = sliced (Some (offset, len)) c.values }
+
+-- a frame without its first rows, and with so many of the rest at most
+abbrev pub sliced_frame : ℕ → ℕ → FrameData → FrameData
+sliced_frame offset len f = record {
+  height = min len (f.height - offset);
+  columns = map (sliced_column offset len) f.columns;
+}

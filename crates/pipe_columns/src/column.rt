@@ -1,9 +1,11 @@
-ghost use Rattle.std.specs.Prelude.{◌≡◌, IfNone, IfSome, true, false};
-ghost use Rattle.pipe_columns.specs.Frame.{all_fit};
+ghost use Rattle.std.specs.Prelude.{◌≡◌, ◌↔◌, IfNone, IfSome, IsTrue, OnErr, OnOk, true, false};
+ghost use Rattle.pipe_columns.specs.Frame.{all_fit, appended, field_of, sliced_column, truncated, unsorted};
 
 use crate::any_value::AnyValue;
 use crate::data_type::DataType;
+use crate::schema::Field;
 use crate::text::Text;
+use std::alloc::AllocError;
 use std::marker::Model;
 
 /// A name, a type and values that fit the type. `sorted` is a flag of whoever made it.
@@ -76,5 +78,45 @@ impl Column {
         ensures fit { all_fit self.now.dtype self.now.values ≡ true }
     {
         &self.values
+    }
+
+    /// Whether the column has the name and the type of a field.
+    pub(crate) fn is_of(&self, field: &Field) -> bool
+        ensures { IsTrue result ↔ (field_of self.now ≡ field.now) }
+    {
+        self.name == field.name && self.dtype == field.dtype
+    }
+
+    /// Appends the values of a column of the same type.
+    pub(crate) fn append(&mut self, other: Column) -> Result<(), AllocError>
+        requires { other.dtype ≡ self.old.dtype }
+        ensures ok { OnOk result (self.new ≡ appended self.old other) }
+        ensures err { OnErr result (self.new ≡ self.old) }
+    {
+        let Column { mut values, .. } = other;
+        self.values.append(&mut values)
+    }
+
+    /// Keeps the first values.
+    pub(crate) fn truncate(&mut self, len: usize)
+        ensures { self.new ≡ truncated len self.old }
+    {
+        self.values.truncate(len);
+    }
+
+    /// Drops the first values, and keeps so many of the rest at most.
+    pub(crate) fn slice(&mut self, offset: usize, len: usize)
+        ensures { self.new ≡ sliced_column offset len self.old }
+    {
+        let dropped = offset.min(self.values.len());
+        self.values.drain(..dropped);
+        self.values.truncate(len);
+    }
+
+    /// Clears the flag.
+    pub(crate) fn clear_sorted(&mut self)
+        ensures { self.new ≡ unsorted self.old }
+    {
+        self.sorted = false;
     }
 }

@@ -19,3 +19,6 @@ pub use data_type::DataType;
 pub use place::Place;
 pub use schema::{Field, Schema};
 pub use text::Text;
+
+#[cfg(test)]
+mod tests;

@@ -1,4 +1,6 @@
 ghost use Rattle.std.specs.Prelude.{◌≡◌};
+ghost use Rattle.std.specs.List.{position};
+ghost use Rattle.std.specs.Str.{bytes_eq};
 
 use crate::data_type::DataType;
 use crate::text::Text;
@@ -37,5 +39,12 @@ impl Schema {
         ensures { result.now ≡ self.now }
     {
         &self.fields
+    }
+
+    /// The first position of a name. It takes no memory.
+    pub fn position(&self, name: &Text) -> Option<usize>
+        ensures { result ≡ position (λ f. bytes_eq f.name name.now) self.now }
+    {
+        self.fields.iter().position(|field| field.name == *name)
     }
 }

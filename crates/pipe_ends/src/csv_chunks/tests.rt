@@ -103,83 +103,103 @@ fn tells_the_first_misfit(rt: HostRuntime) -> Result<(), Fail> {
     )
 }
 
-fn check_field(
+/// Reads fields of a type; a text that doesn't read shows as nothing.
+fn check_fields(
     rt: &impl Abort,
     alloc: Global,
     dtype: DataType,
-    text: &[u8],
-    want: &str,
+    cases: &[(&str, &str)],
 ) -> Result<(), Fail> {
-    let shown = match read_field(alloc, dtype, text)? {
-        Some(value) => show_value(alloc, &value)?,
-        None => String::new(alloc),
-    };
-    assert_eq!(rt; shown.as_str(), want);
+    for (text, want) in cases {
+        let shown = match read_field(alloc, dtype, text.as_bytes())? {
+            Some(value) => show_value(alloc, &value)?,
+            None => String::new(alloc),
+        };
+        assert_eq!(rt; shown.as_str(), *want);
+    }
     Ok(())
 }
 
-#[test]
-fn reads_fields(rt: HostRuntime) -> Result<(), Fail> {
-    let alloc = rt.alloc();
-    let long = DataType::Int64;
-    check_field(&rt, alloc, long, b"", "_")?;
-    check_field(
-        &rt,
-        alloc,
-        long,
-        b"9223372036854775807",
-        "9223372036854775807",
-    )?;
-    check_field(&rt, alloc, long, b"9223372036854775808", "")?;
-    check_field(
-        &rt,
-        alloc,
-        long,
-        b"-9223372036854775808",
-        "-9223372036854775808",
-    )?;
-    check_field(&rt, alloc, long, b"-9223372036854775809", "")?;
-    check_field(&rt, alloc, long, b"+1", "1")?;
-    check_field(&rt, alloc, long, b"-0", "0")?;
-    check_field(&rt, alloc, long, b"007", "7")?;
-    check_field(
-        &rt,
-        alloc,
-        long,
-        b"0000000000000000000000000000000000000042",
-        "42",
-    )?;
-    check_field(
-        &rt,
-        alloc,
-        long,
-        b"1000000000000000000000000000000000000000",
-        "",
-    )?;
-    check_field(&rt, alloc, long, b"+", "")?;
-    check_field(&rt, alloc, long, b"-", "")?;
-    check_field(&rt, alloc, long, b"+-1", "")?;
-    check_field(&rt, alloc, long, b"1 ", "")?;
-    check_field(&rt, alloc, long, b"12345678901234567x", "")
+/// Reads the least number of a type, the greatest and their neighbours outside.
+fn check_range(
+    rt: &impl Abort,
+    alloc: Global,
+    dtype: DataType,
+    inside: [&str; 2],
+    outside: [&str; 2],
+) -> Result<(), Fail> {
+    for text in inside {
+        check_fields(rt, alloc, dtype, &[(text, text)])?;
+    }
+    for text in outside {
+        check_fields(rt, alloc, dtype, &[(text, "")])?;
+    }
+    check_fields(rt, alloc, dtype, &[("", "_")])
 }
 
 #[test]
-fn reads_fields_of_each_kind(rt: HostRuntime) -> Result<(), Fail> {
+fn reads_signed_numbers(rt: HostRuntime) -> Result<(), Fail> {
     let alloc = rt.alloc();
-    check_field(&rt, alloc, DataType::Boolean, b"true", "true")?;
-    check_field(&rt, alloc, DataType::Boolean, b"True", "")?;
-    check_field(&rt, alloc, DataType::Int8, b"-128", "-128")?;
-    check_field(&rt, alloc, DataType::Int8, b"128", "")?;
-    check_field(
-        &rt,
-        alloc,
-        DataType::UInt64,
-        b"18446744073709551615",
-        "18446744073709551615",
-    )?;
-    check_field(&rt, alloc, DataType::UInt64, b"-1", "")?;
-    check_field(&rt, alloc, DataType::Date, b"-2147483648", "-2147483648")?;
-    check_field(&rt, alloc, DataType::Date, b"2147483648", "")?;
-    check_field(&rt, alloc, DataType::String, b"\xc3\xa9", "'\u{e9}'")?;
-    check_field(&rt, alloc, DataType::String, b"\xc3", "")
+    let byte = DataType::Int8;
+    check_range(&rt, alloc, byte, ["-128", "127"], ["-129", "128"])?;
+    let short = DataType::Int16;
+    check_range(&rt, alloc, short, ["-32768", "32767"], ["-32769", "32768"])?;
+    let inside = ["-2147483648", "2147483647"];
+    let outside = ["-2147483649", "2147483648"];
+    check_range(&rt, alloc, DataType::Int32, inside, outside)?;
+    check_range(&rt, alloc, DataType::Date, inside, outside)?;
+    let inside = ["-9223372036854775808", "9223372036854775807"];
+    let outside = ["-9223372036854775809", "9223372036854775808"];
+    check_range(&rt, alloc, DataType::Int64, inside, outside)
+}
+
+#[test]
+fn reads_unsigned_numbers(rt: HostRuntime) -> Result<(), Fail> {
+    let alloc = rt.alloc();
+    check_range(&rt, alloc, DataType::UInt8, ["0", "255"], ["-1", "256"])?;
+    let short = DataType::UInt16;
+    check_range(&rt, alloc, short, ["0", "65535"], ["-1", "65536"])?;
+    let word = DataType::UInt32;
+    check_range(&rt, alloc, word, ["0", "4294967295"], ["-1", "4294967296"])?;
+    let inside = ["0", "18446744073709551615"];
+    let outside = ["-1", "18446744073709551616"];
+    check_range(&rt, alloc, DataType::UInt64, inside, outside)?;
+    check_fields(&rt, alloc, DataType::UInt64, &[("-0", "0"), ("+7", "7")])
+}
+
+#[test]
+fn reads_forms_of_numbers(rt: HostRuntime) -> Result<(), Fail> {
+    let cases = [
+        ("+1", "1"),
+        ("-0", "0"),
+        ("007", "7"),
+        ("0000000000000000000000000000000000000042", "42"),
+        ("1000000000000000000000000000000000000000", ""),
+        ("+", ""),
+        ("-", ""),
+        ("+-1", ""),
+        ("1 ", ""),
+        (" 1", ""),
+        ("1.0", ""),
+        ("12345678901234567x", ""),
+    ];
+    check_fields(&rt, rt.alloc(), DataType::Int64, &cases)
+}
+
+#[test]
+fn reads_truths_and_texts(rt: HostRuntime) -> Result<(), Fail> {
+    let alloc = rt.alloc();
+    let truths = [
+        ("true", "true"),
+        ("false", "false"),
+        ("True", ""),
+        ("1", ""),
+        ("", "_"),
+    ];
+    check_fields(&rt, alloc, DataType::Boolean, &truths)?;
+    let texts = [("\u{e9}", "'\u{e9}'"), (" 1 ", "' 1 '"), ("", "_")];
+    check_fields(&rt, alloc, DataType::String, &texts)?;
+    let cut = read_field(alloc, DataType::String, b"\xc3")?;
+    assert!(rt; cut.is_none());
+    Ok(())
 }

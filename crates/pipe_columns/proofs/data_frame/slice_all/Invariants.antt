@@ -1,0 +1,7 @@
+use Rattle.std.proofs.Common.{◌≡◌}
+use Rattle.pipe_columns.specs.Frame.{sliced_column}
+use Rattle.pipe_columns.proofs.FrameFacts.{changed}
+use Rattle.pipe_columns.proofs.data_frame.slice_all.Given as goal
+
+abbrev pub invariant-loop-i : goal.invariant-loop-i
+invariant-loop-i l = l.columns ≡ changed (sliced_column l.offset l.len) l.i l.fn.columns
