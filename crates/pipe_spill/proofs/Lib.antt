@@ -1,0 +1,10 @@
+mod ByteOrder
+mod CodeOrder
+mod Decoding
+mod Escapes
+mod Tuples
+mod RowBytes
+mod FrontBytes
+mod ValuesRead
+mod RowOnce
+mod FrameOnce

@@ -1,0 +1,37 @@
+use Rattle.std.proofs.Common.{rules, ◌≡◌, ◌≢◌, ◌<◌, ◌/◌, ◌^◌, [], List, ℕ, length, subst, IsErrOf}
+use Rattle.pipe_spill.specs.FrameBytes.{BeginsNoRow}
+use Rattle.pipe_spill.specs.declared.frame_read.FrameError.TheVariants as fault
+use Rattle.pipe_spill.proofs.FrameOnce.{AreReadTo, bytes_left, no_next_row, one_read, too_few_bytes}
+use Rattle.pipe_spill.proofs.frame_read.read_frame.Goals as goal
+
+pub returns-then-count-rest-clause-not_a_frame : goal.returns-then-count-rest-clause-not_a_frame
+returns-then-count-rest-clause-not_a_frame c = λ h.
+    let all : List ℕ = c.in-Some.rest.now in
+    let room : length all < 2 ^ 64 = search rules in
+    let few : length all / 16 < c.in-Some.count = search rules in
+    too_few_bytes c.args.key_types.now c.args.input_types.now c.in-Some.count all c.args.bytes.now c.in-Some.ensures.range room c.in-Some.ensures.some few
+
+pub returns-in_err-row-clause-not_a_frame : goal.returns-in_err-row-clause-not_a_frame
+returns-in_err-row-clause-not_a_frame c = λ h.
+    let all : List ℕ = c.in-Some.rest.now in
+    let rest : List ℕ = c.loop-row.rest.now in
+    let room : length all < 2 ^ 64 = search rules in
+    let again : IsErrOf c.read_row.result fault.NotAFrame = search rules in
+    let none : BeginsNoRow c.args.key_types.now c.args.input_types.now rest = c.read_row.ensures.not_a_frame again in
+    no_next_row c.args.key_types.now c.args.input_types.now c.in-Some.count all c.args.bytes.now c.in-Some.ensures.range room c.in-Some.ensures.some
+    c.loop-row.rows.items rest c.loop-row._row c.loop-row.invariant c.loop-row-test.true none
+
+pub loop-row-preserved : goal.loop-row-preserved
+loop-row-preserved c =
+    one_read c.args.key_types.now c.args.input_types.now c.loop-row.rows.items c.push.new.self.items c.in_ok-row.row c.loop-row.rest.now c.in_ok-row.after.now c.in-Some.rest.now
+    c.loop-row._row c.loop-row.invariant c.in_ok-row.ensures.row c.in_ok-row.ensures.bytes c.in_ok-push.ensures.items
+
+pub returns-else-is_empty-clause-not_a_frame : goal.returns-else-is_empty-clause-not_a_frame
+returns-else-is_empty-clause-not_a_frame c = λ h.
+    let all : List ℕ = c.in-Some.rest.now in
+    let rest : List ℕ = c.loop-row.rest.now in
+    let room : length all < 2 ^ 64 = search rules in
+    let at_end : c.loop-row._row ≡ c.in-Some.count = search rules in
+    let some : rest ≢ [] = search rules in
+    bytes_left c.args.key_types.now c.args.input_types.now c.in-Some.count all c.args.bytes.now c.in-Some.ensures.range room c.in-Some.ensures.some
+    c.loop-row.rows.items rest (subst (λ n. AreReadTo c.args.key_types.now c.args.input_types.now c.loop-row.rows.items rest all n) at_end c.loop-row.invariant) some

@@ -1,0 +1,12 @@
+use Rattle.std.proofs.Common.{rules, ◌≡◌, ◌++◌}
+use Rattle.pipe_spill.specs.FrameBytes.{frame_bytes, row_bytes}
+use Rattle.pipe_spill.proofs.RowBytes.{row_written}
+use Rattle.pipe_spill.proofs.frame_write.write_frame.Goals as goal
+
+pub loop-row-preserved : goal.loop-row-preserved
+loop-row-preserved c =
+    let types = c.args.input_types.now in
+    let rows = c.args.rows.now in
+    let wrote : c.append_row.new.frame.items ≡ c.loop-row.frame.items ++ row_bytes types c.row-item.result = search rules in
+    row_written types rows c.loop-row.row-index c.row-item.result c.loop-row.frame.items c.append_row.new.frame.items (frame_bytes types rows)
+    c.loop-row-test.true c.row-item.is c.loop-row.invariant wrote

@@ -1,0 +1,8 @@
+pub mod KeyTypes
+pub mod Calls
+pub mod Causes
+pub mod FileStore
+pub mod FrameBytes
+pub mod MemoryStore
+pub mod SpillRow
+pub mod Store

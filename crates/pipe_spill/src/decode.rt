@@ -1,0 +1,106 @@
+ghost use Rattle.std.specs.Prelude.{◌≡◌, ◌≢◌, ◌++◌, ◌∷◌, Bool, IfOk, IfSome, IsErrOf, IsNone, List, ℕ, if◌then◌else◌};
+ghost use Rattle.pipe_columns.specs.Key.{code, value_code};
+ghost use Rattle.pipe_spill.specs.declared.decode.DecodeError.TheVariants as fault;
+ghost use Rattle.pipe_spill.specs.KeyTypes.{BeginsNoValue, IsCodeOfNone, IsTuple, IsValue};
+
+use crate::Values;
+use crate::read_number::read_number;
+use crate::read_text::read_text;
+use pipe_columns::{AnyValue, DataType};
+use std::alloc::{AllocError, AllocFailed, Global};
+
+/// Why bytes were not read back.
+#[derive(Debug, Drop, PartialEq, Eq)]
+pub enum DecodeError {
+    /// They are no code of the types.
+    NotAKey,
+    Memory,
+}
+
+impl From<AllocError> for DecodeError {
+    ghost from_gives = { λ _ e. e ≡ fault.Memory };
+
+    fn from(_: AllocError) -> Self {
+        DecodeError::Memory
+    }
+}
+
+impl<T: Drop> From<AllocFailed<T>> for DecodeError {
+    ghost from_gives = { λ _ e. e ≡ fault.Memory };
+
+    fn from(_: AllocFailed<T>) -> Self {
+        DecodeError::Memory
+    }
+}
+
+/// The truth value whose byte stands in front, and the bytes after it.
+fn read_truth(body: &[u8]) -> Option<(bool, &[u8])>
+    ensures code { IfSome result (λ p. (if p.0 then 1 else 0) ∷ p.1.now ≡ body.now) }
+    ensures none { IsNone result
+        → (truth : Bool) (rest : List ℕ) → (if truth then 1 else 0) ∷ rest ≢ body.now }
+{
+    match body.split_first() {
+        Some((0, rest)) => Some((false, rest)),
+        Some((1, rest)) => Some((true, rest)),
+        _ => None,
+    }
+}
+
+/// The value whose code, after the mark of a value that isn't null, stands in front.
+fn read_body(alloc: Global, body: &[u8], dtype: DataType) -> Result<(AnyValue, &[u8]), DecodeError>
+    ensures value { IfOk result (λ p. IsValue dtype p.0) }
+    ensures code { IfOk result (λ p. value_code dtype p.0 ++ p.1.now ≡ 1 ∷ body.now) }
+    ensures not_a_key { IsErrOf result fault.NotAKey → BeginsNoValue dtype (1 ∷ body.now) }
+{
+    match dtype {
+        DataType::Boolean => match read_truth(body) {
+            Some((truth, rest)) => Ok((AnyValue::Boolean(truth), rest)),
+            None => Err(DecodeError::NotAKey),
+        },
+        DataType::String => {
+            let (text, rest) = read_text(alloc, body)?;
+            Ok((AnyValue::Text(text), rest))
+        }
+        _ => match read_number(body, dtype) {
+            Some((number, rest)) => Ok((AnyValue::Int(number), rest)),
+            None => Err(DecodeError::NotAKey),
+        },
+    }
+}
+
+/// The value whose code the bytes begin with, and the bytes after it.
+pub fn read_value(
+    alloc: Global,
+    bytes: &[u8],
+    dtype: DataType,
+) -> Result<(AnyValue, &[u8]), DecodeError>
+    ensures value { IfOk result (λ p. IsValue dtype p.0) }
+    ensures code { IfOk result (λ p. value_code dtype p.0 ++ p.1.now ≡ bytes.now) }
+    ensures not_a_key { IsErrOf result fault.NotAKey → BeginsNoValue dtype bytes.now }
+{
+    match bytes.split_first() {
+        Some((0, rest)) => Ok((AnyValue::Null, rest)),
+        Some((1, body)) => read_body(alloc, body, dtype),
+        _ => Err(DecodeError::NotAKey),
+    }
+}
+
+/// The tuple whose code the bytes are.
+pub fn decode_key(alloc: Global, bytes: &[u8], types: &[DataType]) -> Result<Values, DecodeError>
+    ensures tuple { IfOk result (λ values. IsTuple types.now values) }
+    ensures code { IfOk result (λ values. code types.now values ≡ bytes.now) }
+    ensures not_a_key { IsErrOf result fault.NotAKey → IsCodeOfNone types.now bytes.now }
+{
+    let mut values = Vec::with_capacity(alloc, types.len())?;
+    let mut rest = bytes;
+    for dtype in types {
+        let (value, after) = read_value(alloc, rest, *dtype)?;
+        values.push(value)?;
+        rest = after;
+    }
+    if rest.is_empty() {
+        Ok(Values::new(values))
+    } else {
+        Err(DecodeError::NotAKey)
+    }
+}

@@ -1,0 +1,108 @@
+// A store in a file, which is opened by name at each call.
+
+ghost use Rattle.std.specs.Prelude.{◌≡◌, ◌<◌, ◌+◌, ◌-◌, ◌^◌, [], length, IfOk, OnOk, OnErr, IsErrOf};
+ghost use Rattle.pipe_spill.specs.Causes.{HasCause};
+ghost use Rattle.pipe_spill.specs.FileStore.{faults_of, held_of, size_of, with_end};
+ghost use Rattle.pipe_spill.specs.declared.store.StoreError.TheVariants as store_error;
+
+use crate::file_frames::FileFrames;
+use crate::store::{SpillStore, StoreError};
+use pipe_columns::Text;
+use std::alloc::{AllocError, Global};
+use std::fs::{self, Files, OpenOptions};
+use std::io;
+use std::marker::Model;
+
+/// Frames in a file of a folder. The file is open during a call alone, since thousands of open
+/// files pass a usual limit. It tells none of its frames; contracts see where each frame ends.
+#[derive(Drop)]
+pub struct FileStore<R> {
+    rt: R,
+    path: String,
+    frames: FileFrames,
+}
+
+impl<R> Model for FileStore<R> {
+    ghost use Rattle.pipe_spill.specs.FileStore.{FileEnds};
+
+    ghost Value = { FileEnds };
+
+    ghost view = { λ s. s.frames };
+}
+
+impl<R: Files + Drop> FileStore<R> {
+    /// The store of a partition in a folder. No file is touched yet.
+    pub fn new(rt: R, alloc: Global, dir: &Text, partition: usize) -> Result<Self, AllocError>
+        ensures ends { IfOk result (λ s. s.ends ≡ []) }
+        ensures faults { IfOk result (λ s. s.faults ≡ 0) }
+    {
+        Ok(FileStore {
+            rt,
+            path: format!(in alloc; "{}/partition-{partition}.spill", dir.as_str())?,
+            frames: FileFrames::new(alloc),
+        })
+    }
+}
+
+impl<R: Files + Drop> SpillStore for FileStore<R> {
+    ghost use Rattle.std.specs.Prelude.{None, false};
+    ghost use Rattle.pipe_spill.specs.FileStore.{faults_of, held_of, never_sure};
+
+    ghost told = { λ s. None };
+
+    ghost held = { held_of };
+
+    ghost faults = { faults_of };
+
+    ghost sure = { λ s. false };
+
+    ghost tells_all = { λ s. tt };
+
+    ghost never_failed = { never_sure };
+
+    fn held(&self) -> u64
+        ensures { result ≡ held_of self.now }
+    {
+        self.frames.held()
+    }
+
+    fn put(&mut self, frame: &[u8]) -> Result<u64, StoreError>
+        requires room { held_of self.old < 2 ^ 64 - 1 }
+        ensures number { IfOk result (λ n. n ≡ held_of self.old) }
+        ensures held { OnOk result (held_of self.new ≡ held_of self.old + 1) }
+        ensures refused_held { OnErr result (held_of self.new ≡ held_of self.old) }
+        ensures cause { HasCause (faults_of self.old) (faults_of self.new)
+            (IsErrOf result store_error.Failed) }
+        ensures ends { OnOk result (self.new.ends ≡ with_end self.old.ends (length frame.now)) }
+        ensures refused_ends { OnErr result (self.new.ends ≡ self.old.ends) }
+    {
+        let opened = open_to_put(&self.rt, self.path.as_str(), self.frames.held() == 0);
+        match opened {
+            Ok(mut file) => self.frames.put(&mut file, frame),
+            Err(error) => Err(self.frames.refusal(error.kind())),
+        }
+    }
+
+    fn get(&mut self, number: u64, into: &mut Vec<u8>) -> Result<(), StoreError>
+        requires held { number < held_of self.old }
+        ensures refused { OnErr result (into.new.items ≡ []) }
+        ensures held { held_of self.new ≡ held_of self.old }
+        ensures cause { HasCause (faults_of self.old) (faults_of self.new)
+            (IsErrOf result store_error.Failed) }
+        ensures size { OnOk result (length into.new.items ≡ size_of self.old.ends number) }
+        ensures ends { self.new.ends ≡ self.old.ends }
+    {
+        into.clear();
+        match fs::open(&self.rt, self.path.as_str()) {
+            Ok(mut file) => self.frames.get(&mut file, number, into),
+            Err(error) => Err(self.frames.refusal(error.kind())),
+        }
+    }
+}
+
+/// Opens the file of a path to write, which the first put makes or empties.
+fn open_to_put<R: Files>(rt: &R, path: &str, first: bool) -> io::Result<R::File> {
+    let mut options = OpenOptions::new();
+    options.write(true).create(first).truncate(first);
+    options.open(rt, path)
+}

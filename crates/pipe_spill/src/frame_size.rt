@@ -1,0 +1,56 @@
+// How many bytes a frame takes, up to the last number: room is taken once, and want of it is met
+// before anything is written.
+
+use crate::spill_row::SpillRow;
+use pipe_columns::{AnyValue, DataType};
+
+/// How many bytes the code of a number takes.
+fn number_size(dtype: DataType) -> usize {
+    match dtype {
+        DataType::Int8 | DataType::UInt8 => 2,
+        DataType::Int16 | DataType::UInt16 => 3,
+        DataType::Int32 | DataType::UInt32 | DataType::Date => 5,
+        DataType::Int64 | DataType::UInt64 => 9,
+        DataType::Int128 => 17,
+        DataType::Boolean | DataType::String => 0,
+    }
+}
+
+/// How many of the bytes are zero.
+fn count_zeros(bytes: &[u8]) -> usize {
+    let mut zeros = 0usize;
+    for byte in bytes {
+        zeros = zeros.wrapping_add((*byte == 0) as usize);
+    }
+    zeros
+}
+
+/// How many bytes the code of a value takes.
+fn value_size(value: &AnyValue, dtype: DataType) -> usize {
+    match value {
+        AnyValue::Null => 1,
+        AnyValue::Boolean(_) => 2,
+        AnyValue::Int(_) => number_size(dtype),
+        AnyValue::Text(text) => {
+            let bytes = text.as_bytes();
+            bytes
+                .len()
+                .saturating_add(count_zeros(bytes))
+                .saturating_add(3)
+        }
+    }
+}
+
+/// How many bytes the frame of some rows takes.
+pub fn frame_size(rows: &[SpillRow], input_types: &[DataType]) -> usize {
+    let mut size = 8usize;
+    for row in rows {
+        size = size
+            .saturating_add(16)
+            .saturating_add(row.key.as_slice().len());
+        for (value, dtype) in row.values.as_slice().iter().zip(input_types) {
+            size = size.saturating_add(value_size(value, *dtype));
+        }
+    }
+    size
+}

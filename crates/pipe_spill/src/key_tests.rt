@@ -1,0 +1,188 @@
+// The codes of the worked rows, of the edges of each type, and bytes that are no code.
+
+use crate::{DecodeError, decode_key, encode_key, encode_key_into, fold, partition_of};
+use pipe_columns::{AnyValue, DataType, Text};
+use std::alloc::Global;
+use std::process::Abort;
+use std::test::Fail;
+
+/// A value has these bytes, and the bytes are read as the value.
+fn goes_both_ways(
+    rt: &impl Abort,
+    alloc: Global,
+    value: AnyValue,
+    dtype: DataType,
+    want: &[u8],
+) -> Result<(), Fail> {
+    assert!(rt; value.fits(dtype));
+    let values = [value];
+    let types = [dtype];
+    let key = encode_key(alloc, &values, &types)?;
+    assert_eq!(rt; key.as_slice(), want);
+    let read = decode_key(alloc, want, &types)?;
+    assert_eq!(rt; read.as_slice(), values.as_slice());
+    Ok(())
+}
+
+/// The codes of the least, the middle and the greatest number of 128 bits. Those of a narrower type
+/// are shorter by as many bytes.
+const LEAST: [u8; 17] = [1, 0, 0, 0, 0, 0, 0, 0, 0, 0, 0, 0, 0, 0, 0, 0, 0];
+
+const MIDDLE: [u8; 17] = [1, 128, 0, 0, 0, 0, 0, 0, 0, 0, 0, 0, 0, 0, 0, 0, 0];
+
+const GREATEST: [u8; 17] = [
+    1, 255, 255, 255, 255, 255, 255, 255, 255, 255, 255, 255, 255, 255, 255, 255, 255,
+];
+
+#[test]
+fn signed_numbers(rt: HostRuntime) -> Result<(), Fail> {
+    let alloc = rt.alloc();
+    for (dtype, width, least, greatest) in [
+        (DataType::Int8, 1, -128, 127),
+        (DataType::Int16, 2, -32768, 32767),
+        (DataType::Int32, 4, -2147483648, 2147483647),
+        (DataType::Date, 4, -2147483648, 2147483647),
+        (
+            DataType::Int64,
+            8,
+            -9223372036854775808,
+            9223372036854775807,
+        ),
+        (DataType::Int128, 16, i128::MIN, i128::MAX),
+    ] {
+        assert!(rt; width < LEAST.len());
+        goes_both_ways(&rt, alloc, AnyValue::Int(least), dtype, &LEAST[..=width])?;
+        goes_both_ways(&rt, alloc, AnyValue::Int(0), dtype, &MIDDLE[..=width])?;
+        goes_both_ways(
+            &rt,
+            alloc,
+            AnyValue::Int(greatest),
+            dtype,
+            &GREATEST[..=width],
+        )?;
+        goes_both_ways(&rt, alloc, AnyValue::Null, dtype, b"\x00")?;
+    }
+    goes_both_ways(&rt, alloc, AnyValue::Int(-1), DataType::Int8, b"\x01\x7f")?;
+    goes_both_ways(
+        &rt,
+        alloc,
+        AnyValue::Int(-2),
+        DataType::Int16,
+        b"\x01\x7f\xfe",
+    )
+}
+
+#[test]
+fn unsigned_numbers(rt: HostRuntime) -> Result<(), Fail> {
+    let alloc = rt.alloc();
+    for (dtype, width, greatest) in [
+        (DataType::UInt8, 1, 255),
+        (DataType::UInt16, 2, 65535),
+        (DataType::UInt32, 4, 4294967295),
+        (DataType::UInt64, 8, 18446744073709551615),
+    ] {
+        assert!(rt; width < LEAST.len());
+        goes_both_ways(&rt, alloc, AnyValue::Int(0), dtype, &LEAST[..=width])?;
+        goes_both_ways(
+            &rt,
+            alloc,
+            AnyValue::Int(greatest),
+            dtype,
+            &GREATEST[..=width],
+        )?;
+        goes_both_ways(&rt, alloc, AnyValue::Null, dtype, b"\x00")?;
+    }
+    let number = AnyValue::Int(16909060);
+    goes_both_ways(
+        &rt,
+        alloc,
+        number,
+        DataType::UInt32,
+        b"\x01\x01\x02\x03\x04",
+    )
+}
+
+#[test]
+fn truths_and_texts(rt: HostRuntime) -> Result<(), Fail> {
+    let alloc = rt.alloc();
+    for (truth, want) in [(false, b"\x01\x00"), (true, b"\x01\x01")] {
+        goes_both_ways(
+            &rt,
+            alloc,
+            AnyValue::Boolean(truth),
+            DataType::Boolean,
+            want,
+        )?;
+    }
+    let texts: [(&str, &[u8]); 6] = [
+        ("", b"\x01\x00\x00"),
+        ("a", b"\x01a\x00\x00"),
+        ("\0", b"\x01\x00\x01\x00\x00"),
+        ("\0\0", b"\x01\x00\x01\x00\x01\x00\x00"),
+        ("a\0b", b"\x01a\x00\x01b\x00\x00"),
+        ("\u{e9}\u{10348}", b"\x01\xc3\xa9\xf0\x90\x8d\x88\x00\x00"),
+    ];
+    for (text, want) in texts {
+        let text = AnyValue::Text(Text::new(alloc, text)?);
+        goes_both_ways(&rt, alloc, text, DataType::String, want)?;
+    }
+    goes_both_ways(&rt, alloc, AnyValue::Null, DataType::Boolean, b"\x00")?;
+    goes_both_ways(&rt, alloc, AnyValue::Null, DataType::String, b"\x00")
+}
+
+#[test]
+fn tuples(rt: HostRuntime) -> Result<(), Fail> {
+    let values = [AnyValue::Null, AnyValue::Int(258)];
+    let types = [DataType::Int64, DataType::Int16];
+    let mut key = Vec::from_slice(rt.alloc(), b"what stood there")?;
+    encode_key_into(&mut key, &values, &types)?;
+    assert_eq!(rt; key.as_slice(), b"\x00\x01\x81\x02".as_slice());
+    let read = decode_key(rt.alloc(), &key, &types)?;
+    assert_eq!(rt; read.as_slice(), values.as_slice());
+    let none = decode_key(rt.alloc(), b"", &[])?;
+    assert_eq!(rt; none.as_slice().len(), 0);
+    Ok(())
+}
+
+#[test]
+fn partitions(rt: HostRuntime) {
+    for (key, number, of_16, of_2) in [
+        (b"\x01a\x00\x00", 123008, 0, 0),
+        (b"\x01b\x00\x00", 123969, 1, 1),
+    ] {
+        assert_eq!(rt; fold(key), number);
+        assert_eq!(rt; partition_of(key, 16), of_16);
+        assert_eq!(rt; partition_of(key, 2), of_2);
+    }
+    assert_eq!(rt; fold(b""), 0);
+}
+
+#[test]
+fn no_keys(rt: HostRuntime) {
+    let cases: [(&[u8], DataType); 18] = [
+        (b"", DataType::Int8),
+        (b"\x02", DataType::Boolean),
+        (b"\x02\x80", DataType::Int8),
+        (b"\x00\x00", DataType::Int8),
+        (b"\x01", DataType::Int8),
+        (b"\x01\x80\x00", DataType::Int8),
+        (b"\x01\x80", DataType::Int16),
+        (b"\x01\x80\x00\x00\x00\x00\x00\x00", DataType::Int64),
+        (b"\x01\x80\x00\x00\x00\x00\x00\x00\x00", DataType::Date),
+        (b"\x01", DataType::Boolean),
+        (b"\x01\x02", DataType::Boolean),
+        (b"\x01\x01\x00", DataType::Boolean),
+        (b"\x01", DataType::String),
+        (b"\x01a", DataType::String),
+        (b"\x01a\x00", DataType::String),
+        (b"\x01\x00\x02\x00\x00", DataType::String),
+        (b"\x01a\x00\x00\x00", DataType::String),
+        (b"\x01\xff\x00\x00", DataType::String),
+    ];
+    for (bytes, dtype) in cases {
+        let read = decode_key(rt.alloc(), bytes, &[dtype]);
+        assert!(rt; matches!(read, Err(DecodeError::NotAKey)), "{bytes:?}");
+    }
+    let read = decode_key(rt.alloc(), b"\x00", &[]);
+    assert!(rt; matches!(read, Err(DecodeError::NotAKey)));
+}

@@ -1,0 +1,104 @@
+// What stores answer to two puts and the gets of what they hold, in memory and in files.
+
+use crate::file_store::FileStore;
+use crate::memory_store::MemoryStore;
+use crate::store::SpillStore;
+use pipe_columns::Text;
+use std::alloc::{AllocError, Global};
+use std::fs;
+use std::test::Fail;
+
+/// Puts two frames and gets each that is held. It writes down the answers, a line each.
+fn put_and_get<S: SpillStore>(alloc: Global, store: &mut S) -> Result<String, AllocError> {
+    let mut lines = String::new(alloc);
+    for frame in ["one", "second"] {
+        if store.held() < u64::MAX {
+            let answer = store.put(frame.as_bytes());
+            lines.push_str(format!(in alloc; "put {answer:?}\n")?.as_str())?;
+        }
+    }
+    let mut into = Vec::from_slice(alloc, b"before")?;
+    for number in 0..store.held() {
+        if number < store.held() {
+            let answer = store.get(number, &mut into);
+            let text = String::from_utf8_lossy(alloc, &into)?;
+            lines.push_str(format!(in alloc; "get {answer:?} {text}\n")?.as_str())?;
+        }
+    }
+    Ok(lines)
+}
+
+#[test]
+fn listed_calls_of_a_store_fail(rt: HostRuntime) -> Result<(), Fail> {
+    let alloc = rt.alloc();
+    for (failing, want) in [
+        (
+            9,
+            "put Ok(0)\nput Ok(1)\nget Ok(()) one\nget Ok(()) second\n",
+        ),
+        (0, "put Err(Failed)\nput Ok(0)\nget Ok(()) second\n"),
+        (1, "put Ok(0)\nput Err(Failed)\nget Ok(()) one\n"),
+        (
+            2,
+            "put Ok(0)\nput Ok(1)\nget Err(Failed) \nget Ok(()) second\n",
+        ),
+        (
+            3,
+            "put Ok(0)\nput Ok(1)\nget Ok(()) one\nget Err(Failed) \n",
+        ),
+    ] {
+        let mut store = MemoryStore::new(alloc, Vec::from_slice(alloc, &[failing])?);
+        assert_eq!(rt; put_and_get(alloc, &mut store)?.as_str(), want);
+    }
+    Ok(())
+}
+
+#[test]
+fn frames_of_a_store_are_lent(rt: HostRuntime) -> Result<(), Fail> {
+    let alloc = rt.alloc();
+    let mut store = MemoryStore::new(alloc, Vec::new(alloc));
+    put_and_get(alloc, &mut store)?;
+    let frames = store.frames();
+    assert_eq!(rt; frames.len(), 2);
+    assert_eq!(rt; frames[1].as_slice(), b"second".as_slice());
+    Ok(())
+}
+
+/// Takes a store that threads may share behind a lock.
+fn share<S: Send + Sync>(_store: &S) {}
+
+#[test]
+fn frames_in_a_file_are_read_back(rt: HostRuntime) -> Result<(), Fail> {
+    let alloc = rt.alloc();
+    let both = "put Ok(0)\nput Ok(1)\nget Ok(()) one\nget Ok(()) second\n";
+    fs::create_dir(&rt, "spills")?;
+    fs::write(&rt, "spills/partition-3.spill", "of a former run")?;
+    let dir = Text::new(alloc, "spills")?;
+    let mut store = FileStore::new(rt, alloc, &dir, 3)?;
+    share(&store);
+    assert_eq!(rt; put_and_get(alloc, &mut store)?.as_str(), both);
+    let text = fs::read_to_string(&rt, "spills/partition-3.spill")?;
+    assert_eq!(rt; text.as_str(), "onesecond");
+    Ok(())
+}
+
+#[test]
+fn a_folder_that_is_absent(rt: HostRuntime) -> Result<(), Fail> {
+    let alloc = rt.alloc();
+    let dir = Text::new(alloc, "absent")?;
+    let mut store = FileStore::new(rt, alloc, &dir, 0)?;
+    let refused = "put Err(Failed)\nput Err(Failed)\n";
+    assert_eq!(rt; put_and_get(alloc, &mut store)?.as_str(), refused);
+    Ok(())
+}
+
+#[test]
+fn a_file_that_was_taken_away(rt: HostRuntime) -> Result<(), Fail> {
+    let alloc = rt.alloc();
+    let mut store = FileStore::new(rt, alloc, &Text::new(alloc, ".")?, 7)?;
+    store.put(b"frame")?;
+    fs::remove_file(&rt, "./partition-7.spill")?;
+    let refused = "put Err(Failed)\nput Err(Failed)\nget Err(Failed) \n";
+    assert_eq!(rt; put_and_get(alloc, &mut store)?.as_str(), refused);
+    Ok(())
+}
