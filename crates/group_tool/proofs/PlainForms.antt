@@ -13,11 +13,14 @@ use Rattle.pipe_columns.specs.declared.schema.Field.{Field}
 use Rattle.pipe_running.specs.declared.function.AggregateFunction.{AggregateFunction}
 use Rattle.pipe_running.specs.declared.function.AggregateFunction.TheVariants as function
 use Rattle.pipe_aggs.specs.Expr.{Expr, column}
+use Rattle.pipe_aggs.specs.Expr as expr
 use Rattle.pipe_aggs.specs.Query.{AggTree, each, rows_alone, Input, QueryTree}
 use Rattle.pipe_aggs.specs.Typing.{type_of}
 use Rattle.pipe_plain.specs.declared.query.PlainAgg.{PlainAgg}
 use Rattle.pipe_plain.specs.declared.query.PlainQuery.{PlainQuery}
-use Rattle.pipe_plain.specs.PlainQuery.{agg_tree, query_tree, takes, is_plain}
+use Rattle.pipe_plain.specs.PlainQuery.{agg_tree, is_plain, is_plain_function, query_tree, takes}
+use Rattle.pipe_plain.specs.Running.{are_plain_functions}
+use Rattle.pipe_plain.proofs.SeenFacts.{and_parts, plain_function_is}
 use Rattle.group_tool.specs.QueryJson.{contains, names_of, column_of, type_named, field_of, fields_of, schema_of, is_schema, key_of, fed_of, fed_by, Fed, agg_of, aggs_of, alias_of, pair_of, query_by, form_of, has_members}
 
 -- ---- answers that are there
@@ -95,6 +98,15 @@ fed_is_named schema None count fed e =
 -- whether an input is a column of a schema
 abbrev pub feeds : List Field → Input → Bool
 feeds schema (each (column name)) = contains name (names_of schema)
+feeds schema (each (expr.literal t v)) = false
+feeds schema (each (expr.cast e t)) = false
+feeds schema (each (expr.binary l o r)) = false
+feeds schema (each (expr.ternary p t f)) = false
+feeds schema (each (expr.alias e n)) = false
+feeds schema (each (expr.aggregate a e)) = false
+feeds schema (each expr.len) = false
+feeds schema (each (expr.filter e by)) = false
+feeds schema (each (expr.sort e)) = false
 feeds schema rows_alone = false
 
 agg_is_fed : (schema : List Field) (d : Data) (a : AggTree) → agg_of schema d ≡ Some a → feeds schema a.input ≡ true
@@ -118,15 +130,15 @@ aggs_are_fed schema (item d ds) aggs e =
 
 -- ---- the query
 
-takes_int64 : (f : AggregateFunction) (t : Option DataType) → t ≡ Some dt.Int64 → takes f t ≡ true
-takes_int64 (function.Count a) t e = ap (takes (function.Count a)) e
-takes_int64 (function.SumI64 a) t e = ap (takes (function.SumI64 a)) e
+takes_int64 : (f : AggregateFunction) (t : Option DataType) → is_plain_function f ≡ true → t ≡ Some dt.Int64 → takes f t ≡ true
+takes_int64 f t plain e = plain_function_is (λ g. takes g t ≡ true) (λ a. ap (takes (function.Count a)) e) (λ a. ap (takes (function.SumI64 a)) e) f plain
 
-aggs_take : (schema : List Field) (aggs : List PlainAgg) → AllInt64 schema → AllFed schema (map agg_tree aggs) → list_all (λ a. takes a.function (type_of (column a.input) schema)) aggs ≡ true
-aggs_take schema [] all fed = refl
-aggs_take schema (a ∷ aggs) all fed =
-    let here : takes a.function (type_of (column a.input) schema) ≡ true = takes_int64 a.function _ (type_of_column schema a.input all fed.0) in
-    rw here (aggs_take schema aggs all fed.1)
+aggs_take : (schema : List Field) (aggs : List PlainAgg) → are_plain_functions aggs ≡ true → AllInt64 schema → AllFed schema (map agg_tree aggs) → list_all (λ a. takes a.function (type_of (column a.input) schema)) aggs ≡ true
+aggs_take schema [] plain all fed = refl
+aggs_take schema (a ∷ aggs) plain all fed =
+    let parts = and_parts (is_plain_function a.function) (are_plain_functions aggs) plain in
+    let here : takes a.function (type_of (column a.input) schema) ≡ true = takes_int64 a.function _ parts.0 (type_of_column schema a.input all fed.0) in
+    rw here (aggs_take schema aggs parts.1 all fed.1)
 
 keys_stand : (schema : List Field) (keys : List (List ℕ)) (key : List ℕ) → AllInt64 schema → contains key (names_of schema) ≡ true → map column keys ≡ column key ∷ [] → list_all (λ k. is_some (type_of (column k) schema)) keys ≡ true
 keys_stand schema keys key all named e =
@@ -135,8 +147,8 @@ keys_stand schema keys key all named e =
     sym (list_all-map stands column keys) ∙ ap (list_all stands) e ∙ ap (λ (o : Option DataType). is_some o && true) here
 
 -- the parts of a query by one key
-query_is_plain : (q : PlainQuery) (schema : List Field) (key : List ℕ) (aggs : List AggTree) → AllInt64 schema → contains key (names_of schema) ≡ true → AllFed schema aggs → query_by schema key aggs ≡ Some (query_tree q) → is_plain q ≡ true
-query_is_plain q schema key aggs all named fed e =
+query_is_plain : (q : PlainQuery) (schema : List Field) (key : List ℕ) (aggs : List AggTree) → are_plain_functions q.aggs.items ≡ true → AllInt64 schema → contains key (names_of schema) ≡ true → AllFed schema aggs → query_by schema key aggs ≡ Some (query_tree q) → is_plain q ≡ true
+query_is_plain q schema key aggs plain all named fed e =
     let tree = if_some _ _ (query_tree q) e in
     let same = same_Some _ (query_tree q) tree.1 in
     let schemas : schema ≡ q.schema = ap (λ (t : QueryTree). t.schema) same in
@@ -146,11 +158,11 @@ query_is_plain q schema key aggs all named fed e =
     let P : List Field → Type 0 = λ s. contains key (names_of s) ≡ true in
     let Q : List Field → Type 0 = λ s. AllFed s aggs in
     let all_fed : AllFed q.schema (map agg_tree q.aggs.items) = subst (AllFed q.schema) trees (subst Q schemas fed) in
-    rw (keys_stand q.schema q.keys.items key all_int (subst P schemas named) keys, aggs_take q.schema q.aggs.items all_int all_fed) refl
+    rw (keys_stand q.schema q.keys.items key all_int (subst P schemas named) keys, aggs_take q.schema q.aggs.items plain all_int all_fed) refl
 
 -- a query of the form is plain
-pub form_is_plain : (q : PlainQuery) (d : Data) → form_of d ≡ Some (query_tree q) → is_plain q ≡ true
-form_is_plain q d e =
+pub form_is_plain : (q : PlainQuery) (d : Data) → are_plain_functions q.aggs.items ≡ true → form_of d ≡ Some (query_tree q) → is_plain q ≡ true
+form_is_plain q d plain e =
     let whole = if_some (has_members 3 d) _ (query_tree q) e in
     let a = then_some _ _ (query_tree q) whole.1 in
     let b = then_some _ _ (query_tree q) a.2 in
@@ -159,10 +171,11 @@ form_is_plain q d e =
     let key = then_some (key_of a.0) (get (codes "keys") d) b.0 b.1 in
     let sole = then_some (column_of a.0) _ b.0 key.2 in
     let list = then_some (aggs_of a.0) (option_and_then as_array (get (codes "aggs") d)) c.0 c.1 in
-    query_is_plain q a.0 b.0 c.0 (schema_is_int64 schema.0 a.0 schema.2) (column_is_named a.0 sole.0 b.0 sole.2) (aggs_are_fed a.0 list.0 c.0 list.2) c.2
+    query_is_plain q a.0 b.0 c.0 plain (schema_is_int64 schema.0 a.0 schema.2) (column_is_named a.0 sole.0 b.0 sole.2) (aggs_are_fed a.0 list.0 c.0 list.2) c.2
 
 -- what reading a form gives is plain
-pub read_is_plain : (r : Result (Option PlainQuery) AllocError) (d : Data) → IfOk r (λ o. option_map query_tree o ≡ form_of d) → IfOk r (λ o. IfSome o (λ q. is_plain q ≡ true))
-read_is_plain (Ok None) d h = tt
-read_is_plain (Ok (Some q)) d h = form_is_plain q d (sym h)
-read_is_plain (Err e) d h = tt
+pub read_is_plain : (r : Result (Option PlainQuery) AllocError) (d : Data) → IfOk r (λ o. IfSome o (λ q. are_plain_functions q.aggs.items ≡ true))
+    → IfOk r (λ o. option_map query_tree o ≡ form_of d) → IfOk r (λ o. IfSome o (λ q. is_plain q ≡ true))
+read_is_plain (Ok None) d p h = tt
+read_is_plain (Ok (Some q)) d p h = form_is_plain q d p (sym h)
+read_is_plain (Err e) d p h = tt

@@ -1,9 +1,10 @@
 //! The aggregates of a query as JSON.
 
-ghost use Rattle.std.specs.Prelude.{◌≡◌, IfOk, map, option_map};
+ghost use Rattle.std.specs.Prelude.{◌≡◌, IfOk, IfSome, map, option_map, true};
 ghost use Rattle.serde_json.specs.View.{items_view, view};
 ghost use Rattle.pipe_running.specs.States.{kind_of};
-ghost use Rattle.pipe_plain.specs.PlainQuery.{agg_tree};
+ghost use Rattle.pipe_plain.specs.PlainQuery.{agg_tree, is_plain_function};
+ghost use Rattle.pipe_plain.specs.Running.{are_plain_functions};
 ghost use Rattle.group_tool.specs.QueryJson as spec;
 
 use crate::json_shapes::{pair, sole_member};
@@ -16,8 +17,9 @@ use std::alloc::{AllocError, Global};
 
 /// The aggregate of an object of one member, `sum` or `count`, and the column that it names.
 fn fed<'v>(schema: &[Field], json: &'v Value) -> Option<(AggregateFunction, &'v str)>
-    ensures { option_map (λ f. (kind_of f.0, f.1.now)) result
+    ensures fed { option_map (λ f. (kind_of f.0, f.1.now)) result
         ≡ spec.fed_of schema.now (view json.now) }
+    ensures plain { IfSome result (λ f. is_plain_function f.0 ≡ true) }
 {
     if let Some(input) = sole_member(json, "sum") {
         let name = column(schema, input)?;
@@ -38,7 +40,8 @@ fn alias(json: &Value) -> Option<(&Value, &Value)>
 
 /// The output column of an object of one member, `alias`.
 fn agg(alloc: Global, schema: &[Field], json: &Value) -> Result<Option<PlainAgg>, AllocError>
-    ensures { IfOk result (λ o. option_map agg_tree o ≡ spec.agg_of schema.now (view json.now)) }
+    ensures agg { IfOk result (λ o. option_map agg_tree o ≡ spec.agg_of schema.now (view json.now)) }
+    ensures plain { IfOk result (λ o. IfSome o (λ a. is_plain_function a.function ≡ true)) }
 {
     let Some((aggregate, name)) = alias(json) else {
         return Ok(None);
@@ -64,8 +67,9 @@ pub fn aggs(
     schema: &[Field],
     list: &[Value],
 ) -> Result<Option<Vec<PlainAgg>>, AllocError>
-    ensures { IfOk result (λ o. option_map (λ v. map agg_tree v.items) o
+    ensures aggs { IfOk result (λ o. option_map (λ v. map agg_tree v.items) o
         ≡ spec.aggs_of schema.now (items_view list.now)) }
+    ensures plain { IfOk result (λ o. IfSome o (λ v. are_plain_functions v.items ≡ true)) }
 {
     let mut aggs = Vec::new(alloc);
     for value in list {

@@ -3,6 +3,7 @@
 ghost use Rattle.std.specs.Prelude.{◌≡◌, IfOk, IfSome, map, option_map, true};
 ghost use Rattle.serde_json.specs.View.{view};
 ghost use Rattle.pipe_plain.specs.PlainQuery.{agg_tree, is_plain, query_tree};
+ghost use Rattle.pipe_plain.specs.Running.{are_plain_functions};
 ghost use Rattle.group_tool.specs.QueryJson as spec;
 
 use crate::aggs_json::aggs;
@@ -22,15 +23,23 @@ fn query_by(
     key: Text,
     aggs: Vec<PlainAgg>,
 ) -> Result<Option<PlainQuery>, AllocError>
-    ensures { IfOk result (λ o. option_map query_tree o
+    requires { are_plain_functions aggs.items ≡ true }
+    ensures query { IfOk result (λ o. option_map query_tree o
         ≡ spec.query_by schema.items key (map agg_tree aggs.items)) }
+    ensures plain { IfOk result (λ o. IfSome o (λ q. are_plain_functions q.aggs.items ≡ true)) }
 {
     if !has_distinct_outputs(&key, &aggs) {
         return Ok(None);
     }
     let keys = vec![in alloc; key]?;
     let schema = Schema::new(schema);
-    Ok(Some(PlainQuery { schema, keys, aggs }))
+    Ok(Some(PlainQuery {
+        schema,
+        keys,
+        aggs,
+        slice: None,
+        maintain_order: false,
+    }))
 }
 
 /// The query that a JSON value is, if it is one.

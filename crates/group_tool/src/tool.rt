@@ -39,7 +39,7 @@ fn make_text<I: InputFiles>(
         Err(_) => return Err(ToolFault::Memory),
     };
     let chunks = read_input(alloc, input, &query)?;
-    let Ok(frame) = plain_answer(alloc, &chunks, &query) else {
+    let Ok(frame) = plain_answer(alloc, &chunks, &query, 1) else {
         return Err(ToolFault::Memory);
     };
     match frame_text(alloc, &frame) {

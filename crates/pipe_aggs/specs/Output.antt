@@ -1,5 +1,5 @@
 -- The columns that a query puts out.
-use Rattle.std.specs.Prelude.{ℕ, List, [], ◌∷◌, ◌++◌, map, codes, unwrap_or}
+use Rattle.std.specs.Prelude.{ℕ, List, [], ◌∷◌, ◌++◌, map, codes}
 use Rattle.std.specs.List.{flat_map}
 use Rattle.pipe_columns.specs.declared.data_type.DataType.{DataType}
 use Rattle.pipe_columns.specs.declared.data_type.DataType.TheVariants as dt
@@ -7,13 +7,9 @@ use Rattle.pipe_columns.specs.declared.schema.Field.{Field}
 use Rattle.pipe_running.specs.Kind.{Kind}
 use Rattle.pipe_running.specs.Kind as kind
 use Rattle.pipe_running.specs.Aggregate.{sum_type}
-use Rattle.pipe_aggs.specs.Expr.{Expr, name_of}
-use Rattle.pipe_aggs.specs.Typing.{type_of}
+use Rattle.pipe_aggs.specs.Expr.{name_of}
+use Rattle.pipe_aggs.specs.Typing.{known_type}
 use Rattle.pipe_aggs.specs.Query.{Input, each, rows_alone, QueryTree}
-
--- the type of an expression that has one
-abbrev pub known_type : Expr → List Field → DataType
-known_type e schema = unwrap_or (type_of e schema) dt.UInt32
 
 -- the type of what an aggregate is fed: a null that stands for a row is one of UInt32
 abbrev pub input_type : List Field → Input → DataType

@@ -1,5 +1,5 @@
 -- A query, with its expressions as trees.
-use Rattle.std.specs.Prelude.{ℕ, Bool, List, Option}
+use Rattle.std.specs.Prelude.{ℕ, ℤ, Bool, List, Option}
 use Rattle.pipe_columns.specs.declared.schema.Field.{Field}
 use Rattle.pipe_running.specs.Kind.{Kind}
 use Rattle.pipe_aggs.specs.Expr.{Expr}
@@ -21,4 +21,13 @@ pub record QueryTree : Type 0 where
   pub keys : List Expr
   pub aggs : List AggTree
   pub slice : Option (ℕ × ℕ)
+  pub keeps_order : Bool
+
+-- a query as it is written: its expressions stand whole, with the aggregates' names and kinds, and the
+-- slice may begin below the first group
+pub record WrittenQuery : Type 0 where
+  pub schema : List Field
+  pub keys : List Expr
+  pub aggs : List Expr
+  pub slice : Option (ℤ × ℕ)
   pub keeps_order : Bool

@@ -10,13 +10,15 @@ ghost use Rattle.pipe_aggs.specs.Output.{output_schema};
 ghost use Rattle.pipe_aggs.specs.Query.{each, rows_alone};
 ghost use Rattle.pipe_aggs.specs.Typing.{type_of};
 ghost use Rattle.pipe_aggs.specs.Value.{value};
+ghost use Rattle.pipe_aggs.specs.Worked.{field, v};
 
 /// A column has the type of the first field of its name, and its value in a row.
 pub fn columns_by_name()
-    ensures typed { type_of (column (codes "v")) (record { name = codes "k"; dtype = dt.Int64 } ∷ record { name = codes "v"; dtype = dt.Int8 } ∷ [])
+    ensures typed { type_of v (field (codes "k") dt.Int64 ∷ field (codes "v") dt.Int8 ∷ [])
         ≡ Some dt.Int8 }
-    ensures unknown { type_of (column (codes "w")) (record { name = codes "k"; dtype = dt.Int64 } ∷ []) ≡ None }
-    ensures valued { value (column (codes "v")) (frame_of (record { name = codes "k"; dtype = dt.Int64 } ∷ record { name = codes "v"; dtype = dt.Int8 } ∷ [])
+    ensures unknown { type_of v (field (codes "k") dt.Int64 ∷ []) ≡ None }
+    ensures valued { value v
+        (frame_of (field (codes "k") dt.Int64 ∷ field (codes "v") dt.Int8 ∷ [])
         ((av.Int (pos 1) ∷ av.Int (pos 5) ∷ []) ∷ (av.Int (pos 2) ∷ av.Int (pos 6) ∷ []) ∷ [])) 1
         ≡ av.Int (pos 6) }
 {}
@@ -25,16 +27,16 @@ pub fn columns_by_name()
 /// under names of their own, a small sum is wide, and counts are unsigned.
 pub fn output_columns()
     ensures { output_schema (record {
-      schema = record { name = codes "k"; dtype = dt.String } ∷ record { name = codes "v"; dtype = dt.Int8 } ∷ [];
+      schema = field (codes "k") dt.String ∷ field (codes "v") dt.Int8 ∷ [];
       keys = column (codes "k") ∷ [];
-      aggs = record { name = codes "s"; kind = kind.sum; input = each (column (codes "v")) }
-          ∷ record { name = codes "lo"; kind = kind.min; input = each (column (codes "v")) }
-          ∷ record { name = codes "m"; kind = kind.mean; input = each (column (codes "v")) }
+      aggs = record { name = codes "s"; kind = kind.sum; input = each v }
+          ∷ record { name = codes "lo"; kind = kind.min; input = each v }
+          ∷ record { name = codes "m"; kind = kind.mean; input = each v }
           ∷ record { name = codes "n"; kind = kind.len; input = rows_alone } ∷ [];
       slice = None;
       keeps_order = false;
     })
-        ≡ record { name = codes "k"; dtype = dt.String } ∷ record { name = codes "s"; dtype = dt.Int64 }
-        ∷ record { name = codes "lo"; dtype = dt.Int8 } ∷ record { name = codes "m_sum"; dtype = dt.Int128 }
-        ∷ record { name = codes "m_count"; dtype = dt.UInt32 } ∷ record { name = codes "n"; dtype = dt.UInt32 } ∷ [] }
+        ≡ field (codes "k") dt.String ∷ field (codes "s") dt.Int64 ∷ field (codes "lo") dt.Int8
+        ∷ field (codes "m_sum") dt.Int128 ∷ field (codes "m_count") dt.UInt32
+        ∷ field (codes "n") dt.UInt32 ∷ [] }
 {}

@@ -8,7 +8,6 @@ use Rattle.pipe_columns.specs.declared.any_value.AnyValue.{AnyValue}
 use Rattle.pipe_columns.specs.declared.data_chunk.DataChunk.{DataChunk}
 use Rattle.pipe_columns.specs.Frame.{ColumnData, FrameData, value_at}
 use Rattle.pipe_columns.specs.Row.{Row}
-use Rattle.pipe_running.specs.declared.function.AggregateFunction.{AggregateFunction}
 use Rattle.pipe_aggs.specs.Expr.{column}
 use Rattle.pipe_aggs.specs.Query.{QueryTree}
 use Rattle.pipe_aggs.specs.Value.{column_named, value, values_if_any}
@@ -18,7 +17,7 @@ use Rattle.pipe_plain.specs.declared.query.PlainQuery.{PlainQuery}
 use Rattle.pipe_plain.specs.declared.rows.Positions.{Positions}
 use Rattle.pipe_plain.specs.Cells.{cells, columns_at, columns_named, row_read}
 use Rattle.pipe_plain.specs.PlainQuery.{agg_tree, query_tree}
-use Rattle.pipe_plain.specs.Running.{Table, with_row, with_rows}
+use Rattle.pipe_plain.specs.Running.{Line, Table, with_row, with_rows}
 
 pub map_twice : {A B C : Type 0} (f : B → C) (g : A → B) (xs : List A) → map f (map g xs) ≡ map (λ x. f (g x)) xs
 map_twice f g [] = refl
@@ -50,11 +49,11 @@ row_read_is q i n frame positions ks is =
 
 -- ---- one more row, and one more chunk
 
-with_rows-append : (start : List AggregateFunction) (t : Table) (xs ys : List Row) → with_rows start t (xs ++ ys) ≡ with_rows start (with_rows start t xs) ys
+with_rows-append : (start : Line) (t : Table) (xs ys : List Row) → with_rows start t (xs ++ ys) ≡ with_rows start (with_rows start t xs) ys
 with_rows-append start t xs ys = fold-append (λ (u : Table) (r : Row). with_row start u r) t xs ys
 
 -- a table with one more row of a chunk
-pub with_rows_more : (q : QueryTree) (start : List AggregateFunction) (t : Table) (i n : ℕ) (frame : FrameData)
+pub with_rows_more : (q : QueryTree) (start : Line) (t : Table) (i n : ℕ) (frame : FrameData)
     → with_row start (with_rows start t (map (λ m. row_of q i frame m) (range_with_len 0 n))) (row_of q i frame n) ≡ with_rows start t (map (λ m. row_of q i frame m) (range_with_len 0 (n + 1)))
 with_rows_more q start t i n frame =
     let f : ℕ → Row = λ m. row_of q i frame m in
@@ -69,7 +68,7 @@ rows_from-push q i (x ∷ xs) c =
     ap (λ (t : List Row). chunk_rows q i x.frame ++ t) rest ∙ sym (append_assoc (chunk_rows q i x.frame) (rows_from q (i + 1) xs) (chunk_rows q (i + suc (length xs)) c.frame))
 
 -- a table with the rows of one more chunk
-pub with_chunk_more : (q : QueryTree) (start : List AggregateFunction) (chunks : List DataChunk) (i : ℕ) (c : DataChunk) → i < length chunks → c ≡ get_or chunks i c
+pub with_chunk_more : (q : QueryTree) (start : Line) (chunks : List DataChunk) (i : ℕ) (c : DataChunk) → i < length chunks → c ≡ get_or chunks i c
     → with_rows start (with_rows start [] (rows (take i chunks) q)) (chunk_rows q i c.frame) ≡ with_rows start [] (rows (take (i + 1) chunks) q)
 with_chunk_more q start chunks i c h e =
     let longer : rows (take (i + 1) chunks) q ≡ rows (take i chunks) q ++ chunk_rows q i c.frame =

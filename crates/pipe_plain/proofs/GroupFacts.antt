@@ -10,49 +10,17 @@ use Rattle.std.proofs.lemmas.List.Elements.{filter-append}
 use Rattle.std.proofs.lemmas.List.Sums.{fold-append}
 use Rattle.pipe_columns.specs.Groups.{put_key, sorted_keys, values_of}
 use Rattle.pipe_plain.specs.Running.{add_entry}
+use Rattle.pipe_plain.proofs.AscendingFacts.{Ascending, Below, below_trans, put-ascending}
 
 module _ {K : Type 0} (order : K → K → Ordering) (o : IsTotalOrder order) (exact : (x y : K) → order x y ≡ Equal → x ≡ y) where
-  -- x is below each key
-  abbrev Below : K → List K → Type 0
-  Below x [] = ⊤
-  Below x (y ∷ ys) = (order x y ≡ Less) × Below x ys
-
-  abbrev Ascending : List K → Type 0
-  Ascending [] = ⊤
-  Ascending (x ∷ xs) = Below x xs × Ascending xs
-
   -- no key is k
   abbrev Absent : K → List K → Type 0
   Absent k [] = ⊤
   Absent k (x ∷ xs) = (is_eq (order k x) ≡ false) × Absent k xs
 
-  below_trans : (k x : K) (ys : List K) → order k x ≡ Less → Below x ys → Below k ys
-  below_trans k x [] e b = tt
-  below_trans k x (y ∷ ys) e b = (o.trans k x y e b.0, below_trans k x ys e b.1)
-
-  below-absent : (k : K) (xs : List K) → Below k xs → Absent k xs
+  below-absent : (k : K) (xs : List K) → Below order k xs → Absent k xs
   below-absent k [] b = tt
   below-absent k (x ∷ xs) b = (rw b.0 refl, below-absent k xs b.1)
-
-  below-put : (x k : K) (ys : List K) → order x k ≡ Less → Below x ys → Below x (put_key order k ys)
-  below-put x k [] e b = (e, tt)
-  below-put x k (y ∷ ys) e b = put_at (order k y) (below-put x k ys e b.1) where
-    put_at : (r : Ordering) → Below x (put_key order k ys) → Below x (match_ordering r (k ∷ y ∷ ys) (y ∷ ys) (y ∷ put_key order k ys))
-    put_at Less rest = (e, b)
-    put_at Equal rest = b
-    put_at Greater rest = (b.0, rest)
-
-  greater-back : (k y : K) → order k y ≡ Greater → order y k ≡ Less
-  greater-back k y e = o.antisymm y k ∙ ap ordering_reverse e
-
-  -- a key put among ascending ones leaves them ascending
-  put-ascending : (k : K) (ks : List K) → Ascending ks → Ascending (put_key order k ks)
-  put-ascending k [] a = (tt, tt)
-  put-ascending k (y ∷ ys) a = put_at (order k y) refl (put-ascending k ys a.1) where
-    put_at : (r : Ordering) → order k y ≡ r → Ascending (put_key order k ys) → Ascending (match_ordering r (k ∷ y ∷ ys) (y ∷ ys) (y ∷ put_key order k ys))
-    put_at Less e rest = ((e, below_trans k y ys e a.0), a)
-    put_at Equal e rest = a
-    put_at Greater e rest = (below-put y k ys (greater-back k y e) a.0, rest)
 
   -- what isn't among keys with one more is not among the keys, and is not the one
   absent-put : (q k : K) (ks : List K) → Absent q (put_key order k ks) → (is_eq (order q k) ≡ false) × Absent q ks
@@ -77,7 +45,7 @@ module _ {K : Type 0} (order : K → K → Ordering) (o : IsTotalOrder order) (e
       -- the entry goes to the line of its key
       step : (f g : K → L) (k : K) (v : V)
           → ((q : K) → is_eq (order k q) ≡ false → f q ≡ g q) → ((q : K) → order k q ≡ Equal → more v (f q) ≡ g q)
-          → (ks : List K) → Ascending ks → (Absent k ks → first v ≡ g k)
+          → (ks : List K) → Ascending order ks → (Absent k ks → first v ≡ g k)
           → add_entry order first more (k, v) (lines f ks) ≡ lines g (put_key order k ks)
       step f g k v same here [] a new = rw (new tt) refl
       step f g k v same here (x ∷ xs) a new = put_at (order k x) refl (step f g k v same here xs a.1) where
@@ -85,7 +53,7 @@ module _ {K : Type 0} (order : K → K → Ordering) (o : IsTotalOrder order) (e
             → match_ordering r ((k, first v) ∷ (x, f x) ∷ lines f xs) ((x, more v (f x)) ∷ lines f xs) ((x, f x) ∷ add_entry order first more (k, v) (lines f xs))
             ≡ lines g (match_ordering r (k ∷ x ∷ xs) (x ∷ xs) (x ∷ put_key order k xs))
         put_at Less e next =
-            let below = below_trans k x xs e a.0 in
+            let below = below_trans order o k x xs e a.0 in
             let absent : Absent k (x ∷ xs) = below-absent k (x ∷ xs) (e, below) in
             rw (new absent, same x absent.0, same_lines f g k xs same absent.1) refl
         put_at Equal e next =
@@ -120,7 +88,7 @@ module _ {K : Type 0} (order : K → K → Ordering) (o : IsTotalOrder order) (e
 
     -- what holds of the keys of all entries: they ascend, and a key that isn't there has no value
     pub record Keyed (entries : List (K × V)) : Type 0 where
-      pub ascending : Ascending (keys_of entries)
+      pub ascending : Ascending order (keys_of entries)
       pub covers : (q : K) → Absent q (keys_of entries) → values_of order q entries ≡ []
 
     pub keyed_none : Keyed []
@@ -128,7 +96,7 @@ module _ {K : Type 0} (order : K → K → Ordering) (o : IsTotalOrder order) (e
 
     pub keyed_more : (entries : List (K × V)) (r : K × V) → Keyed entries → Keyed (entries ++ (r ∷ []))
     keyed_more entries r h = record {
-      ascending = rw (keys_more entries r) (put-ascending r.0 (keys_of entries) h.ascending);
+      ascending = rw (keys_more entries r) (put-ascending order o r.0 (keys_of entries) h.ascending);
       covers = λ q a.
           let p = absent-put q r.0 (keys_of entries) (rw (keys_more entries r) at a) in
           values_more q entries r false (other_way q r.0 p.0) ∙ rw (h.covers q p.1) refl;

@@ -1,8 +1,14 @@
 pub mod AnswerFacts
+pub mod AscendingFacts
 pub mod ChunkFacts
 pub mod FitFacts
 pub mod FoundFacts
 pub mod FrameFacts
 pub mod GroupFacts
+pub mod OrderFacts
+pub mod PartitionFacts
+pub mod PlaceFacts
 pub mod SeenFacts
 pub mod SpotFacts
+pub mod StableFacts
+pub mod BuiltFacts

@@ -2,4 +2,5 @@ pub mod PlainQuery
 pub mod Cells
 pub mod Fields
 pub mod Fits
+pub mod Order
 pub mod Running

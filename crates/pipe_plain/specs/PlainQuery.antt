@@ -17,7 +17,13 @@ agg_tree a = record { name = a.name; kind = kind_of a.function; input = each (co
 
 -- the query that a query of columns is
 abbrev pub query_tree : PlainQuery → QueryTree
-query_tree q = record { schema = q.schema; keys = map column q.keys.items; aggs = map agg_tree q.aggs.items; slice = None; keeps_order = false }
+query_tree q = record {
+  schema = q.schema;
+  keys = map column q.keys.items;
+  aggs = map agg_tree q.aggs.items;
+  slice = q.slice;
+  keeps_order = q.maintain_order;
+}
 
 -- the types whose sum is of Int64
 abbrev pub sums_to_i64 : DataType → Bool
@@ -39,6 +45,13 @@ abbrev pub takes : AggregateFunction → Option DataType → Bool
 takes f None = false
 takes (function.Count a) (Some t) = true
 takes (function.SumI64 a) (Some t) = sums_to_i64 t
+takes f (Some t) = false
+
+-- the running aggregates that the plain program keeps: counts, and sums of 64 bits
+abbrev pub is_plain_function : AggregateFunction → Bool
+is_plain_function (function.Count a) = true
+is_plain_function (function.SumI64 a) = true
+is_plain_function f = false
 
 -- whether the keys and inputs of a query are columns that its aggregates take
 abbrev pub is_plain : PlainQuery → Bool

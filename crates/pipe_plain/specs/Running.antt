@@ -1,6 +1,6 @@
 -- A table of running groups: keys in order, each with its running aggregates.
-use Rattle.std.specs.Prelude.{◌≡◌, ℕ, ◌+◌, ◌<◌, ◌≤◌, List, [], ◌∷◌, ◌++◌, length, map, fold, take, drop}
-use Rattle.std.specs.List.{flat_map}
+use Rattle.std.specs.Prelude.{◌≡◌, Bool, true, ℕ, ◌+◌, ◌<◌, ◌≤◌, List, [], ◌∷◌, ◌++◌, length, map, fold, take, drop, Option, Some, None, unwrap_or}
+use Rattle.std.specs.List.{flat_map, list_all}
 use Rattle.std.specs.declared.cmp.Ordering.{Ordering}
 use Rattle.std.specs.declared.cmp.Ordering.TheVariants.{Less, Equal, Greater}
 use Rattle.std.specs.Ordering.{match_ordering}
@@ -10,8 +10,9 @@ use Rattle.pipe_columns.specs.Frame.{value_at}
 use Rattle.pipe_columns.specs.Row.{Row}
 use Rattle.pipe_running.specs.declared.function.AggregateFunction.{AggregateFunction}
 use Rattle.pipe_running.specs.States.{after_value, fresh, given, output_values, seen}
-use Rattle.pipe_model.specs.Answer.{tuple_cmp, entry_of}
+use Rattle.pipe_model.specs.Answer.{entry_of, rows_at, tuple_cmp}
 use Rattle.pipe_plain.specs.declared.query.PlainAgg.{PlainAgg}
+use Rattle.pipe_plain.specs.PlainQuery.{is_plain_function}
 use Rattle.pipe_plain.specs.declared.groups.Group.{Group}
 use Rattle.pipe_plain.specs.declared.groups.Spot.{Spot}
 use Rattle.pipe_plain.specs.declared.groups.Spot.TheVariants as spot
@@ -22,48 +23,61 @@ add_entry order first more r [] = (r.0, first r.1) ∷ []
 add_entry order first more r (g ∷ gs) = match_ordering (order r.0 g.0) ((r.0, first r.1) ∷ g ∷ gs) ((g.0, more r.1 g.1) ∷ gs) (g ∷ add_entry order first more r gs)
 
 -- running aggregates with one more row, from the input at place j on
-abbrev pub fed_from : ℕ → List AnyValue → List AggregateFunction → List AggregateFunction
-fed_from j inputs [] = []
-fed_from j inputs (s ∷ ss) = after_value (value_at inputs j) s ∷ fed_from (j + 1) inputs ss
+abbrev pub fed_from : Place → ℕ → List AnyValue → List AggregateFunction → List AggregateFunction
+fed_from p j inputs [] = []
+fed_from p j inputs (s ∷ ss) = after_value p (value_at inputs j) s ∷ fed_from p (j + 1) inputs ss
 
--- running aggregates with one more row
-abbrev pub fed : Place × List AnyValue → List AggregateFunction → List AggregateFunction
-fed v states = fed_from 0 v.1 states
+-- what a table has of a key: where its first row stands, if there was one, and its running aggregates
+pub record Line : Type 0 where
+  pub first : Option Place
+  pub states : List AggregateFunction
 
--- the aggregates of a query before any row
-abbrev pub starts : List PlainAgg → List AggregateFunction
-starts aggs = map (λ a. fresh a.function) aggs
+-- a line with one more row
+abbrev pub fed : Place × List AnyValue → Line → Line
+fed v line = record { first = Some (unwrap_or line.first v.0); states = fed_from v.0 0 v.1 line.states }
 
--- the running aggregates of some rows
-abbrev pub states_of : List AggregateFunction → List (Place × List AnyValue) → List AggregateFunction
-states_of start entries = fold (λ states v. fed v states) start entries
+-- the line of a key before any row
+abbrev pub starts : List PlainAgg → Line
+starts aggs = record { first = None; states = map (λ a. fresh a.function) aggs }
+
+-- the line of some rows
+abbrev pub line_of : Line → List (Place × List AnyValue) → Line
+line_of start entries = fold (λ line v. fed v line) start entries
 
 abbrev pub Table : Type 0
-Table = List (List AnyValue × List AggregateFunction)
+Table = List (List AnyValue × Line)
 
 -- a table with one more row
-abbrev pub with_row : List AggregateFunction → Table → Row → Table
+abbrev pub with_row : Line → Table → Row → Table
 with_row start table r = add_entry tuple_cmp (λ v. fed v start) fed (entry_of r) table
 
 -- a table with rows added one by one
-abbrev pub with_rows : List AggregateFunction → Table → List Row → Table
+abbrev pub with_rows : Line → Table → List Row → Table
 with_rows start table rs = fold (λ t r. with_row start t r) table rs
 
-abbrev pub group_seen : Group → List AnyValue × List AggregateFunction
-group_seen g = (g.key.items, g.states.items)
+-- a key with the line of its rows
+abbrev pub keyed_line : List PlainAgg → List Row → List AnyValue → List AnyValue × Line
+keyed_line aggs rs key = (key, line_of (starts aggs) (rows_at rs key))
+
+abbrev pub group_seen : Group → List AnyValue × Line
+group_seen g = (g.key.items, record { first = Some g.first; states = g.states.items })
 
 -- the row that a group gives
-abbrev pub output_row : List AnyValue × List AggregateFunction → List AnyValue
-output_row g = g.0 ++ flat_map (λ s. output_values (given s)) g.1
+abbrev pub output_row : List AnyValue × Line → List AnyValue
+output_row g = g.0 ++ flat_map (λ s. output_values (given s)) g.1.states
 
--- no aggregate has counted more than n values
+-- no aggregate has counted more than n values, and each is one that the plain program keeps
 abbrev pub StatesSeen : ℕ → List AggregateFunction → Type 0
 StatesSeen n [] = Unit {0}
-StatesSeen n (s ∷ ss) = (seen s ≤ n) × StatesSeen n ss
+StatesSeen n (s ∷ ss) = ((seen s ≤ n) × (is_plain_function s ≡ true)) × StatesSeen n ss
+
+-- the aggregates of a query are such
+abbrev pub are_plain_functions : List PlainAgg → Bool
+are_plain_functions aggs = list_all (λ a. is_plain_function a.function) aggs
 
 abbrev pub TableSeen : ℕ → Table → Type 0
 TableSeen n [] = Unit {0}
-TableSeen n (g ∷ gs) = StatesSeen n g.1 × TableSeen n gs
+TableSeen n (g ∷ gs) = StatesSeen n g.1.states × TableSeen n gs
 
 -- k is below each key of a table
 abbrev pub AllAbove : List AnyValue → Table → Type 0

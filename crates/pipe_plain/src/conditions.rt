@@ -37,6 +37,7 @@ fn takes_dtype(function: &AggregateFunction, dtype: Option<DataType>) -> bool
             dtype,
             DataType::Int8 | DataType::Int16 | DataType::Int64 | DataType::UInt8 | DataType::UInt16
         ),
+        (_, Some(_)) => false,
     }
 }
 

@@ -1,8 +1,9 @@
 ghost use Rattle.std.specs.Prelude.{◌≡◌, ◌∷◌, ◌++◌, All, IfOk, OnOk, map, true, false};
 ghost use Rattle.pipe_columns.specs.Frame.{all_fit, frame_of, value_at};
-ghost use Rattle.pipe_running.specs.States.{given_type, output_values};
+ghost use Rattle.pipe_running.specs.States.{output_values};
 ghost use Rattle.pipe_aggs.specs.Expr.{column};
-ghost use Rattle.pipe_aggs.specs.Output.{known_type, output_schema};
+ghost use Rattle.pipe_aggs.specs.Output.{key_types, output_schema};
+ghost use Rattle.pipe_aggs.specs.Typing.{known_type};
 ghost use Rattle.pipe_plain.specs.Fits.{HoldsTypes, RowsFit};
 ghost use Rattle.pipe_plain.specs.PlainQuery.{is_plain, query_tree};
 ghost use Rattle.pipe_plain.specs.Running.{group_seen, output_row as row_given};
@@ -11,7 +12,7 @@ use crate::conditions::dtype_named;
 use crate::groups::Group;
 use crate::query::PlainQuery;
 use pipe_columns::{AnyValue, Column, DataChunk, DataFrame, DataType, Field, Text};
-use pipe_running::{AggregateFn, AggregateFunction, Finalized};
+use pipe_running::{AggregateFn, Finalized};
 use std::alloc::{AllocError, Global};
 
 /// The type of the first field of a name, that of a count where there is none.
@@ -21,14 +22,16 @@ fn dtype_of(fields: &[Field], name: &Text) -> DataType
     dtype_named(fields, name).unwrap_or(DataType::UInt32)
 }
 
-/// The type of what an aggregate gives.
-fn output_dtype(function: &AggregateFunction) -> DataType
-    ensures { result ≡ given_type function.now }
+/// The types of the keys of a query.
+pub fn key_dtypes(alloc: Global, query: &PlainQuery) -> Result<Vec<DataType>, AllocError>
+    ensures { IfOk result (λ types. types.items ≡ key_types (query_tree query.now)) }
 {
-    match function {
-        AggregateFunction::Count(_) => DataType::UInt32,
-        AggregateFunction::SumI64(_) => DataType::Int64,
+    let mut types = Vec::new(alloc);
+    let known = query.schema.fields();
+    for key in &query.keys {
+        types.push(dtype_of(known, key))?;
     }
+    Ok(types)
 }
 
 /// The fields of the answer: those of the keys, then those of the aggregates.
@@ -45,7 +48,7 @@ pub fn output_fields(alloc: Global, query: &PlainQuery) -> Result<Vec<Field>, Al
     }
     for agg in &query.aggs {
         let name = agg.name.try_clone(alloc)?;
-        let dtype = output_dtype(&agg.function);
+        let dtype = agg.function.dtype();
         fields.push(Field { name, dtype })?;
     }
     Ok(fields)
@@ -72,6 +75,7 @@ fn output_row(group: Group) -> Result<Vec<AnyValue>, AllocError>
     let Group {
         key: mut row,
         mut states,
+        ..
     } = group;
     for j in 0..states.len() {
         push_outputs(&mut row, states[j].finalize())?;

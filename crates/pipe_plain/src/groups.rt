@@ -1,4 +1,4 @@
-ghost use Rattle.std.specs.Prelude.{◌≡◌, ◌^◌, ◌-◌, ◌∷◌, IfOk, OnOk, map};
+ghost use Rattle.std.specs.Prelude.{◌≡◌, ◌^◌, ◌-◌, ◌∷◌, IfOk, OnOk, map, true};
 ghost use Rattle.pipe_columns.specs.declared.any_value.AnyValue.{AnyValue};
 ghost use Rattle.pipe_plain.specs.Cells.{cells, row_read};
 
@@ -9,10 +9,11 @@ use pipe_running::{AggregateFn, AggregateFunction};
 use std::alloc::{AllocError, Global};
 use std::cmp::Ordering;
 
-/// A group: its key and its running aggregates.
+/// A group: its key, the place of its first row and its running aggregates.
 #[derive(Drop)]
 pub struct Group {
     pub key: Vec<AnyValue>,
+    pub first: Place,
     pub states: Vec<AggregateFunction>,
 }
 
@@ -36,8 +37,9 @@ impl Group {
     ) -> Result<(), AllocError>
         requires { StatesSeen (2 ^ 32 - 2) self.old.states.items }
         ensures key { self.new.key ≡ self.old.key }
+        ensures first { self.new.first ≡ self.old.first }
         ensures ok { OnOk result (self.new.states.items
-            ≡ fed_from 0 (cells columns.now place.row inputs.now) self.old.states.items) }
+            ≡ fed_from place 0 (cells columns.now place.row inputs.now) self.old.states.items) }
     {
         for j in 0..self.states.len() {
             let value = own_input(alloc, columns, place.row as usize, inputs, j)?;
@@ -47,11 +49,11 @@ impl Group {
     }
 }
 
-ghost use Rattle.pipe_plain.specs.Running.{fed, group_seen, IsAscending, IsSpot, starts, TableSeen, with_row};
+ghost use Rattle.pipe_plain.specs.Running.{are_plain_functions, fed, group_seen, IsAscending, IsSpot, starts, TableSeen, with_row};
 
 /// The aggregates of a query before any row.
 fn starting(alloc: Global, aggs: &[PlainAgg]) -> Result<Vec<AggregateFunction>, AllocError>
-    ensures { IfOk result (λ states. states.items ≡ starts aggs.now) }
+    ensures { IfOk result (λ states. states.items ≡ (starts aggs.now).states) }
 {
     let mut states = Vec::new(alloc);
     for agg in aggs {
@@ -68,12 +70,17 @@ fn new_group(
     positions: &Positions,
     place: Place,
 ) -> Result<Group, AllocError>
+    requires { are_plain_functions aggs.now ≡ true }
     ensures { IfOk result (λ g. let row = row_read columns.now positions.now place in
         group_seen g ≡ (row.key, fed (place, row.inputs) (starts aggs.now))) }
 {
     let key = own_key(alloc, columns, place.row as usize, &positions.keys)?;
     let states = starting(alloc, aggs)?;
-    let mut group = Group { key, states };
+    let mut group = Group {
+        key,
+        first: place,
+        states,
+    };
     group.feed(alloc, columns, &positions.inputs, place)?;
     Ok(group)
 }
@@ -107,6 +114,7 @@ pub fn add_row(
 ) -> Result<(), AllocError>
     requires seen { TableSeen (2 ^ 32 - 2) (map group_seen table.old.items) }
     requires ascending { IsAscending (map group_seen table.old.items) }
+    requires plain { are_plain_functions aggs.now ≡ true }
     ensures { OnOk result (map group_seen table.new.items
         ≡ with_row (starts aggs.now) (map group_seen table.old.items)
         (row_read columns.now positions.now place)) }

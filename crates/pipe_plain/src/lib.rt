@@ -5,6 +5,7 @@
 mod conditions;
 mod frame;
 mod groups;
+mod order;
 mod plain;
 mod query;
 mod rows;

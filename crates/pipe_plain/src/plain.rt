@@ -1,12 +1,14 @@
-ghost use Rattle.std.specs.Prelude.{◌≡◌, ◌^◌, ◌-◌, ◌<◌, IfOk, OnOk, map, true, [], ℕ};
+ghost use Rattle.std.specs.Prelude.{◌≡◌, ◌^◌, ◌-◌, ◌<◌, All, IfOk, OnOk, map, true, [], ℕ};
 ghost use Rattle.pipe_aggs.specs.Expr.{column};
 ghost use Rattle.pipe_model.specs.Rows.{AreChunksOf, chunk_rows, rows};
-ghost use Rattle.pipe_model.specs.Answer.{answer};
+ghost use Rattle.pipe_model.specs.Answer.{answer, groups};
+ghost use Rattle.pipe_plain.specs.Fits.{HoldsTypes};
 ghost use Rattle.pipe_plain.specs.PlainQuery.{is_plain, query_tree};
-ghost use Rattle.pipe_plain.specs.Running.{group_seen, IsAscending, starts, TableSeen, with_rows};
+ghost use Rattle.pipe_plain.specs.Running.{are_plain_functions, group_seen, IsAscending, keyed_line, starts, TableSeen, with_rows};
 
-use crate::frame::{output_fields, output_frame, output_rows, recall_chunk_types};
+use crate::frame::{key_dtypes, output_fields, output_frame, output_rows, recall_chunk_types};
 use crate::groups::{Group, add_row};
+use crate::order::{by_first_row, by_partition, sliced};
 use crate::query::PlainQuery;
 use crate::rows::{Positions, input_positions, key_positions};
 use pipe_columns::{DataChunk, DataFrame, Place};
@@ -23,6 +25,7 @@ fn add_chunk(
     requires height { frame.now.height < 2 ^ 32 }
     requires seen { TableSeen (2 ^ 32 - 1 - frame.now.height) (map group_seen table.old.items) }
     requires ascending { IsAscending (map group_seen table.old.items) }
+    requires plain { are_plain_functions query.now.aggs.items ≡ true }
     ensures { OnOk result (map group_seen table.new.items
         ≡ with_rows (starts query.now.aggs.items) (map group_seen table.old.items)
         (chunk_rows (query_tree query.now) index frame.now)) }
@@ -47,7 +50,8 @@ fn table_of(
     chunks: &[DataChunk],
     query: &PlainQuery,
 ) -> Result<Vec<Group>, AllocError>
-    requires { AreChunksOf (query_tree query.now) chunks.now }
+    requires chunks { AreChunksOf (query_tree query.now) chunks.now }
+    requires plain { are_plain_functions query.now.aggs.items ≡ true }
     ensures { IfOk result (λ table. map group_seen table.items
         ≡ with_rows (starts query.now.aggs.items) [] (rows chunks.now (query_tree query.now))) }
 {
@@ -58,19 +62,49 @@ fn table_of(
     Ok(table)
 }
 
-/// The answer of a query over chunks, whose groups are in the order of their keys. The error is want
-/// of memory.
+/// The groups of the rows of chunks, in the order that the query gives them.
+fn ordered_groups(
+    alloc: Global,
+    chunks: &[DataChunk],
+    query: &PlainQuery,
+    partitions: usize,
+) -> Result<Vec<Group>, AllocError>
+    requires some { 0 < partitions }
+    requires chunks { AreChunksOf (query_tree query.now) chunks.now }
+    requires typed { All (λ c. HoldsTypes c.frame) chunks.now }
+    requires plain { are_plain_functions query.now.aggs.items ≡ true }
+    ensures { IfOk result (λ table. let rs = rows chunks.now (query_tree query.now) in
+        map group_seen table.items
+        ≡ map (keyed_line query.now.aggs.items rs) (groups rs (query_tree query.now) partitions)) }
+{
+    let table = table_of(alloc, chunks, query)?;
+    if query.maintain_order {
+        by_first_row(table)
+    } else if partitions == 1 {
+        Ok(table)
+    } else {
+        let types = key_dtypes(alloc, query)?;
+        by_partition(alloc, table, &types, partitions)
+    }
+}
+
+/// The answer of a query over chunks, with so many partitions. The error is want of memory.
 pub fn plain_answer(
     alloc: Global,
     chunks: &[DataChunk],
     query: &PlainQuery,
+    partitions: usize,
 ) -> Result<DataFrame, AllocError>
+    requires some { 0 < partitions }
     requires chunks { AreChunksOf (query_tree query.now) chunks.now }
     requires plain { is_plain query.now ≡ true }
-    ensures { IfOk result (λ f. f ≡ answer chunks.now (query_tree query.now) 1) }
+    ensures { IfOk result (λ f. f ≡ answer chunks.now (query_tree query.now) partitions) }
 {
     recall_chunk_types(chunks);
-    let table = table_of(alloc, chunks, query)?;
+    let table = sliced(
+        ordered_groups(alloc, chunks, query, partitions)?,
+        query.slice,
+    );
     let fields = output_fields(alloc, query)?;
     let rows = output_rows(alloc, table)?;
     output_frame(alloc, &fields, &rows)

@@ -15,4 +15,8 @@ pub struct PlainQuery {
     pub schema: Schema,
     pub keys: Vec<Text>,
     pub aggs: Vec<PlainAgg>,
+    /// How many groups are dropped, and how many of the others are kept at most.
+    pub slice: Option<(usize, usize)>,
+    /// Whether groups come in the order of their first rows.
+    pub maintain_order: bool,
 }

@@ -4,6 +4,9 @@ use pipe_running::{AggregateFunction, CountAgg, SumAgg};
 use std::alloc::{AllocError, Global};
 use std::test::Fail;
 
+mod mixed;
+mod order;
+
 /// A row: two keys and a value, each a number or null.
 type Given = [Option<i64>; 3];
 
@@ -53,8 +56,14 @@ fn agg_of(alloc: Global, name: &str, function: AggregateFunction) -> Result<Plai
     })
 }
 
+/// What is asked besides keys: a slice, whether order is kept, and a number of partitions.
+type Wanted = (Option<(usize, usize)>, bool, usize);
+
+/// No slice, no order kept, and one partition.
+const ALL: Wanted = (None, false, 1);
+
 /// The query for the sum and the count of v by some keys.
-fn query_of(alloc: Global, keys: &[&str]) -> Result<PlainQuery, AllocError> {
+fn query_of(alloc: Global, keys: &[&str], wanted: Wanted) -> Result<PlainQuery, AllocError> {
     let mut fields = Vec::new(alloc);
     fields.push(field_of(alloc, "j")?)?;
     fields.push(field_of(alloc, "k")?)?;
@@ -70,20 +79,41 @@ fn query_of(alloc: Global, keys: &[&str]) -> Result<PlainQuery, AllocError> {
         schema: Schema::new(fields),
         keys: names,
         aggs,
+        slice: wanted.0,
+        maintain_order: wanted.1,
     })
 }
 
-/// The answer, or none where the query or the chunks aren't plain ones.
+/// The answer, or none where the query, the chunks or the partitions aren't plain ones.
 fn asked(
     alloc: Global,
     chunks: &[DataChunk],
     query: &PlainQuery,
+    partitions: usize,
 ) -> Result<Option<DataFrame>, AllocError> {
-    if is_plain_query(query) && are_chunks(chunks, query) {
-        Ok(Some(plain_answer(alloc, chunks, query)?))
+    if partitions > 0 && is_plain_query(query) && are_chunks(chunks, query) {
+        Ok(Some(plain_answer(alloc, chunks, query, partitions)?))
     } else {
         Ok(None)
     }
+}
+
+/// Writes a value behind a blank.
+fn write_value(alloc: Global, text: &mut String, value: Option<&AnyValue>) -> Result<(), Fail> {
+    match value {
+        Some(AnyValue::Int(number)) => {
+            text.push_str(format!(in alloc; " {number}")?.as_str())?;
+        }
+        Some(AnyValue::Boolean(truth)) => {
+            text.push_str(format!(in alloc; " {truth}")?.as_str())?;
+        }
+        Some(AnyValue::Text(own)) => {
+            text.push_str(" ")?;
+            text.push_str(own.as_str())?;
+        }
+        _ => text.push_str(" null")?,
+    }
+    Ok(())
 }
 
 /// The rows of a frame, each as its values with a blank before each and a semicolon at the end.
@@ -91,12 +121,7 @@ fn text_of(alloc: Global, frame: &DataFrame) -> Result<String, Fail> {
     let mut text = String::new(alloc);
     for row in 0..frame.height() {
         for column in frame.columns() {
-            match column.values().get(row) {
-                Some(AnyValue::Int(number)) => {
-                    text.push_str(format!(in alloc; " {number}")?.as_str())?;
-                }
-                _ => text.push_str(" null")?,
-            }
+            write_value(alloc, &mut text, column.values().get(row))?;
         }
         text.push_str(";")?;
     }
@@ -104,13 +129,18 @@ fn text_of(alloc: Global, frame: &DataFrame) -> Result<String, Fail> {
 }
 
 /// The answer over chunks of rows, as text.
-fn answered(alloc: Global, keys: &[&str], pieces: &[&[Given]]) -> Result<String, Fail> {
+fn answered(
+    alloc: Global,
+    keys: &[&str],
+    wanted: Wanted,
+    pieces: &[&[Given]],
+) -> Result<String, Fail> {
     let mut chunks = Vec::new(alloc);
     for piece in pieces {
         chunks.push(chunk_of(alloc, piece)?)?;
     }
-    let query = query_of(alloc, keys)?;
-    let frame = asked(alloc, &chunks, &query)?.ok_or("not plain")?;
+    let query = query_of(alloc, keys, wanted)?;
+    let frame = asked(alloc, &chunks, &query, wanted.2)?.ok_or("not plain")?;
     text_of(alloc, &frame)
 }
 
@@ -123,25 +153,25 @@ fn answers(rt: HostRuntime) -> Result<(), Fail> {
         [Some(1), Some(1), Some(7)],
     ];
     assert_eq!(rt;
-        answered(alloc, &["k"], &[three])?.as_str(),
+        answered(alloc, &["k"], ALL, &[three])?.as_str(),
         " 1 12 2; 2 6 1;"
     );
-    assert_eq!(rt; answered(alloc, &["k"], &[])?.as_str(), "");
+    assert_eq!(rt; answered(alloc, &["k"], ALL, &[])?.as_str(), "");
     let nulls: &[Given] = &[
         [None, None, Some(1)],
         [None, Some(2), Some(2)],
         [None, None, Some(3)],
     ];
     assert_eq!(rt;
-        answered(alloc, &["k"], &[nulls])?.as_str(),
+        answered(alloc, &["k"], ALL, &[nulls])?.as_str(),
         " null 4 2; 2 2 1;"
     );
     assert_eq!(rt;
-        answered(alloc, &["j", "k"], &[nulls, three])?.as_str(),
+        answered(alloc, &["j", "k"], ALL, &[nulls, three])?.as_str(),
         " null null 4 2; null 2 2 1; 1 1 12 2; 2 2 6 1;"
     );
     assert_eq!(rt;
-        answered(alloc, &["k"], &[three, nulls])?.as_str(),
+        answered(alloc, &["k"], ALL, &[three, nulls])?.as_str(),
         " null 4 2; 1 12 2; 2 8 2;"
     );
     let large: &[Given] = &[
@@ -150,7 +180,7 @@ fn answers(rt: HostRuntime) -> Result<(), Fail> {
         [None, Some(1), None],
     ];
     assert_eq!(rt;
-        answered(alloc, &["k"], &[large])?.as_str(),
+        answered(alloc, &["k"], ALL, &[large])?.as_str(),
         " 1 -9223372036854775808 2;"
     );
     Ok(())

@@ -1,1 +1,12 @@
-pub mod Folds
+pub mod RunFacts
+pub mod LeastFacts
+pub mod SumFacts
+pub mod KindFacts
+pub mod AggFacts
+pub mod StandFacts
+pub mod OrderFacts
+pub mod MergeFacts
+pub mod FitFacts
+pub mod AggOrder
+pub mod KindStays
+pub mod EntryFacts

@@ -1,7 +1,7 @@
 -- What an aggregate makes of placed values.
 use Rattle.std.specs.Prelude.{ℕ, ℤ, pos, ◌+ℤ◌, ◌^◌, List, [], ◌∷◌, length, map, filter, fold, not, Option, Some, None, if◌then◌else◌}
 use Rattle.std.specs.Ordering.{match_ordering}
-use Rattle.std.specs.Int.{int_rem_euclid, int_wrap, w32, w64, w128}
+use Rattle.std.specs.Int.{int_rem_euclid, int_wrap, w8, w16, w32, w64, w128}
 use Rattle.pipe_columns.specs.declared.data_type.DataType.{DataType}
 use Rattle.pipe_columns.specs.declared.data_type.DataType.TheVariants as dt
 use Rattle.pipe_columns.specs.declared.any_value.AnyValue.{AnyValue}
@@ -27,15 +27,15 @@ sum_type dt.Int128 = dt.Int128
 sum_type dt.Date = dt.Date
 sum_type dt.String = dt.String
 
--- a number wrapped into the type of a sum
+-- a number wrapped into a number type
 abbrev pub wrapped : DataType → ℤ → ℤ
 wrapped dt.Boolean n = n
-wrapped dt.Int8 n = n
-wrapped dt.Int16 n = n
+wrapped dt.Int8 n = int_wrap w8 n
+wrapped dt.Int16 n = int_wrap w16 n
 wrapped dt.Int32 n = int_wrap w32 n
 wrapped dt.Int64 n = int_wrap w64 n
-wrapped dt.UInt8 n = n
-wrapped dt.UInt16 n = n
+wrapped dt.UInt8 n = int_rem_euclid n (pos (2 ^ 8))
+wrapped dt.UInt16 n = int_rem_euclid n (pos (2 ^ 16))
 wrapped dt.UInt32 n = int_rem_euclid n (pos (2 ^ 32))
 wrapped dt.UInt64 n = int_rem_euclid n (pos (2 ^ 64))
 wrapped dt.Int128 n = int_wrap w128 n

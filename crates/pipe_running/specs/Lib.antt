@@ -1,3 +1,14 @@
 pub mod Kind
 pub mod Aggregate
+pub mod Native
+pub mod NativeLaws
+pub mod Pick
+pub mod Mean
+pub mod Runs
+pub mod Transitions
+pub mod TransitionLaws
 pub mod States
+pub mod StateLaws
+pub mod Least
+pub mod Stands
+pub mod SameKind

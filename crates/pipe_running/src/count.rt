@@ -1,10 +1,12 @@
-ghost use Rattle.std.specs.Prelude.{◌≡◌};
+ghost use Rattle.std.specs.Prelude.{◌≡◌, ◌+◌, true, false, refl};
+ghost use Rattle.pipe_columns.specs.declared.data_type.DataType.TheVariants as dt;
 ghost use Rattle.pipe_running.specs.declared.interface.Finalized.TheVariants as finalized;
 ghost use Rattle.pipe_running.specs.Aggregate.{counted};
-ghost use Rattle.pipe_running.specs.States.{count_after, empty_count};
+ghost use Rattle.pipe_running.specs.Transitions.{count_after, empty_count};
+ghost use Rattle.pipe_running.specs.TransitionLaws.{count_by_one};
 
 use crate::interface::{AggregateFn, Finalized};
-use pipe_columns::{AnyValue, Place};
+use pipe_columns::{AnyValue, DataType, Place};
 use std::mem;
 
 /// A running count of values, or of rows where nulls count too.
@@ -25,16 +27,42 @@ impl<const INCLUDE_NULL: bool> CountAgg<INCLUDE_NULL> {
 impl<const INCLUDE_NULL: bool> AggregateFn for CountAgg<INCLUDE_NULL> {
     ghost seen = { λ s. s.count };
 
+    ghost takes = { λ s v. true };
+
+    ghost alike = { λ a b. true };
+
     ghost after_value = { λ p v s. record { count = count_after INCLUDE_NULL v s.count } };
+
+    ghost joined = { λ a b. record { count = a.count + b.count } };
 
     ghost given = { λ s. finalized.One (counted s.count) };
 
     ghost fresh = { λ s. empty_count };
 
+    ghost is_physical = { λ s. false };
+
+    ghost output_type = { λ s. dt.UInt32 };
+
+    ghost seen_by_one = { λ p v s. count_by_one INCLUDE_NULL v s.count };
+
+    ghost takes_alike = { λ p v w s. refl };
+
+    fn has_physical_agg(&self) -> bool {
+        false
+    }
+
     fn pre_agg(&mut self, _place: Place, value: AnyValue) {
         if INCLUDE_NULL || !matches!(&value, AnyValue::Null) {
             self.count += 1;
         }
+    }
+
+    fn dtype(&self) -> DataType {
+        DataType::UInt32
+    }
+
+    fn combine(&mut self, other: CountAgg<INCLUDE_NULL>) {
+        self.count += other.count;
     }
 
     fn finalize(&mut self) -> Finalized {

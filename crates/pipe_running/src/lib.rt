@@ -2,14 +2,26 @@
 #![tactic(auto)]
 
 mod count;
+mod first;
 mod function;
 mod interface;
+mod last;
 mod laws;
+mod mean;
+mod min_max;
+mod native;
+mod null;
 mod sum;
 
 pub use count::CountAgg;
+pub use first::FirstAgg;
 pub use function::AggregateFunction;
 pub use interface::{AggregateFn, Finalized};
+pub use last::LastAgg;
+pub use mean::MeanAgg;
+pub use min_max::{Direction, MinMaxAgg};
+pub use native::NumericNative;
+pub use null::NullAgg;
 pub use sum::SumAgg;
 
 #[cfg(test)]

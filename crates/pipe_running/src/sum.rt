@@ -1,11 +1,12 @@
-ghost use Rattle.std.specs.Prelude.{◌≡◌, pos, false};
-ghost use Rattle.std.specs.Int.{int_wrap, w64};
+ghost use Rattle.std.specs.Prelude.{◌≡◌, true, refl};
 ghost use Rattle.pipe_columns.specs.declared.any_value.AnyValue.TheVariants as av;
 ghost use Rattle.pipe_running.specs.declared.interface.Finalized.TheVariants as finalized;
-ghost use Rattle.pipe_running.specs.States.{empty_sum, sum_after, sum_state_after};
+ghost use Rattle.pipe_running.specs.Transitions.{empty_sum, sum_after, sum_state_after, sums_joined};
+ghost use Rattle.pipe_running.specs.TransitionLaws.{none_by_one};
 
 use crate::interface::{AggregateFn, Finalized};
-use pipe_columns::{AnyValue, Place};
+use crate::native::NumericNative;
+use pipe_columns::{AnyValue, DataType, Place};
 use std::mem;
 
 /// A running sum, wrapped into the type of its numbers, and whether a value came.
@@ -15,56 +16,73 @@ pub struct SumAgg<K> {
     came: bool,
 }
 
-/// A number wrapped into 64 bits.
-fn wrapped(number: i128) -> i64
-    ensures { result ≡ int_wrap w64 number }
-{
-    match i64::try_from(number) {
-        Ok(short) => short,
-        Err(_) => (number.rem_euclid(1 << 64) as u64).cast_signed(),
-    }
-}
-
 /// A wrapped sum with one more value.
-fn plus(sum: i64, value: &AnyValue) -> i64
-    ensures { result ≡ sum_after value.now sum }
+fn plus<K: NumericNative>(sum: K, value: &AnyValue) -> K
+    ensures { result ≡ sum_after K.native value.now sum }
 {
     match value {
         AnyValue::Null | AnyValue::Boolean(false) | AnyValue::Text(_) => sum,
-        AnyValue::Boolean(true) => sum.wrapping_add(1),
-        AnyValue::Int(number) => sum.wrapping_add(wrapped(*number)),
+        AnyValue::Boolean(true) => sum.plus(K::narrowed(1)),
+        AnyValue::Int(number) => sum.plus(K::narrowed(*number)),
     }
 }
 
-impl SumAgg<i64> {
+impl<K: NumericNative> SumAgg<K> {
     /// The sum of no value.
-    pub fn new() -> SumAgg<i64>
-        ensures { result ≡ empty_sum }
+    pub fn new() -> SumAgg<K>
+        ensures { result ≡ empty_sum K.native }
     {
         SumAgg {
-            sum: 0,
+            sum: K::narrowed(0),
             came: false,
         }
     }
 }
 
-impl AggregateFn for SumAgg<i64> {
+impl<K: NumericNative> AggregateFn for SumAgg<K> {
     ghost seen = { λ s. 0 };
 
-    ghost after_value = { λ p v s. sum_state_after v s };
+    ghost takes = { λ s v. true };
 
-    ghost given = { λ s. finalized.One (av.Int s.sum) };
+    ghost alike = { λ a b. true };
 
-    ghost fresh = { λ s. empty_sum };
+    ghost after_value = { λ p v s. sum_state_after K.native v s };
+
+    ghost joined = { λ a b. sums_joined K.native a b };
+
+    ghost given = { λ s. finalized.One (av.Int (K.native.number s.sum)) };
+
+    ghost fresh = { λ s. empty_sum K.native };
+
+    ghost is_physical = { λ s. true };
+
+    ghost output_type = { λ s. K.native.dtype };
+
+    ghost seen_by_one = { λ p v s. none_by_one };
+
+    ghost takes_alike = { λ p v w s. refl };
+
+    fn has_physical_agg(&self) -> bool {
+        true
+    }
 
     fn pre_agg(&mut self, _place: Place, value: AnyValue) {
         self.sum = plus(self.sum, &value);
         self.came = self.came || !matches!(&value, AnyValue::Null);
     }
 
+    fn dtype(&self) -> DataType {
+        K::dtype()
+    }
+
+    fn combine(&mut self, other: SumAgg<K>) {
+        self.sum = self.sum.plus(other.sum);
+        self.came = self.came || other.came;
+    }
+
     fn finalize(&mut self) -> Finalized {
         self.came = false;
-        let sum = mem::replace(&mut self.sum, 0);
-        Finalized::One(AnyValue::Int(i128::from(sum)))
+        let sum = mem::replace(&mut self.sum, K::narrowed(0));
+        Finalized::One(AnyValue::Int(sum.widened()))
     }
 }

@@ -7,4 +7,4 @@ pub returns-clause-query : goal.returns-clause-query
 returns-clause-query c = search rules
 
 pub returns-clause-plain : goal.returns-clause-plain
-returns-clause-plain c = read_is_plain c.query_by.result (view c.args.json.now) (returns-clause-query c)
+returns-clause-plain c = read_is_plain c.query_by.result (view c.args.json.now) c.query_by.ensures.plain (returns-clause-query c)

@@ -5,10 +5,10 @@ use Rattle.std.proofs.lemmas.Result.{on_ok_weaker}
 use Rattle.pipe_columns.specs.Row.{Row}
 use Rattle.pipe_plain.specs.declared.groups.Group.{Group}
 use Rattle.pipe_plain.specs.declared.groups.Spot.TheVariants as spot
-use Rattle.pipe_plain.specs.Running.{fed, group_seen, IsSpot, starts}
+use Rattle.pipe_plain.specs.Running.{fed, fed_from, group_seen, IsSpot, starts}
 use Rattle.pipe_plain.specs.Cells.{row_read}
 use Rattle.pipe_plain.proofs.SeenFacts.{table-at}
-use Rattle.pipe_plain.proofs.SpotFacts.{fed_at, new_at, pair}
+use Rattle.pipe_plain.proofs.SpotFacts.{fed_at, fed_seen, new_at}
 use Rattle.pipe_plain.proofs.groups.add_row.Goals as goal
 
 pub feed-requires : goal.feed-requires
@@ -27,9 +27,9 @@ returns-in-At c =
     let items : List Group = c.args.table.now.items in
     let row : Row = row_read c.args.columns.now c.args.positions.now c.args.place in
     let here : IsSpot row.key (map group_seen items) (spot.At c.in-At.i) = search rules in
-    let feeds : OnOk c.feed.result (after.states.items ≡ fed (row.place, row.inputs) group.states.items) = rw c.deref-in-At.ensures.value at c.feed.ensures.ok in
+    let feeds : OnOk c.feed.result (after.states.items ≡ fed_from row.place 0 row.inputs group.states.items) = rw c.deref-in-At.ensures.value at c.feed.ensures.ok in
     on_ok_weaker c.feed.result (λ p. fed_at (starts c.args.aggs.now) row items c.in-At.i group after here c.index_mut-group.ensures.value
-    (pair after.key.items group.key.items after.states.items (fed (row.place, row.inputs) group.states.items) (search rules) p)) feeds
+    (fed_seen row group after (search rules) c.feed.ensures.first p)) feeds
 
 pub returns-in_ok-insert-in-Before : goal.returns-in_ok-insert-in-Before
 returns-in_ok-insert-in-Before c =

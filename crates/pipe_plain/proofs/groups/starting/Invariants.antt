@@ -4,4 +4,4 @@ use Rattle.pipe_plain.proofs.groups.starting.Given as goal
 
 -- the aggregates so far
 abbrev pub invariant-loop-agg : goal.invariant-loop-agg
-invariant-loop-agg l = l.states.items ≡ starts (take l.agg-index l.aggs)
+invariant-loop-agg l = l.states.items ≡ (starts (take l.agg-index l.aggs)).states

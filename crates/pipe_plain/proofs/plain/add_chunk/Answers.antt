@@ -1,12 +1,11 @@
-use Rattle.std.proofs.Common.{arith, ◌≡◌, ◌+◌, ◌-◌, ◌^◌, ◌∙◌, List, map, ap}
+use Rattle.std.proofs.Common.{arith, ◌≡◌, ◌+◌, ◌-◌, ◌^◌, ◌∙◌, map, ap}
 use Rattle.pipe_columns.specs.Frame.{FrameData}
-use Rattle.pipe_running.specs.declared.function.AggregateFunction.{AggregateFunction}
 use Rattle.pipe_model.specs.Rows.{row_of}
 use Rattle.pipe_plain.specs.declared.query.PlainQuery.{PlainQuery}
 use Rattle.pipe_plain.specs.declared.rows.Positions.{Positions}
 use Rattle.pipe_plain.specs.Cells.{columns_at, columns_named, row_read}
 use Rattle.pipe_plain.specs.PlainQuery.{query_tree}
-use Rattle.pipe_plain.specs.Running.{group_seen, starts, Table, TableSeen, with_row}
+use Rattle.pipe_plain.specs.Running.{group_seen, Line, starts, Table, TableSeen, with_row}
 use Rattle.pipe_plain.proofs.ChunkFacts.{row_read_is, with_rows_more}
 use Rattle.pipe_plain.proofs.SeenFacts.{starts-seen, table-weaker, with_row-seen}
 use Rattle.pipe_plain.proofs.SpotFacts.{with_row-ascending}
@@ -24,7 +23,7 @@ loop-row-preserved c =
     let frame : FrameData = c.args.frame.now in
     let i = c.args.index in
     let n = c.loop-row.row in
-    let start : List AggregateFunction = starts q.aggs.items in
+    let start : Line = starts q.aggs.items in
     let before : Table = map group_seen c.loop-row.table.items in
     let room = 2 ^ 32 - 1 - frame.height + n in
     let positions : Positions = record { keys = c.in_ok-keys.keys; inputs = c.in_ok-inputs.inputs } in
@@ -33,7 +32,7 @@ loop-row-preserved c =
     let added : map group_seen c.add_row.new.table.items ≡ with_row start before (row_read frame.columns positions (record { chunk = i; row = n })) = rw (c.columns-columns.ensures.columns, c.deref-in-loop-row.ensures.value) at c.in_ok-add_row.ensures in
     let read = row_read_is q i n frame positions keys inputs in
     let seen : TableSeen (room + 1) (with_row start before (row_read frame.columns positions (record { chunk = i; row = n }))) =
-    with_row-seen room start before (row_read frame.columns positions (record { chunk = i; row = n })) (starts-seen room q.aggs.items) c.loop-row.invariant.seen in
+    with_row-seen room start before (row_read frame.columns positions (record { chunk = i; row = n })) (starts-seen room q.aggs.items c.requires.plain) c.loop-row.invariant.seen in
     record {
       table = added ∙ ap (with_row start before) read ∙ ap (λ (t : Table). with_row start t (row_of (query_tree q) i frame n)) c.loop-row.invariant.table
           ∙ with_rows_more (query_tree q) start (map group_seen c.args.table.now.items) i n frame;

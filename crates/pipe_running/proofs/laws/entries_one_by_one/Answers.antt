@@ -1,4 +1,4 @@
-use Rattle.pipe_running.proofs.Folds.{fits-given, given-after_entries}
+use Rattle.pipe_running.proofs.EntryFacts.{fits-given, given-after_entries}
 use Rattle.pipe_running.proofs.laws.entries_one_by_one.Goals as goal
 
 pub returns-clause-stands : goal.returns-clause-stands

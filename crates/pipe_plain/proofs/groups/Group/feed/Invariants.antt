@@ -7,6 +7,7 @@ use Rattle.pipe_plain.proofs.groups.Group.feed.Given as goal
 abbrev pub invariant-loop-j : goal.invariant-loop-j
 invariant-loop-j l = let inputs = cells l.columns l.place.row l.inputs in record {
   key : l.self.key ≡ l.fn.self.key;
+  first : l.self.first ≡ l.fn.self.first;
   left : drop l.j l.self.states.items ≡ drop l.j l.fn.self.states.items;
-  fed : take l.j l.self.states.items ++ fed_from l.j inputs (drop l.j l.self.states.items) ≡ fed_from 0 inputs l.fn.self.states.items;
+  fed : take l.j l.self.states.items ++ fed_from l.place l.j inputs (drop l.j l.self.states.items) ≡ fed_from l.place 0 inputs l.fn.self.states.items;
 }

@@ -1,0 +1,16 @@
+pub mod ArenaFacts
+pub mod RowFacts
+pub mod NumberFacts
+pub mod TreeFacts
+pub mod FitFacts
+pub mod UseFacts
+pub mod OperandFacts
+pub mod ReachFacts
+pub mod PassFacts
+pub mod KnownFacts
+pub mod OutputFacts
+pub mod FaultFacts
+pub mod QueryFacts
+pub mod CheckedFacts
+pub mod InputFacts
+pub mod SortedFacts

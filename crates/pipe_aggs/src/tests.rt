@@ -1,0 +1,303 @@
+use crate::{
+    AExpr, AddError, Arena, CheckError, IRAggExpr, Node, Operator, Query, QueryFault, TypeFault,
+    can_convert_to_hash_agg, to_field,
+};
+use pipe_columns::{AnyValue, DataType, Field, Schema, Text};
+use std::alloc::{AllocError, Global};
+use std::test::Fail;
+
+fn column_of(alloc: Global, name: &str) -> Result<AExpr, Fail> {
+    Ok(AExpr::Column(Text::new(alloc, name)?))
+}
+
+fn alias_of(alloc: Global, node: usize, name: &str) -> Result<AExpr, Fail> {
+    Ok(AExpr::Alias(Node(node), Text::new(alloc, name)?))
+}
+
+fn plus_of(left: usize, right: usize) -> AExpr {
+    AExpr::BinaryExpr {
+        left: Node(left),
+        op: Operator::Plus,
+        right: Node(right),
+    }
+}
+
+fn max_of(node: usize) -> AExpr {
+    AExpr::Agg(IRAggExpr::Max {
+        input: Node(node),
+        propagate_nans: false,
+    })
+}
+
+fn min_of(node: usize) -> AExpr {
+    AExpr::Agg(IRAggExpr::Min {
+        input: Node(node),
+        propagate_nans: false,
+    })
+}
+
+fn add(arena: &mut Arena, expr: AExpr) -> Result<(), Fail> {
+    match arena.add(expr) {
+        Ok(_) => Ok(()),
+        Err(_) => Err("not added".into()),
+    }
+}
+
+/// The columns of the schema, and one of no field: nodes 0 to 4.
+fn columns_of(alloc: Global) -> Result<Arena, Fail> {
+    let mut arena = Arena::new(alloc);
+    for name in ["v", "w", "d", "b", "x"] {
+        add(&mut arena, column_of(alloc, name)?)?;
+    }
+    Ok(arena)
+}
+
+/// Sums of v, under aliases and in operators: nodes 5 to 10.
+fn add_sums(alloc: Global, arena: &mut Arena) -> Result<(), Fail> {
+    add(arena, AExpr::Agg(IRAggExpr::Sum(Node(0))))?;
+    add(arena, alias_of(alloc, 5, "s")?)?;
+    add(arena, alias_of(alloc, 6, "t")?)?;
+    let dtype = DataType::Int64;
+    let value = AnyValue::Int(1);
+    add(arena, AExpr::Literal { dtype, value })?;
+    add(arena, plus_of(5, 8))?;
+    add(arena, plus_of(5, 5))
+}
+
+/// Other aggregates: nodes 11 to 15.
+fn add_aggs(arena: &mut Arena) -> Result<(), Fail> {
+    add(arena, max_of(2))?;
+    add(arena, min_of(3))?;
+    add(arena, AExpr::Agg(IRAggExpr::Count(Node(0), true)))?;
+    add(arena, AExpr::Agg(IRAggExpr::Count(Node(0), false)))?;
+    add(arena, AExpr::Len)
+}
+
+/// What has a fault, and a mean: nodes 16 to 20.
+fn add_faulty(alloc: Global, arena: &mut Arena) -> Result<(), Fail> {
+    add(arena, plus_of(0, 1))?;
+    add(arena, AExpr::Agg(IRAggExpr::Sum(Node(2))))?;
+    add(arena, alias_of(alloc, 14, "s")?)?;
+    add(arena, AExpr::Agg(IRAggExpr::Mean(Node(0))))?;
+    add(arena, alias_of(alloc, 19, "m")?)
+}
+
+/// The columns, and behind them the expressions of the tables below.
+fn arena_of(alloc: Global) -> Result<Arena, Fail> {
+    let mut arena = columns_of(alloc)?;
+    add_sums(alloc, &mut arena)?;
+    add_aggs(&mut arena)?;
+    add_faulty(alloc, &mut arena)?;
+    Ok(arena)
+}
+
+fn field_of(alloc: Global, name: &str, dtype: DataType) -> Result<Field, Fail> {
+    let name = Text::new(alloc, name)?;
+    Ok(Field { name, dtype })
+}
+
+/// The schema of the tables, with one more field if wanted.
+fn schema_of(alloc: Global, more: Option<(&str, DataType)>) -> Result<Schema, Fail> {
+    let mut fields = Vec::new(alloc);
+    fields.push(field_of(alloc, "v", DataType::Int8)?)?;
+    fields.push(field_of(alloc, "w", DataType::Int16)?)?;
+    fields.push(field_of(alloc, "d", DataType::Date)?)?;
+    fields.push(field_of(alloc, "b", DataType::Boolean)?)?;
+    if let Some((name, dtype)) = more {
+        fields.push(field_of(alloc, name, dtype)?)?;
+    }
+    Ok(Schema::new(fields))
+}
+
+fn is_kept(alloc: Global, arena: &Arena, node: usize, schema: &Schema) -> Result<bool, Fail> {
+    if node >= arena.len() {
+        return Err("no node".into());
+    }
+    Ok(can_convert_to_hash_agg(alloc, Node(node), arena, schema)?)
+}
+
+fn field_at(
+    alloc: Global,
+    arena: &Arena,
+    node: usize,
+    schema: &Schema,
+) -> Result<Result<Field, TypeFault>, Fail> {
+    if node >= arena.len() {
+        return Err("no node".into());
+    }
+    match to_field(alloc, Node(node), arena, schema) {
+        Err(TypeFault::Memory) => Err(AllocError.into()),
+        other => Ok(other),
+    }
+}
+
+#[test]
+fn convertible_list(rt: HostRuntime) -> Result<(), Fail> {
+    let alloc = rt.alloc();
+    let arena = arena_of(alloc)?;
+    let schema = schema_of(alloc, None)?;
+    for (node, want) in [
+        (6, true),
+        (7, false),
+        (9, false),
+        (10, false),
+        (11, false),
+        (12, false),
+        (13, false),
+        (14, true),
+        (15, true),
+    ] {
+        assert_eq!(rt; is_kept(alloc, &arena, node, &schema)?, want, "at {node}");
+    }
+    let mut empty = Arena::new(alloc);
+    let added = empty.add(AExpr::Cast {
+        expr: Node(0),
+        dtype: DataType::Int8,
+    });
+    assert_eq!(rt; added, Err(AddError::NoChild));
+    Ok(())
+}
+
+#[test]
+fn fields(rt: HostRuntime) -> Result<(), Fail> {
+    let alloc = rt.alloc();
+    let arena = arena_of(alloc)?;
+    let schema = schema_of(alloc, None)?;
+    for (node, name, dtype) in [
+        (0, "v", DataType::Int8),
+        (6, "s", DataType::Int64),
+        (9, "v", DataType::Int64),
+        (8, "literal", DataType::Int64),
+        (15, "len", DataType::UInt32),
+        (19, "v", DataType::Int128),
+    ] {
+        match field_at(alloc, &arena, node, &schema)? {
+            Ok(field) => {
+                assert_eq!(rt; field.name.as_str(), name, "at {node}");
+                assert_eq!(rt; field.dtype, dtype, "at {node}");
+            }
+            Err(_) => return Err("no field".into()),
+        }
+    }
+    for (node, want) in [(4, TypeFault::UnknownColumn), (16, TypeFault::IllTyped)] {
+        match field_at(alloc, &arena, node, &schema)? {
+            Ok(_) => return Err("a field".into()),
+            Err(fault) => assert_eq!(rt; fault, want, "at {node}"),
+        }
+    }
+    Ok(())
+}
+
+fn nodes_of(alloc: Global, numbers: &[usize]) -> Result<Vec<Node>, Fail> {
+    let mut nodes = Vec::new(alloc);
+    for number in numbers {
+        nodes.push(Node(*number))?;
+    }
+    Ok(nodes)
+}
+
+fn query_of(alloc: Global, keys: &[usize], aggs: &[usize]) -> Result<Query, Fail> {
+    Ok(Query {
+        schema: schema_of(alloc, None)?,
+        arena: arena_of(alloc)?,
+        keys: nodes_of(alloc, keys)?,
+        aggs: nodes_of(alloc, aggs)?,
+        slice: None,
+        maintain_order: false,
+    })
+}
+
+fn fault_of(alloc: Global, query: &Query) -> Result<Option<QueryFault>, Fail> {
+    match query.check(alloc) {
+        Ok(_) => Ok(None),
+        Err(CheckError::Fault(fault)) => Ok(Some(fault)),
+        Err(CheckError::Memory) => Err(AllocError.into()),
+    }
+}
+
+#[test]
+fn faults_of_expressions(rt: HostRuntime) -> Result<(), Fail> {
+    let alloc = rt.alloc();
+    for (key, agg, want) in [
+        (0, 6, None),
+        (99, 6, Some(QueryFault::BadNode)),
+        (0, 99, Some(QueryFault::BadNode)),
+        (4, 9, Some(QueryFault::UnknownColumn)),
+        (16, 9, Some(QueryFault::IllTyped)),
+        (5, 9, Some(QueryFault::KeyHasAggregate)),
+        (0, 9, Some(QueryFault::NotConvertible)),
+        (0, 17, Some(QueryFault::SumOfDate)),
+        (0, 14, Some(QueryFault::DoubleOutput)),
+    ] {
+        let query = query_of(alloc, &[key], &[agg])?;
+        assert_eq!(rt; fault_of(alloc, &query)?, want, "at {key} and {agg}");
+    }
+    Ok(())
+}
+
+#[test]
+fn faults_around_expressions(rt: HostRuntime) -> Result<(), Fail> {
+    let alloc = rt.alloc();
+    let mut query = query_of(alloc, &[0], &[6, 18])?;
+    query.slice = Some((-1, 2));
+    assert_eq!(rt; fault_of(alloc, &query)?, Some(QueryFault::DoubleOutput));
+    query.aggs = nodes_of(alloc, &[6])?;
+    assert_eq!(rt; fault_of(alloc, &query)?, Some(QueryFault::NegativeSlice));
+    query.schema = schema_of(alloc, Some(("q", DataType::Int128)))?;
+    assert_eq!(rt; fault_of(alloc, &query)?, Some(QueryFault::IllTyped));
+    query.keys = Vec::new(alloc);
+    assert_eq!(rt; fault_of(alloc, &query)?, Some(QueryFault::NoKey));
+    query.schema = schema_of(alloc, Some(("v", DataType::Int8)))?;
+    assert_eq!(rt; fault_of(alloc, &query)?, Some(QueryFault::DoubleName));
+    Ok(())
+}
+
+#[test]
+fn checked_query(rt: HostRuntime) -> Result<(), Fail> {
+    let alloc = rt.alloc();
+    let mut query = query_of(alloc, &[0], &[6, 20, 15])?;
+    query.slice = Some((1, 2));
+    let checked = match query.check(alloc) {
+        Ok(checked) => checked,
+        Err(_) => return Err("a fault".into()),
+    };
+    assert_eq!(rt; checked.slice(), Some((1, 2)));
+    assert_eq!(rt; checked.query().aggs.len(), 3);
+    assert_eq!(rt; checked.key_types(), [DataType::Int8].as_slice());
+    let inputs = [DataType::Int8, DataType::Int8, DataType::UInt32];
+    assert_eq!(rt; checked.input_types(), inputs.as_slice());
+    let names = ["v", "s", "m_sum", "m_count", "len"];
+    for (field, name) in checked.output_schema().fields().iter().zip(names) {
+        assert_eq!(rt; field.name.as_str(), name);
+    }
+    assert_eq!(rt; checked.output_schema().fields().len(), 5);
+    Ok(())
+}
+
+#[test]
+fn doubled_sums(rt: HostRuntime) -> Result<(), Fail> {
+    let alloc = rt.alloc();
+    let mut arena = columns_of(alloc)?;
+    add(&mut arena, plus_of(0, 0))?;
+    for before in 5..68 {
+        add(&mut arena, plus_of(before, before))?;
+    }
+    add(&mut arena, AExpr::Agg(IRAggExpr::Sum(Node(68))))?;
+    add(&mut arena, alias_of(alloc, 69, "s")?)?;
+    let schema = schema_of(alloc, None)?;
+    match field_at(alloc, &arena, 68, &schema)? {
+        Ok(field) => assert_eq!(rt; field.dtype, DataType::Int8),
+        Err(_) => return Err("no field".into()),
+    }
+    assert!(rt; is_kept(alloc, &arena, 69, &schema)?);
+    let query = Query {
+        schema,
+        arena,
+        keys: nodes_of(alloc, &[68])?,
+        aggs: nodes_of(alloc, &[70])?,
+        slice: None,
+        maintain_order: true,
+    };
+    assert_eq!(rt; fault_of(alloc, &query)?, None);
+    Ok(())
+}

@@ -1,0 +1,86 @@
+ghost use Rattle.std.specs.Prelude.{◌≡◌, true, false, refl};
+ghost use Rattle.pipe_running.specs.declared.interface.Finalized.TheVariants as finalized;
+ghost use Rattle.pipe_running.specs.Aggregate.{entry_value};
+ghost use Rattle.pipe_running.specs.Transitions.{empty_last, last_after, lasts_joined};
+ghost use Rattle.pipe_running.specs.TransitionLaws.{none_by_one};
+
+use crate::interface::{AggregateFn, Finalized};
+use pipe_columns::{AnyValue, DataType, Place};
+
+/// A running last value by place: the value at the greatest place so far.
+#[derive(Drop)]
+pub struct LastAgg {
+    dtype: DataType,
+    held: Option<(Place, AnyValue)>,
+}
+
+impl LastAgg {
+    /// The last of no value, for values of a type.
+    pub fn new(dtype: DataType) -> LastAgg
+        ensures { result ≡ empty_last dtype }
+    {
+        LastAgg { dtype, held: None }
+    }
+
+    /// The last of no value, for values of the same type.
+    pub(crate) fn split(&self) -> LastAgg
+        ensures { result ≡ empty_last self.now.dtype }
+    {
+        LastAgg::new(self.dtype)
+    }
+}
+
+impl AggregateFn for LastAgg {
+    ghost seen = { λ s. 0 };
+
+    ghost takes = { λ s v. true };
+
+    ghost alike = { λ a b. true };
+
+    ghost after_value = { λ p v s. last_after p v s };
+
+    ghost joined = { λ a b. lasts_joined a b };
+
+    ghost given = { λ s. finalized.One (entry_value s.held) };
+
+    ghost fresh = { λ s. empty_last s.dtype };
+
+    ghost is_physical = { λ s. false };
+
+    ghost output_type = { λ s. s.dtype };
+
+    ghost seen_by_one = { λ p v s. none_by_one };
+
+    ghost takes_alike = { λ p v w s. refl };
+
+    fn has_physical_agg(&self) -> bool {
+        false
+    }
+
+    fn pre_agg(&mut self, place: Place, value: AnyValue) {
+        let is_last = match &self.held {
+            Some((held, _)) => *held < place,
+            None => true,
+        };
+        if is_last {
+            self.held = Some((place, value));
+        }
+    }
+
+    fn dtype(&self) -> DataType {
+        self.dtype
+    }
+
+    fn combine(&mut self, other: LastAgg) {
+        if let Some((place, value)) = other.held {
+            self.pre_agg(place, value);
+        }
+    }
+
+    fn finalize(&mut self) -> Finalized {
+        match self.held.take() {
+            Some((_, value)) => Finalized::One(value),
+            None => Finalized::One(AnyValue::Null),
+        }
+    }
+}
