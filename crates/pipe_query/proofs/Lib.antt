@@ -1,0 +1,6 @@
+pub mod Shapes
+pub mod PartFacts
+pub mod FlatFacts
+pub mod ListFacts
+pub mod FlatTrees
+pub mod QueryFacts

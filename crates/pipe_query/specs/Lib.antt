@@ -1,0 +1,5 @@
+pub mod JsonShapes
+pub mod JsonNames
+pub mod ExprJson
+pub mod Flat
+pub mod QueryJson
