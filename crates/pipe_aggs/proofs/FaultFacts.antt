@@ -1,5 +1,5 @@
 -- The first fault of a query, by what holds of it.
-use Rattle.std.proofs.Common.{◌≡◌, ◌&&◌, ◌∙◌, Bool, true, false, List, [], ◌∷◌, refl, ap, sym}
+use Rattle.std.proofs.Common.{◌≡◌, ◌∙◌, Bool, true, false, List, [], ◌∷◌, refl}
 use Rattle.std.specs.Prelude.{◌==◌, length, map, not, Option, Some, None, option_map}
 use Rattle.std.specs.List.{find, list_all, list_any}
 use Rattle.std.proofs.lemmas.List.{length-map}
@@ -11,8 +11,8 @@ use Rattle.pipe_aggs.specs.Convertible.{convertible, unaliased}
 use Rattle.pipe_aggs.specs.Faults.{adds_dates, all_exprs, field_names, first_fault, has_double, has_nodes, is_negative_slice, is_typed}
 use Rattle.pipe_aggs.specs.Output.{output_schema}
 use Rattle.pipe_aggs.specs.QueryTrees.{agg_exprs, key_exprs, query_tree}
-use Rattle.pipe_aggs.specs.Trees.{tree}
-use Rattle.pipe_aggs.specs.Typing.{is_row_wise, knows_columns}
+use Rattle.pipe_exprs.specs.Trees.{tree}
+use Rattle.pipe_exprs.specs.Typing.{is_row_wise, knows_columns}
 
 -- the first of some faults that are there
 abbrev first_of_them : List (QueryFault × Bool) → Option QueryFault

@@ -6,7 +6,7 @@ use Rattle.pipe_aggs.specs.KnownArena.{KnownArena}
 use Rattle.pipe_aggs.specs.Output.{input_type}
 use Rattle.pipe_aggs.specs.Query.{AggTree}
 use Rattle.pipe_aggs.specs.QueryTrees.{agg_tree, query_tree}
-use Rattle.pipe_aggs.specs.Trees.{tree}
+use Rattle.pipe_exprs.specs.Trees.{tree}
 use Rattle.pipe_aggs.proofs.OutputFacts.{map-map}
 
 -- what is read off each aggregate is read off each node

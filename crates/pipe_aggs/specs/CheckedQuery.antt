@@ -1,6 +1,6 @@
 -- A query without fault, with what is made of it once.
 use Rattle.std.specs.Prelude.{◌≡◌, ◌==◌, true, false, List, None, length, map}
-use Rattle.std.specs.List.{list_all, list_any}
+use Rattle.std.specs.List.{All, list_all, list_any}
 use Rattle.pipe_columns.specs.declared.data_type.DataType.{DataType}
 use Rattle.pipe_columns.specs.declared.schema.Field.{Field}
 use Rattle.pipe_running.specs.declared.function.AggregateFunction.{AggregateFunction}
@@ -8,10 +8,10 @@ use Rattle.pipe_aggs.specs.declared.hash_agg.AggInput.{AggInput}
 use Rattle.pipe_aggs.specs.declared.query.Query.{Query}
 use Rattle.pipe_aggs.specs.Convertible.{convertible, unaliased}
 use Rattle.pipe_aggs.specs.Faults.{adds_dates, all_exprs, field_names, first_fault, has_double, has_nodes, is_typed}
-use Rattle.pipe_aggs.specs.HashAggs.{input_of, prototypes}
+use Rattle.pipe_aggs.specs.HashAggs.{input_of, IsThere, prototypes}
 use Rattle.pipe_aggs.specs.Output.{input_type, key_types, output_schema}
 use Rattle.pipe_aggs.specs.QueryTrees.{agg_exprs, key_exprs, query_tree}
-use Rattle.pipe_aggs.specs.Typing.{is_row_wise, knows_columns}
+use Rattle.pipe_exprs.specs.Typing.{is_row_wise, knows_columns}
 
 -- a query has fields of distinct names and a key, and its nodes are in the arena
 pub record HasShape (q : Query) : Type 0 where
@@ -41,4 +41,5 @@ pub record IsChecked (q : Query) (output : List Field) (keys inputs : List DataT
   pub keys_are : keys ≡ key_types (query_tree q)
   pub inputs_are : inputs ≡ input_types q
   pub fed_are : map (input_of q.arena) fed ≡ map (λ a. a.input) (query_tree q).aggs
+  pub fed_there : All (IsThere q.arena) fed
   pub functions_are : functions ≡ prototypes (query_tree q)

@@ -1,22 +1,22 @@
 -- The running aggregate that an expression becomes, and what it is fed.
-use Rattle.std.specs.Prelude.{◌&&◌, Bool, map, not, true, List}
+use Rattle.std.specs.Prelude.{◌&&◌, ◌<◌, Bool, map, not, true, List, length, ⊤}
 use Rattle.pipe_columns.specs.declared.data_type.DataType.{DataType}
 use Rattle.pipe_columns.specs.declared.data_type.DataType.TheVariants as dt
+use Rattle.pipe_native.specs.Native.{native_i32, native_i64, native_u32, native_u64}
 use Rattle.pipe_running.specs.Kind.{Kind}
 use Rattle.pipe_running.specs.Kind as kind
-use Rattle.pipe_running.specs.Native.{native_i32, native_i64, native_u32, native_u64}
 use Rattle.pipe_running.specs.Transitions.{empty_count, empty_extreme, empty_first, empty_last, empty_mean, empty_sum}
 use Rattle.pipe_running.specs.declared.function.AggregateFunction.{AggregateFunction}
 use Rattle.pipe_running.specs.declared.function.AggregateFunction.TheVariants as function
 use Rattle.pipe_running.specs.declared.min_max.Direction.{Direction}
 use Rattle.pipe_running.specs.declared.min_max.Direction.TheVariants as direction
-use Rattle.pipe_aggs.specs.declared.expression.AExpr.{AExpr}
+use Rattle.pipe_exprs.specs.declared.expression.AExpr.{AExpr}
 use Rattle.pipe_aggs.specs.declared.hash_agg.AggInput.{AggInput}
 use Rattle.pipe_aggs.specs.declared.hash_agg.AggInput.TheVariants as input
 use Rattle.pipe_aggs.specs.Output.{input_type}
 use Rattle.pipe_aggs.specs.Query.{each, Input, QueryTree, rows_alone}
-use Rattle.pipe_aggs.specs.Trees.{tree}
-use Rattle.pipe_aggs.specs.Typing.{is_date, is_input, is_integer}
+use Rattle.pipe_exprs.specs.Trees.{tree}
+use Rattle.pipe_exprs.specs.Typing.{is_date, is_input, is_integer}
 
 -- a null of a type: what stands where there is no number to add up
 abbrev pub null_function : DataType → AggregateFunction
@@ -82,6 +82,11 @@ function_for kind.len t = function.Len empty_count
 abbrev pub input_of : List AExpr → AggInput → Input
 input_of exprs (input.Expr e) = each (tree exprs e.node)
 input_of exprs (input.Len n) = rows_alone
+
+-- what an aggregate is fed is in an arena
+abbrev pub IsThere : List AExpr → AggInput → Type 0
+IsThere exprs (input.Expr e) = e.node.0 < length exprs
+IsThere exprs (input.Len n) = ⊤
 
 -- whether a table of groups can keep an aggregate of a kind over values of a type: sums and means of
 -- dates are refused, and a least or greatest value is one of integers

@@ -1,23 +1,21 @@
 -- What is read off an arena's expressions, by what is known of their nodes.
-use Rattle.std.specs.Prelude.{◌≡◌, Bool, true, false, ◌&&◌, ℕ, List, Option, Some, None, codes, map, unwrap_or}
+use Rattle.std.specs.Prelude.{◌≡◌, Bool, true, false, ◌&&◌, List, Option, Some, None, map, unwrap_or}
 use Rattle.pipe_columns.specs.declared.data_type.DataType.{DataType}
 use Rattle.pipe_columns.specs.declared.data_type.DataType.TheVariants as dt
 use Rattle.pipe_columns.specs.declared.schema.Field.{Field}
 use Rattle.pipe_running.specs.Kind.{Kind}
 use Rattle.pipe_running.specs.Kind as kind
-use Rattle.pipe_aggs.specs.declared.expression.AExpr.{AExpr}
-use Rattle.pipe_aggs.specs.declared.expression.AExpr.TheVariants as ax
-use Rattle.pipe_aggs.specs.declared.expression.Node.{Node}
-use Rattle.pipe_aggs.specs.declared.facts.NodeFacts.{NodeFacts}
+use Rattle.pipe_exprs.specs.declared.expression.AExpr.{AExpr}
+use Rattle.pipe_exprs.specs.declared.expression.AExpr.TheVariants as ax
+use Rattle.pipe_exprs.specs.declared.facts.NodeFacts.{NodeFacts}
 use Rattle.pipe_aggs.specs.Convertible.{keeps}
-use Rattle.pipe_aggs.specs.Expr.{Expr, name_of}
-use Rattle.pipe_aggs.specs.Expr as expr
+use Rattle.pipe_exprs.specs.Expr.{Expr, name_of}
 use Rattle.pipe_aggs.specs.Faults.{adds}
-use Rattle.pipe_aggs.specs.NodeFacts.{facts_at, facts_of}
+use Rattle.pipe_exprs.specs.NodeFacts.{facts_at, facts_of}
 use Rattle.pipe_aggs.specs.Output.{agg_fields, input_type}
 use Rattle.pipe_aggs.specs.QueryTrees.{agg_tree, kept_kind}
-use Rattle.pipe_aggs.specs.Trees.{aggregation, agg_input, tree_of, trees}
-use Rattle.pipe_aggs.specs.Typing.{is_date, known_type}
+use Rattle.pipe_exprs.specs.Trees.{aggregation, agg_input, trees}
+use Rattle.pipe_exprs.specs.Typing.{is_date, known_type}
 
 -- the expressions of an arena, and the fields of a schema
 pub record KnownArena : Type 0 where
@@ -27,33 +25,6 @@ pub record KnownArena : Type 0 where
 -- this is known of an arena's nodes
 abbrev pub IsKnown : List AExpr → List Field → List NodeFacts → Type 0
 IsKnown exprs fields known = known ≡ map (facts_of fields) (trees exprs)
-
--- the tree of an expression, where there is one
-abbrev pub tree_if : List Expr → Option AExpr → Expr
-tree_if ts None = expr.len
-tree_if ts (Some e) = tree_of ts e
-
--- what stands under an alias
-abbrev pub alias_input : Option AExpr → Option Node
-alias_input (Some (ax.Alias e name)) = Some e
-alias_input e = None
-
--- the node whose name an expression takes
-abbrev pub name_giver : Option AExpr → Option Node
-name_giver (Some (ax.Cast e t)) = Some e
-name_giver (Some (ax.BinaryExpr l o r)) = Some l
-name_giver (Some (ax.Ternary p t f)) = Some t
-name_giver (Some (ax.Agg a)) = Some (agg_input a)
-name_giver (Some (ax.Filter e by)) = Some e
-name_giver (Some (ax.Sort e)) = Some e
-name_giver e = None
-
--- the name of an expression that takes none
-abbrev pub own_name : Option AExpr → List ℕ
-own_name (Some (ax.Column name)) = name
-own_name (Some (ax.Literal t v)) = codes "literal"
-own_name (Some (ax.Alias e name)) = name
-own_name e = codes "len"
 
 -- whether an expression without alias is an aggregate that can be kept
 abbrev pub kept_by : List NodeFacts → Option AExpr → Bool

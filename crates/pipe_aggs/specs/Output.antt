@@ -7,8 +7,8 @@ use Rattle.pipe_columns.specs.declared.schema.Field.{Field}
 use Rattle.pipe_running.specs.Kind.{Kind}
 use Rattle.pipe_running.specs.Kind as kind
 use Rattle.pipe_running.specs.Aggregate.{sum_type}
-use Rattle.pipe_aggs.specs.Expr.{name_of}
-use Rattle.pipe_aggs.specs.Typing.{known_type}
+use Rattle.pipe_exprs.specs.Expr.{name_of}
+use Rattle.pipe_exprs.specs.Typing.{known_type}
 use Rattle.pipe_aggs.specs.Query.{Input, each, rows_alone, QueryTree}
 
 -- the type of what an aggregate is fed: a null that stands for a row is one of UInt32

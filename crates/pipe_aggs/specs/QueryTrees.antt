@@ -4,10 +4,10 @@ use Rattle.pipe_running.specs.Kind.{Kind}
 use Rattle.pipe_running.specs.Kind as kind
 use Rattle.pipe_aggs.specs.declared.query.Query.{Query}
 use Rattle.pipe_aggs.specs.Convertible.{unaliased}
-use Rattle.pipe_aggs.specs.Expr.{Aggregation, Expr, name_of}
-use Rattle.pipe_aggs.specs.Expr as expr
-use Rattle.pipe_aggs.specs.Query.{AggTree, each, Input, QueryTree, rows_alone, WrittenQuery}
-use Rattle.pipe_aggs.specs.Trees.{tree}
+use Rattle.pipe_exprs.specs.Expr.{Aggregation, Expr, name_of}
+use Rattle.pipe_exprs.specs.Expr as expr
+use Rattle.pipe_aggs.specs.Query.{AggTree, each, QueryTree, rows_alone, WrittenQuery}
+use Rattle.pipe_exprs.specs.Trees.{tree}
 
 -- the kind of an aggregation that can be kept
 abbrev pub kept_kind : Aggregation → Kind

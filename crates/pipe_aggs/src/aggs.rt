@@ -6,12 +6,11 @@ ghost use Rattle.pipe_aggs.specs.Faults.{adds, adds_dates};
 ghost use Rattle.pipe_aggs.specs.KnownArena.{adds_dates_by, fed_by};
 ghost use Rattle.pipe_aggs.specs.Output.{input_type};
 ghost use Rattle.pipe_aggs.specs.QueryTrees.{agg_tree};
-ghost use Rattle.pipe_aggs.specs.Trees.{aggregation, tree};
+ghost use Rattle.pipe_exprs.specs.Trees.{aggregation, tree};
 
-use crate::expression::{AExpr, IRAggExpr, Node};
-use crate::facts::{NodeFacts, facts_at};
 use crate::known::Known;
 use pipe_columns::DataType;
+use pipe_exprs::{AExpr, IRAggExpr, Node, NodeFacts, facts_at};
 
 /// The type of what an expression without alias is fed. A count of rows is fed nulls of UInt32.
 fn fed(known: &[NodeFacts], expr: Option<&AExpr>) -> DataType

@@ -1,16 +1,15 @@
 ghost use Rattle.std.specs.Prelude.{◌≡◌, IfOk, IfNone, IfSome, IsErrOf, OnOk, None, Some, map, nat_lt};
-ghost use Rattle.std.specs.List.{list_all};
+ghost use Rattle.std.specs.List.{All, list_all};
 ghost use Rattle.pipe_aggs.specs.declared.check.CheckError.TheVariants as error;
 ghost use Rattle.pipe_aggs.specs.declared.query_fault.QueryFault.{QueryFault};
 ghost use Rattle.pipe_aggs.specs.CheckedQuery.{HasShape, input_types, IsSound};
 ghost use Rattle.pipe_aggs.specs.Faults.{first_fault, has_nodes, is_negative_slice};
-ghost use Rattle.pipe_aggs.specs.HashAggs.{input_of, prototypes};
+ghost use Rattle.pipe_aggs.specs.HashAggs.{input_of, IsThere, prototypes};
 ghost use Rattle.pipe_aggs.specs.Output.{key_types};
 ghost use Rattle.pipe_aggs.specs.QueryTrees.{query_tree};
 
 use crate::checked_query::CheckedQuery;
 use crate::doubles::has_double;
-use crate::expression::Node;
 use crate::hash_agg::AggInput;
 use crate::known::Known;
 use crate::output::output_of;
@@ -18,6 +17,7 @@ use crate::query::Query;
 use crate::query_fault::QueryFault;
 use crate::sound::expr_fault;
 use pipe_columns::DataType;
+use pipe_exprs::Node;
 use pipe_running::AggregateFunction;
 use std::alloc::{AllocError, Global};
 
@@ -88,8 +88,9 @@ fn input_types_of(
 /// What the aggregates of a query are fed.
 fn inputs_of(alloc: Global, query: &Query, known: &Known<'_>) -> Result<Vec<AggInput>, AllocError>
     requires { known.now ≡ record { exprs = query.now.arena; fields = query.now.schema } }
-    ensures { IfOk result (λ inputs. map (input_of query.now.arena) inputs.items
+    ensures fed { IfOk result (λ inputs. map (input_of query.now.arena) inputs.items
         ≡ map (λ a. a.input) (query_tree query.now).aggs) }
+    ensures there { IfOk result (λ inputs. All (IsThere query.now.arena) inputs.items) }
 {
     let mut inputs = Vec::with_capacity(alloc, query.aggs.len())?;
     for agg in &query.aggs {

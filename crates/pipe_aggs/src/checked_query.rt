@@ -1,7 +1,8 @@
-ghost use Rattle.std.specs.Prelude.{◌≡◌, None, map};
+ghost use Rattle.std.specs.Prelude.{◌≡◌, All, None, map};
 ghost use Rattle.pipe_aggs.specs.CheckedQuery.{HasShape, input_types, IsChecked, IsSound};
 ghost use Rattle.pipe_aggs.specs.Faults.{first_fault};
-ghost use Rattle.pipe_aggs.specs.HashAggs.{input_of, prototypes};
+ghost use Rattle.pipe_aggs.specs.Groupable.{IsGroupable};
+ghost use Rattle.pipe_aggs.specs.HashAggs.{input_of, IsThere, prototypes};
 ghost use Rattle.pipe_aggs.specs.Output.{key_types, output_schema};
 ghost use Rattle.pipe_aggs.specs.QueryTrees.{query_tree};
 
@@ -60,22 +61,26 @@ impl<'a> CheckedQuery<'a> {
         }
     }
 
+    /// The query itself.
     pub fn query(&self) -> &Query
         ensures query { result.now ≡ self.now }
         ensures faultless { first_fault self.now ≡ None }
         ensures shape { HasShape self.now }
         ensures sound { IsSound self.now }
+        ensures groupable { IsGroupable (query_tree self.now) }
     {
         self.query
     }
 
     /// The keys' fields, then the columns of the aggregates.
     pub fn output_schema(&self) -> &Schema
-        ensures { result.now ≡ output_schema (query_tree self.now) }
+        ensures schema { result.now ≡ output_schema (query_tree self.now) }
+        ensures groupable { IsGroupable (query_tree self.now) }
     {
         &self.output_schema
     }
 
+    /// The types of the keys, in order.
     pub fn key_types(&self) -> &[DataType]
         ensures { result.now ≡ key_types (query_tree self.now) }
     {
@@ -91,15 +96,17 @@ impl<'a> CheckedQuery<'a> {
 
     /// What the aggregates are fed, in order.
     pub fn inputs(&self) -> &[AggInput]
-        ensures { map (input_of self.now.arena) result.now
+        ensures fed { map (input_of self.now.arena) result.now
             ≡ map (λ a. a.input) (query_tree self.now).aggs }
+        ensures there { All (IsThere self.now.arena) result.now }
     {
         &self.inputs
     }
 
     /// The running aggregates before any row, in order.
     pub fn prototypes(&self) -> &[AggregateFunction]
-        ensures { result.now ≡ prototypes (query_tree self.now) }
+        ensures functions { result.now ≡ prototypes (query_tree self.now) }
+        ensures groupable { IsGroupable (query_tree self.now) }
     {
         &self.prototypes
     }

@@ -1,14 +1,11 @@
 ghost use Rattle.std.specs.Prelude.{◌≡◌, ◌<◌, ◌&&◌, length, IfOk, option_copied};
 ghost use Rattle.pipe_aggs.specs.Convertible.{convertible, is_some_integer, keeps};
 ghost use Rattle.pipe_aggs.specs.KnownArena.{kept_by};
-ghost use Rattle.pipe_aggs.specs.Trees.{aggregation, tree};
+ghost use Rattle.pipe_exprs.specs.Trees.{aggregation, tree};
 
-use crate::arena::Arena;
-use crate::expression::{AExpr, IRAggExpr, Node};
-use crate::facts::{NodeFacts, facts_at};
 use crate::known::Known;
-use crate::typing::is_integer;
 use pipe_columns::{DataType, Schema};
+use pipe_exprs::{AExpr, Arena, IRAggExpr, Node, NodeFacts, facts_at, is_integer};
 use std::alloc::{AllocError, Global};
 
 /// Whether there is an integer type.

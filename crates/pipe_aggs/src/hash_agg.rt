@@ -2,18 +2,15 @@ ghost use Rattle.std.specs.Prelude.{◌≡◌, ◌<◌, length, option_copied, f
 ghost use Rattle.pipe_running.specs.declared.min_max.Direction.{Direction};
 ghost use Rattle.pipe_aggs.specs.Convertible.{convertible, unaliased};
 ghost use Rattle.pipe_aggs.specs.Faults.{adds_dates};
-ghost use Rattle.pipe_aggs.specs.HashAggs.{extreme_function, function_for, input_of, mean_function, sum_function};
+ghost use Rattle.pipe_aggs.specs.HashAggs.{extreme_function, function_for, input_of, IsThere, mean_function, sum_function};
 ghost use Rattle.pipe_aggs.specs.Output.{input_type};
 ghost use Rattle.pipe_aggs.specs.QueryTrees.{agg_tree, kept_kind};
-ghost use Rattle.pipe_aggs.specs.Trees.{aggregation, tree};
-ghost use Rattle.pipe_aggs.specs.Typing.{type_of};
+ghost use Rattle.pipe_exprs.specs.Trees.{aggregation, tree};
+ghost use Rattle.pipe_exprs.specs.Typing.{type_of};
 
-use crate::arena::Arena;
-use crate::expression::{AExpr, IRAggExpr, Node};
 use crate::known::Known;
-use crate::len::Len;
-use crate::piped_expr::PipedExpr;
 use pipe_columns::{DataType, Schema};
+use pipe_exprs::{AExpr, Arena, IRAggExpr, Len, Node, PipedExpr};
 use pipe_running::{
     AggregateFunction, CountAgg, Direction, FirstAgg, LastAgg, MeanAgg, MinMaxAgg, NullAgg, SumAgg,
 };
@@ -101,7 +98,8 @@ fn function_of(agg: &IRAggExpr, dtype: DataType) -> AggregateFunction
 impl<'a> Known<'a> {
     /// What the aggregate of a node is fed.
     pub(crate) fn agg_input(&self, node: Node) -> AggInput
-        ensures { input_of self.now.exprs result ≡ (agg_tree (tree self.now.exprs node)).input }
+        ensures fed { input_of self.now.exprs result ≡ (agg_tree (tree self.now.exprs node)).input }
+        ensures there { IsThere self.now.exprs result }
     {
         match self.expr(self.unaliased(node)) {
             Some(AExpr::Agg(agg)) => AggInput::Expr(PipedExpr { node: agg.input() }),
@@ -135,6 +133,7 @@ pub fn convert_to_hash_agg(
     requires no_dates { adds_dates schema.now (unaliased (tree arena.now node)) ≡ false }
     ensures input { IfOk result (λ h. input_of arena.now h.input
         ≡ (agg_tree (tree arena.now node)).input) }
+    ensures there { IfOk result (λ h. IsThere arena.now h.input) }
     ensures dtype { IfOk result (λ h. h.input_dtype
         ≡ input_type schema.now (agg_tree (tree arena.now node)).input) }
     ensures function { IfOk result (λ h. let a = agg_tree (tree arena.now node) in

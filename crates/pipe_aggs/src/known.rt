@@ -1,16 +1,14 @@
-ghost use Rattle.std.specs.Prelude.{◌≡◌, IfOk, option_copied};
+ghost use Rattle.std.specs.Prelude.{◌≡◌, IfOk, option_copied, slice_get};
 ghost use Rattle.pipe_aggs.specs.Convertible.{unaliased};
-ghost use Rattle.pipe_aggs.specs.Expr.{name_of};
-ghost use Rattle.pipe_aggs.specs.KnownArena.{alias_input, IsKnown, tree_if};
-ghost use Rattle.pipe_aggs.specs.NodeFacts.{facts_of};
-ghost use Rattle.pipe_aggs.specs.Trees.{tree, trees};
-ghost use Rattle.pipe_aggs.specs.Typing.{known_type};
+ghost use Rattle.pipe_exprs.specs.Expr.{name_of};
+ghost use Rattle.pipe_aggs.specs.KnownArena.{IsKnown};
+ghost use Rattle.pipe_exprs.specs.Nodes.{tree_if};
+ghost use Rattle.pipe_exprs.specs.NodeFacts.{facts_of};
+ghost use Rattle.pipe_exprs.specs.Trees.{IsArena, tree, trees};
+ghost use Rattle.pipe_exprs.specs.Typing.{known_type};
 
-use crate::arena::Arena;
-use crate::expression::{AExpr, Node};
-use crate::facts::{NodeFacts, facts_at};
-use crate::types::node_facts;
 use pipe_columns::{DataType, Schema};
+use pipe_exprs::{AExpr, Arena, Node, NodeFacts, alias_input, facts_at, node_facts};
 use std::alloc::{AllocError, Global};
 use std::marker::Model;
 
@@ -30,16 +28,6 @@ impl<'a> Model for Known<'a> {
     ghost view = { λ a. record { exprs = a.arena.now; fields = a.schema.now } };
 
     ghost invariant = { λ a. IsKnown a.arena.now a.schema.now a.facts.items };
-}
-
-/// The node under an alias.
-pub(crate) fn alias_input(expr: Option<&AExpr>) -> Option<Node>
-    ensures { result ≡ alias_input (option_copied expr.entry) }
-{
-    match expr {
-        Some(AExpr::Alias(input, _)) => Some(*input),
-        _ => None,
-    }
 }
 
 impl<'a> Known<'a> {
@@ -74,7 +62,10 @@ impl<'a> Known<'a> {
 
     /// The expression of a node.
     pub(crate) fn expr(&self, node: Node) -> Option<&AExpr>
-        ensures { tree_if (trees self.now.exprs) (option_copied result) ≡ tree self.now.exprs node }
+        ensures found { option_copied result ≡ slice_get self.now.exprs node.0 }
+        ensures earlier { IsArena self.now.exprs }
+        ensures tree { tree_if (trees self.now.exprs) (option_copied result)
+            ≡ tree self.now.exprs node }
     {
         self.arena.find(node)
     }

@@ -4,13 +4,12 @@ ghost use Rattle.std.specs.Prelude.{◌≡◌, ◌++◌, ◌∷◌, [], IfOk, On
 ghost use Rattle.pipe_aggs.specs.KnownArena.{agg_columns, key_field, kind_by};
 ghost use Rattle.pipe_aggs.specs.Output.{agg_fields, mean_fields, output_schema};
 ghost use Rattle.pipe_aggs.specs.QueryTrees.{kept_kind, query_tree};
-ghost use Rattle.pipe_aggs.specs.Trees.{aggregation, tree};
+ghost use Rattle.pipe_exprs.specs.Trees.{aggregation, tree};
 
-use crate::expression::{AExpr, IRAggExpr, Node};
 use crate::known::Known;
 use crate::query::Query;
-use crate::typing::sum_type;
 use pipe_columns::{DataType, Field, Schema, Text};
+use pipe_exprs::{AExpr, IRAggExpr, Node, sum_type};
 use std::alloc::{AllocError, Global};
 
 /// Adds a field of a name and a type.

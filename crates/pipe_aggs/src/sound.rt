@@ -6,15 +6,14 @@ ghost use Rattle.pipe_aggs.specs.CheckedQuery.{HasShape, IsSound};
 ghost use Rattle.pipe_aggs.specs.Convertible.{convertible, unaliased};
 ghost use Rattle.pipe_aggs.specs.Faults.{adds_dates, all_exprs, first_fault, is_typed};
 ghost use Rattle.pipe_aggs.specs.QueryTrees.{agg_exprs, key_exprs};
-ghost use Rattle.pipe_aggs.specs.Trees.{tree};
-ghost use Rattle.pipe_aggs.specs.Typing.{is_input, is_row_wise, knows_columns, type_of};
+ghost use Rattle.pipe_exprs.specs.Trees.{tree};
+ghost use Rattle.pipe_exprs.specs.Typing.{is_input, is_row_wise, knows_columns, type_of};
 
-use crate::expression::Node;
 use crate::known::Known;
 use crate::query::Query;
 use crate::query_fault::QueryFault;
-use crate::typing::is_input;
 use pipe_columns::Field;
+use pipe_exprs::{Node, is_input};
 
 impl<'a> Known<'a> {
     /// Whether some nodes know their columns.

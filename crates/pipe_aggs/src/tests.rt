@@ -39,7 +39,8 @@ fn min_of(node: usize) -> AExpr {
 fn add(arena: &mut Arena, expr: AExpr) -> Result<(), Fail> {
     match arena.add(expr) {
         Ok(_) => Ok(()),
-        Err(_) => Err("not added".into()),
+        Err(AddError::Memory) => Err(AllocError.into()),
+        Err(AddError::NoChild) => Err("no child".into()),
     }
 }
 
@@ -83,7 +84,7 @@ fn add_faulty(alloc: Global, arena: &mut Arena) -> Result<(), Fail> {
 }
 
 /// The columns, and behind them the expressions of the tables below.
-fn arena_of(alloc: Global) -> Result<Arena, Fail> {
+pub(crate) fn arena_of(alloc: Global) -> Result<Arena, Fail> {
     let mut arena = columns_of(alloc)?;
     add_sums(alloc, &mut arena)?;
     add_aggs(&mut arena)?;
@@ -97,7 +98,7 @@ fn field_of(alloc: Global, name: &str, dtype: DataType) -> Result<Field, Fail> {
 }
 
 /// The schema of the tables, with one more field if wanted.
-fn schema_of(alloc: Global, more: Option<(&str, DataType)>) -> Result<Schema, Fail> {
+pub(crate) fn schema_of(alloc: Global, more: Option<(&str, DataType)>) -> Result<Schema, Fail> {
     let mut fields = Vec::new(alloc);
     fields.push(field_of(alloc, "v", DataType::Int8)?)?;
     fields.push(field_of(alloc, "w", DataType::Int16)?)?;
@@ -196,7 +197,7 @@ fn nodes_of(alloc: Global, numbers: &[usize]) -> Result<Vec<Node>, Fail> {
     Ok(nodes)
 }
 
-fn query_of(alloc: Global, keys: &[usize], aggs: &[usize]) -> Result<Query, Fail> {
+pub(crate) fn query_of(alloc: Global, keys: &[usize], aggs: &[usize]) -> Result<Query, Fail> {
     Ok(Query {
         schema: schema_of(alloc, None)?,
         arena: arena_of(alloc)?,
@@ -259,7 +260,8 @@ fn checked_query(rt: HostRuntime) -> Result<(), Fail> {
     query.slice = Some((1, 2));
     let checked = match query.check(alloc) {
         Ok(checked) => checked,
-        Err(_) => return Err("a fault".into()),
+        Err(CheckError::Memory) => return Err(AllocError.into()),
+        Err(CheckError::Fault(_)) => return Err("a fault".into()),
     };
     assert_eq!(rt; checked.slice(), Some((1, 2)));
     assert_eq!(rt; checked.query().aggs.len(), 3);

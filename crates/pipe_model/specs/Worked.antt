@@ -8,7 +8,7 @@ use Rattle.pipe_columns.specs.declared.data_chunk.DataChunk.{DataChunk}
 use Rattle.pipe_columns.specs.Frame.{frame_of, FrameData}
 use Rattle.pipe_running.specs.Kind.{Kind}
 use Rattle.pipe_running.specs.Kind as kind
-use Rattle.pipe_aggs.specs.Expr.{column}
+use Rattle.pipe_exprs.specs.Expr.{column}
 use Rattle.pipe_aggs.specs.Query.{AggTree, each, rows_alone, QueryTree}
 
 abbrev pub int : ℕ → AnyValue

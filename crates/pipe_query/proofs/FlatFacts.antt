@@ -1,11 +1,11 @@
 -- An arena that grew by the nodes of trees.
 use Rattle.std.proofs.Common.{◌≡◌, ◌+◌, ◌<◌, ◌≤◌, ◌++◌, ◌&&◌, ℕ, true, List, [], ◌∷◌, length, nat_lt, Option, Some, None, option_map, option_and_then, refl, arith}
 use Rattle.std.proofs.lemmas.List.{append_assoc, length-append}
-use Rattle.pipe_aggs.specs.declared.expression.Node.{Node}
-use Rattle.pipe_aggs.specs.declared.expression.AExpr.{AExpr}
-use Rattle.pipe_aggs.specs.Trees.{children_below}
-use Rattle.pipe_aggs.specs.Expr.{Expr}
-use Rattle.pipe_aggs.specs.Expr as expr
+use Rattle.pipe_exprs.specs.declared.expression.Node.{Node}
+use Rattle.pipe_exprs.specs.declared.expression.AExpr.{AExpr}
+use Rattle.pipe_exprs.specs.Trees.{children_below}
+use Rattle.pipe_exprs.specs.Expr.{Expr}
+use Rattle.pipe_exprs.specs.Expr as expr
 use Rattle.pipe_query.specs.declared.json_names.Over.{Over}
 use Rattle.pipe_query.specs.declared.json_names.Over.TheVariants as over
 use Rattle.pipe_query.specs.ExprJson.{over_expr}

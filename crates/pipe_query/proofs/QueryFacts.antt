@@ -3,10 +3,10 @@ use Rattle.std.proofs.Common.{◌≡◌, ◌+◌, ◌≤◌, ◌<◌, ◌++◌, 
 use Rattle.std.specs.List.{list_all}
 use Rattle.std.proofs.lemmas.List.{append-nil, append_assoc, length-append}
 use Rattle.std.proofs.lemmas.List.Folds.{list_all-append}
-use Rattle.pipe_aggs.specs.declared.expression.AExpr.{AExpr}
-use Rattle.pipe_aggs.specs.declared.expression.Node.{Node}
-use Rattle.pipe_aggs.specs.Expr.{Expr}
-use Rattle.pipe_aggs.specs.Trees.{tree}
+use Rattle.pipe_exprs.specs.declared.expression.AExpr.{AExpr}
+use Rattle.pipe_exprs.specs.declared.expression.Node.{Node}
+use Rattle.pipe_exprs.specs.Expr.{Expr}
+use Rattle.pipe_exprs.specs.Trees.{tree}
 use Rattle.pipe_query.specs.Flat.{AreAdded, flat, flat_all, root, roots}
 use Rattle.pipe_query.proofs.FlatFacts.{grown, lt_true}
 use Rattle.pipe_query.proofs.FlatTrees.{all_trees}

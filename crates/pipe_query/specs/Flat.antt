@@ -2,13 +2,13 @@
 use Rattle.std.specs.Prelude.{true, false, ◌≡◌, ◌+◌, ◌++◌, ℕ, List, [], ◌∷◌, length, Option, Some, None, ⊤}
 use Rattle.pipe_query.specs.declared.json_names.Over.{Over}
 use Rattle.pipe_query.specs.declared.json_names.Over.TheVariants as over
-use Rattle.pipe_aggs.specs.declared.expression.Node.{Node}
-use Rattle.pipe_aggs.specs.declared.expression.AExpr.{AExpr}
-use Rattle.pipe_aggs.specs.declared.expression.AExpr.TheVariants as ax
-use Rattle.pipe_aggs.specs.declared.expression.IRAggExpr.{IRAggExpr}
-use Rattle.pipe_aggs.specs.declared.expression.IRAggExpr.TheVariants as ir
-use Rattle.pipe_aggs.specs.Expr.{Aggregation, Expr}
-use Rattle.pipe_aggs.specs.Expr as expr
+use Rattle.pipe_exprs.specs.declared.expression.Node.{Node}
+use Rattle.pipe_exprs.specs.declared.expression.AExpr.{AExpr}
+use Rattle.pipe_exprs.specs.declared.expression.AExpr.TheVariants as ax
+use Rattle.pipe_exprs.specs.declared.expression.IRAggExpr.{IRAggExpr}
+use Rattle.pipe_exprs.specs.declared.expression.IRAggExpr.TheVariants as ir
+use Rattle.pipe_exprs.specs.Expr.{Aggregation, Expr}
+use Rattle.pipe_exprs.specs.Expr as expr
 use Rattle.pipe_aggs.specs.declared.query.Query.{Query}
 use Rattle.pipe_aggs.specs.QueryTrees.{agg_exprs, key_exprs}
 

@@ -2,7 +2,7 @@
 
 ghost use Rattle.std.specs.Prelude.{◌≡◌, ◌++◌, ◌∷◌, [], true, length, IfOk, OnOk, option_map};
 ghost use Rattle.serde_json.specs.View.{view};
-ghost use Rattle.pipe_aggs.specs.Trees.{children_below};
+ghost use Rattle.pipe_exprs.specs.Trees.{children_below};
 ghost use Rattle.pipe_query.specs.ExprJson.{column_of, length_of, literal_of, operator_of, type_of_name, value_of};
 ghost use Rattle.pipe_query.specs.Flat.{IsAdded, node};
 ghost use Rattle.pipe_query.specs.JsonShapes.{pair_of};

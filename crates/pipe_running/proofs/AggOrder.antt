@@ -9,9 +9,10 @@ use Rattle.pipe_columns.specs.declared.data_type.DataType.{DataType}
 use Rattle.pipe_columns.specs.declared.data_type.DataType.TheVariants as dt
 use Rattle.pipe_columns.specs.declared.place.Place.{Place}
 use Rattle.pipe_columns.specs.Place.{first_entry, last_entry}
+use Rattle.pipe_native.specs.Native.{wrapped}
 use Rattle.pipe_running.specs.declared.min_max.Direction.{Direction}
 use Rattle.pipe_running.specs.declared.min_max.Direction.TheVariants as direction
-use Rattle.pipe_running.specs.Aggregate.{agg, counted, entry_value, exact_sum, halves, present, sum_if_any, sum_type, total, values_in, wrapped}
+use Rattle.pipe_running.specs.Aggregate.{agg, counted, entry_value, exact_sum, halves, present, sum_if_any, sum_type, total, values_in}
 use Rattle.pipe_running.specs.Kind.{Kind}
 use Rattle.pipe_running.specs.Kind as kind
 use Rattle.pipe_running.specs.Pick.{earlier_place, later_place}

@@ -13,14 +13,14 @@ use Rattle.pipe_columns.specs.declared.data_type.DataType.{DataType}
 use Rattle.pipe_columns.specs.declared.data_type.DataType.TheVariants as dt
 use Rattle.pipe_columns.specs.declared.place.Place.{Place}
 use Rattle.pipe_columns.specs.AnyValue.{fits, is_null, is_signed, is_unsigned}
+use Rattle.pipe_native.specs.Native.{Native, native_i8, native_i16, native_i32, native_i64, native_u8, native_u16, native_u32, native_u64}
+use Rattle.pipe_native.specs.NativeLaws.{is_native_i32, is_native_i64, is_native_u32, is_native_u64}
 use Rattle.pipe_running.specs.declared.min_max.Direction.{Direction}
 use Rattle.pipe_running.specs.declared.function.AggregateFunction.{AggregateFunction}
 use Rattle.pipe_running.specs.declared.function.AggregateFunction.TheVariants as function
 use Rattle.pipe_running.specs.Aggregate.{addend, counted, entry_value, exact_sum, present, values_in}
 use Rattle.pipe_running.specs.Least.{HoldsLeast}
 use Rattle.pipe_running.specs.Mean.{MeanState}
-use Rattle.pipe_running.specs.Native.{Native, native_i8, native_i16, native_i32, native_i64, native_u8, native_u16, native_u32, native_u64}
-use Rattle.pipe_running.specs.NativeLaws.{is_native_i32, is_native_i64, is_native_u32, is_native_u64}
 use Rattle.pipe_running.specs.Pick.{earlier_place, later_place}
 use Rattle.pipe_running.specs.Stands.{FitTypes, given_types, has_mean, held_value, MeanStands, Stands, Suits, tally, value_order}
 use Rattle.pipe_running.specs.States.{given, output_values}

@@ -13,6 +13,7 @@ use Rattle.pipe_columns.specs.declared.place.Place.{Place}
 use Rattle.pipe_columns.specs.AnyValue.{fits, is_null}
 use Rattle.pipe_columns.specs.Place.{place_cmp}
 use Rattle.pipe_columns.proofs.ValueOrder.{value_cmp_total}
+use Rattle.pipe_native.specs.Native.{IsNative, Native}
 use Rattle.pipe_running.specs.declared.min_max.Direction.{Direction}
 use Rattle.pipe_running.specs.declared.min_max.Direction.TheVariants as direction
 use Rattle.pipe_running.specs.declared.min_max.MinMaxAgg.{MinMaxAgg}
@@ -20,7 +21,6 @@ use Rattle.pipe_running.specs.declared.sum.SumAgg.{SumAgg}
 use Rattle.pipe_running.specs.Aggregate.{addend, exact_sum, present, values_in}
 use Rattle.pipe_running.specs.Least.{HoldsLeast}
 use Rattle.pipe_running.specs.Mean.{MeanState}
-use Rattle.pipe_running.specs.Native.{IsNative, Native}
 use Rattle.pipe_running.specs.Pick.{earlier_place, later_place, least}
 use Rattle.pipe_running.specs.Stands.{held_value, MeanStands, SumStands, tally, value_order}
 use Rattle.pipe_running.specs.Transitions.{count_after, extreme_after, extremes_joined, mean_after, means_joined, native_order, same_direction, sum_after, sum_state_after, sums_joined}

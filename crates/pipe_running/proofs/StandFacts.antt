@@ -8,6 +8,8 @@ use Rattle.pipe_columns.specs.declared.any_value.AnyValue.{AnyValue}
 use Rattle.pipe_columns.specs.declared.any_value.AnyValue.TheVariants as av
 use Rattle.pipe_columns.specs.declared.data_type.DataType.{DataType}
 use Rattle.pipe_columns.specs.declared.place.Place.{Place}
+use Rattle.pipe_native.specs.Native.{Native, native_i8, native_i16, native_i32, native_i64, native_u8, native_u16, native_u32, native_u64}
+use Rattle.pipe_native.specs.NativeLaws.{is_native_i8, is_native_i16, is_native_i32, is_native_i64, is_native_u8, is_native_u16, is_native_u32, is_native_u64}
 use Rattle.pipe_running.specs.declared.function.AggregateFunction.{AggregateFunction}
 use Rattle.pipe_running.specs.declared.function.AggregateFunction.TheVariants as function
 use Rattle.pipe_running.specs.Aggregate.{agg, counted, values_in}
@@ -17,8 +19,6 @@ use Rattle.pipe_running.specs.Transitions.{extreme_value, mean_given, same_direc
 use Rattle.pipe_running.specs.Aggregate.{entry_value, present}
 use Rattle.pipe_running.specs.declared.min_max.Direction.{Direction}
 use Rattle.pipe_running.specs.declared.min_max.Direction.TheVariants as direction
-use Rattle.pipe_running.specs.Native.{Native, native_i8, native_i16, native_i32, native_i64, native_u8, native_u16, native_u32, native_u64}
-use Rattle.pipe_running.specs.NativeLaws.{is_native_i8, is_native_i16, is_native_i32, is_native_i64, is_native_u8, is_native_u16, is_native_u32, is_native_u64}
 use Rattle.pipe_running.specs.Runs.{after_run, placed}
 use Rattle.pipe_running.specs.Least.{HoldsLeast}
 use Rattle.pipe_running.specs.Pick.{earlier_place, later_place}

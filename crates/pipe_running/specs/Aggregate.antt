@@ -1,7 +1,6 @@
 -- What an aggregate makes of placed values.
-use Rattle.std.specs.Prelude.{ℕ, ℤ, pos, ◌+ℤ◌, ◌^◌, List, [], ◌∷◌, length, map, filter, fold, not, Option, Some, None, if◌then◌else◌}
+use Rattle.std.specs.Prelude.{ℕ, ℤ, pos, ◌+ℤ◌, List, [], ◌∷◌, length, map, filter, fold, not, Option, Some, None, if◌then◌else◌}
 use Rattle.std.specs.Ordering.{match_ordering}
-use Rattle.std.specs.Int.{int_rem_euclid, int_wrap, w8, w16, w32, w64, w128}
 use Rattle.pipe_columns.specs.declared.data_type.DataType.{DataType}
 use Rattle.pipe_columns.specs.declared.data_type.DataType.TheVariants as dt
 use Rattle.pipe_columns.specs.declared.any_value.AnyValue.{AnyValue}
@@ -9,6 +8,7 @@ use Rattle.pipe_columns.specs.declared.any_value.AnyValue.TheVariants as av
 use Rattle.pipe_columns.specs.declared.place.Place.{Place}
 use Rattle.pipe_columns.specs.AnyValue.{is_null, value_cmp}
 use Rattle.pipe_columns.specs.Place.{first_entry, last_entry}
+use Rattle.pipe_native.specs.Native.{wrapped}
 use Rattle.pipe_running.specs.Kind.{Kind}
 use Rattle.pipe_running.specs.Kind as kind
 
@@ -26,21 +26,6 @@ sum_type dt.UInt64 = dt.UInt64
 sum_type dt.Int128 = dt.Int128
 sum_type dt.Date = dt.Date
 sum_type dt.String = dt.String
-
--- a number wrapped into a number type
-abbrev pub wrapped : DataType → ℤ → ℤ
-wrapped dt.Boolean n = n
-wrapped dt.Int8 n = int_wrap w8 n
-wrapped dt.Int16 n = int_wrap w16 n
-wrapped dt.Int32 n = int_wrap w32 n
-wrapped dt.Int64 n = int_wrap w64 n
-wrapped dt.UInt8 n = int_rem_euclid n (pos (2 ^ 8))
-wrapped dt.UInt16 n = int_rem_euclid n (pos (2 ^ 16))
-wrapped dt.UInt32 n = int_rem_euclid n (pos (2 ^ 32))
-wrapped dt.UInt64 n = int_rem_euclid n (pos (2 ^ 64))
-wrapped dt.Int128 n = int_wrap w128 n
-wrapped dt.Date n = int_wrap w32 n
-wrapped dt.String n = n
 
 -- the number that a value adds to a sum: true adds 1
 abbrev pub addend : AnyValue → ℤ

@@ -1,7 +1,5 @@
 pub mod Kind
 pub mod Aggregate
-pub mod Native
-pub mod NativeLaws
 pub mod Pick
 pub mod Mean
 pub mod Runs

@@ -6,7 +6,8 @@ use Rattle.pipe_columns.specs.declared.place.Place.{Place}
 -- a state with the values of the rows of a chunk from one on, one by one
 abbrev pub after_run : {S : Type 0} → (Place → AnyValue → S → S) → ℕ → ℕ → List AnyValue → S → S
 after_run after chunk row [] s = s
-after_run after chunk row (v ∷ vs) s = after_run after chunk (row + 1) vs (after (record { chunk = chunk; row = row }) v s)
+after_run after chunk row (v ∷ vs) s =
+    after_run after chunk (row + 1) vs (after (record { chunk = chunk; row = row }) v s)
 
 -- those values with their places
 abbrev pub placed : ℕ → ℕ → List AnyValue → List (Place × AnyValue)

@@ -10,26 +10,29 @@ use Rattle.pipe_columns.specs.declared.data_type.DataType.TheVariants as dt
 use Rattle.pipe_columns.specs.declared.place.Place.{Place}
 use Rattle.pipe_columns.specs.AnyValue.{fits, value_cmp}
 use Rattle.pipe_columns.specs.Place.{place_cmp}
+use Rattle.pipe_native.specs.Native.{Native, native_i8, native_i16, native_i32, native_i64, native_u8, native_u16, native_u32, native_u64}
 use Rattle.pipe_running.specs.declared.interface.Finalized.{Finalized}
 use Rattle.pipe_running.specs.declared.interface.Finalized.TheVariants as finalized
 use Rattle.pipe_running.specs.declared.min_max.Direction.{Direction}
 use Rattle.pipe_running.specs.declared.min_max.Direction.TheVariants as direction
+use Rattle.pipe_running.specs.declared.min_max.MinMaxAgg.{MinMaxAgg}
 use Rattle.pipe_running.specs.declared.sum.SumAgg.{SumAgg}
 use Rattle.pipe_running.specs.declared.function.AggregateFunction.{AggregateFunction}
 use Rattle.pipe_running.specs.declared.function.AggregateFunction.TheVariants as function
 use Rattle.pipe_running.specs.Aggregate.{exact_sum, present, sum_type, values_in}
 use Rattle.pipe_running.specs.Least.{HoldsLeast}
 use Rattle.pipe_running.specs.Mean.{MeanState}
-use Rattle.pipe_running.specs.Native.{Native, native_i8, native_i16, native_i32, native_i64, native_u8, native_u16, native_u32, native_u64}
 use Rattle.pipe_running.specs.Pick.{earlier_place, later_place}
 use Rattle.pipe_running.specs.States.{first_type}
 
 -- the number of entries, or of those that are no null
 abbrev pub tally : Bool → List (Place × AnyValue) → ℕ
-tally include_null entries = if include_null then length entries else length (present (values_in entries))
+tally include_null entries =
+    if include_null then length entries else length (present (values_in entries))
 
 -- the wrapped sum, and whether a value came
-pub record SumStands {K : Type 0} (k : Native K) (a : SumAgg K) (entries : List (Place × AnyValue)) : Type 0 where
+pub record SumStands {K : Type 0} (k : Native K) (a : SumAgg K)
+    (entries : List (Place × AnyValue)) : Type 0 where
   pub sum : a.sum ≡ k.wrap (exact_sum (values_in entries))
   pub came : a.came ≡ nat_lt 0 (tally false entries)
 
@@ -48,6 +51,11 @@ abbrev pub held_value : {K : Type 0} → Native K → Option K → Option AnyVal
 held_value k None = None
 held_value k (Some n) = Some (av.Int (k.number n))
 
+-- the least or greatest value that is no null
+abbrev pub ExtremeStands : {K : Type 0} → Native K → MinMaxAgg K → List (Place × AnyValue) → Type 0
+ExtremeStands k a entries =
+    HoldsLeast (value_order a.direction) (held_value k a.extreme) (present (values_in entries))
+
 -- a running aggregate is in the state that a list of placed values makes of it
 abbrev pub Stands : AggregateFunction → List (Place × AnyValue) → Type 0
 Stands (function.First a) entries = HoldsLeast earlier_place a.held entries
@@ -60,14 +68,14 @@ Stands (function.SumI32 a) entries = SumStands native_i32 a entries
 Stands (function.SumI64 a) entries = SumStands native_i64 a entries
 Stands (function.Mean a) entries = MeanStands a entries
 Stands (function.Null a) entries = ⊤
-Stands (function.MinMaxU8 a) entries = HoldsLeast (value_order a.direction) (held_value native_u8 a.extreme) (present (values_in entries))
-Stands (function.MinMaxU16 a) entries = HoldsLeast (value_order a.direction) (held_value native_u16 a.extreme) (present (values_in entries))
-Stands (function.MinMaxU32 a) entries = HoldsLeast (value_order a.direction) (held_value native_u32 a.extreme) (present (values_in entries))
-Stands (function.MinMaxU64 a) entries = HoldsLeast (value_order a.direction) (held_value native_u64 a.extreme) (present (values_in entries))
-Stands (function.MinMaxI8 a) entries = HoldsLeast (value_order a.direction) (held_value native_i8 a.extreme) (present (values_in entries))
-Stands (function.MinMaxI16 a) entries = HoldsLeast (value_order a.direction) (held_value native_i16 a.extreme) (present (values_in entries))
-Stands (function.MinMaxI32 a) entries = HoldsLeast (value_order a.direction) (held_value native_i32 a.extreme) (present (values_in entries))
-Stands (function.MinMaxI64 a) entries = HoldsLeast (value_order a.direction) (held_value native_i64 a.extreme) (present (values_in entries))
+Stands (function.MinMaxU8 a) entries = ExtremeStands native_u8 a entries
+Stands (function.MinMaxU16 a) entries = ExtremeStands native_u16 a entries
+Stands (function.MinMaxU32 a) entries = ExtremeStands native_u32 a entries
+Stands (function.MinMaxU64 a) entries = ExtremeStands native_u64 a entries
+Stands (function.MinMaxI8 a) entries = ExtremeStands native_i8 a entries
+Stands (function.MinMaxI16 a) entries = ExtremeStands native_i16 a entries
+Stands (function.MinMaxI32 a) entries = ExtremeStands native_i32 a entries
+Stands (function.MinMaxI64 a) entries = ExtremeStands native_i64 a entries
 
 -- no place stands twice in a list
 abbrev pub DistinctPlaces : List (Place × AnyValue) → Type 0

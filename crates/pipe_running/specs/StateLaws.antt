@@ -8,7 +8,8 @@ use Rattle.pipe_running.specs.States.{after_value, seen, takes}
 use Rattle.pipe_running.specs.TransitionLaws.{count_by_one, none_by_one}
 
 -- a count grows by one at most
-pub function_by_one : (p : Place) (v : AnyValue) (f : AggregateFunction) → seen (after_value p v f) ≤ seen f + 1
+pub function_by_one : (p : Place) (v : AnyValue) (f : AggregateFunction)
+    → seen (after_value p v f) ≤ seen f + 1
 function_by_one p v (function.First a) = none_by_one
 function_by_one p v (function.Last a) = none_by_one
 function_by_one p v (function.Count a) = count_by_one false v a.count
@@ -29,7 +30,8 @@ function_by_one p v (function.MinMaxI32 a) = none_by_one
 function_by_one p v (function.MinMaxI64 a) = none_by_one
 
 -- what a running aggregate takes stays
-pub function_takes_alike : (p : Place) (v w : AnyValue) (f : AggregateFunction) → takes (after_value p v f) w ≡ takes f w
+pub function_takes_alike : (p : Place) (v w : AnyValue) (f : AggregateFunction)
+    → takes (after_value p v f) w ≡ takes f w
 function_takes_alike p v w (function.First a) = refl
 function_takes_alike p v w (function.Last a) = refl
 function_takes_alike p v w (function.Count a) = refl

@@ -1,4 +1,4 @@
--- A running aggregate of any kind: what a value or another one makes of it, and what it gives in the end.
+-- A running aggregate of any kind: what a value or another one makes of it, and what it gives.
 use Rattle.std.specs.Prelude.{ℕ, ◌+◌, pos, Bool, true, false, List, [], ◌∷◌, fold}
 use Rattle.pipe_columns.specs.declared.any_value.AnyValue.{AnyValue}
 use Rattle.pipe_columns.specs.declared.any_value.AnyValue.TheVariants as av
@@ -6,6 +6,7 @@ use Rattle.pipe_columns.specs.declared.data_type.DataType.{DataType}
 use Rattle.pipe_columns.specs.declared.data_type.DataType.TheVariants as dt
 use Rattle.pipe_columns.specs.declared.place.Place.{Place}
 use Rattle.pipe_columns.specs.AnyValue.{fits}
+use Rattle.pipe_native.specs.Native.{native_i8, native_i16, native_i32, native_i64, native_u8, native_u16, native_u32, native_u64}
 use Rattle.pipe_running.specs.declared.interface.Finalized.{Finalized}
 use Rattle.pipe_running.specs.declared.interface.Finalized.TheVariants as finalized
 use Rattle.pipe_running.specs.declared.min_max.Direction.{Direction}
@@ -16,7 +17,6 @@ use Rattle.pipe_running.specs.Aggregate.{counted, entry_value}
 use Rattle.pipe_running.specs.Kind.{Kind}
 use Rattle.pipe_running.specs.Kind as kind
 use Rattle.pipe_running.specs.Mean.{is_short}
-use Rattle.pipe_running.specs.Native.{native_i8, native_i16, native_i32, native_i64, native_u8, native_u16, native_u32, native_u64}
 use Rattle.pipe_running.specs.Transitions.{count_after, empty_count, empty_extreme, empty_first, empty_last, empty_mean, empty_sum, extreme_after, extreme_value, extremes_joined, first_after, firsts_joined, last_after, lasts_joined, mean_after, mean_given, means_joined, same_direction, sum_state_after, sums_joined}
 
 -- the kind of a minimum or a maximum
@@ -99,14 +99,22 @@ joined (function.SumI32 a) (function.SumI32 b) = function.SumI32 (sums_joined na
 joined (function.SumI64 a) (function.SumI64 b) = function.SumI64 (sums_joined native_i64 a b)
 joined (function.Mean a) (function.Mean b) = function.Mean (means_joined a b)
 joined (function.Null a) (function.Null b) = function.Null a
-joined (function.MinMaxU8 a) (function.MinMaxU8 b) = function.MinMaxU8 (extremes_joined native_u8 a b)
-joined (function.MinMaxU16 a) (function.MinMaxU16 b) = function.MinMaxU16 (extremes_joined native_u16 a b)
-joined (function.MinMaxU32 a) (function.MinMaxU32 b) = function.MinMaxU32 (extremes_joined native_u32 a b)
-joined (function.MinMaxU64 a) (function.MinMaxU64 b) = function.MinMaxU64 (extremes_joined native_u64 a b)
-joined (function.MinMaxI8 a) (function.MinMaxI8 b) = function.MinMaxI8 (extremes_joined native_i8 a b)
-joined (function.MinMaxI16 a) (function.MinMaxI16 b) = function.MinMaxI16 (extremes_joined native_i16 a b)
-joined (function.MinMaxI32 a) (function.MinMaxI32 b) = function.MinMaxI32 (extremes_joined native_i32 a b)
-joined (function.MinMaxI64 a) (function.MinMaxI64 b) = function.MinMaxI64 (extremes_joined native_i64 a b)
+joined (function.MinMaxU8 a) (function.MinMaxU8 b) =
+    function.MinMaxU8 (extremes_joined native_u8 a b)
+joined (function.MinMaxU16 a) (function.MinMaxU16 b) =
+    function.MinMaxU16 (extremes_joined native_u16 a b)
+joined (function.MinMaxU32 a) (function.MinMaxU32 b) =
+    function.MinMaxU32 (extremes_joined native_u32 a b)
+joined (function.MinMaxU64 a) (function.MinMaxU64 b) =
+    function.MinMaxU64 (extremes_joined native_u64 a b)
+joined (function.MinMaxI8 a) (function.MinMaxI8 b) =
+    function.MinMaxI8 (extremes_joined native_i8 a b)
+joined (function.MinMaxI16 a) (function.MinMaxI16 b) =
+    function.MinMaxI16 (extremes_joined native_i16 a b)
+joined (function.MinMaxI32 a) (function.MinMaxI32 b) =
+    function.MinMaxI32 (extremes_joined native_i32 a b)
+joined (function.MinMaxI64 a) (function.MinMaxI64 b) =
+    function.MinMaxI64 (extremes_joined native_i64 a b)
 joined a b = a
 
 -- whether two running aggregates are of one kind

@@ -6,7 +6,8 @@ use Rattle.pipe_columns.specs.declared.any_value.AnyValue.TheVariants as av
 use Rattle.pipe_running.specs.Transitions.{count_after}
 
 -- a count grows by one at most
-pub count_by_one : (include_null : Bool) (v : AnyValue) (n : ℕ) → count_after include_null v n ≤ n + 1
+pub count_by_one : (include_null : Bool) (v : AnyValue) (n : ℕ)
+    → count_after include_null v n ≤ n + 1
 count_by_one true v n = omega arith
 count_by_one false av.Null n = omega arith
 count_by_one false (av.Boolean b) n = omega arith

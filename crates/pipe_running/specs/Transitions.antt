@@ -7,6 +7,7 @@ use Rattle.pipe_columns.specs.declared.any_value.AnyValue.TheVariants as av
 use Rattle.pipe_columns.specs.declared.data_type.DataType.{DataType}
 use Rattle.pipe_columns.specs.declared.place.Place.{Place}
 use Rattle.pipe_columns.specs.AnyValue.{is_null}
+use Rattle.pipe_native.specs.Native.{Native}
 use Rattle.pipe_running.specs.declared.interface.Finalized.{Finalized}
 use Rattle.pipe_running.specs.declared.interface.Finalized.TheVariants as finalized
 use Rattle.pipe_running.specs.declared.count.CountAgg.{CountAgg}
@@ -18,7 +19,6 @@ use Rattle.pipe_running.specs.declared.min_max.MinMaxAgg.{MinMaxAgg}
 use Rattle.pipe_running.specs.declared.sum.SumAgg.{SumAgg}
 use Rattle.pipe_running.specs.Aggregate.{addend, counted}
 use Rattle.pipe_running.specs.Mean.{MeanState}
-use Rattle.pipe_running.specs.Native.{Native}
 use Rattle.pipe_running.specs.Pick.{earlier_place, later_place, least, lesser}
 
 -- ---- counts
@@ -50,7 +50,10 @@ sum_state_after k v s = record { sum = sum_after k v s.sum; came = s.came || not
 
 -- two sums together
 abbrev pub sums_joined : {K : Type 0} → Native K → SumAgg K → SumAgg K → SumAgg K
-sums_joined k a b = record { sum = k.wrap (k.number a.sum +ℤ k.number b.sum); came = a.came || b.came }
+sums_joined k a b = record {
+  sum = k.wrap (k.number a.sum +ℤ k.number b.sum);
+  came = a.came || b.came;
+}
 
 -- ---- means
 
@@ -95,12 +98,18 @@ empty_extreme d = record { direction = d; extreme = None }
 abbrev pub extreme_after : {K : Type 0} → Native K → AnyValue → MinMaxAgg K → MinMaxAgg K
 extreme_after k av.Null s = s
 extreme_after k (av.Boolean b) s = s
-extreme_after k (av.Int n) s = record { direction = s.direction; extreme = Some (lesser (native_order k s.direction) (k.wrap n) s.extreme) }
+extreme_after k (av.Int n) s = record {
+  direction = s.direction;
+  extreme = Some (lesser (native_order k s.direction) (k.wrap n) s.extreme);
+}
 extreme_after k (av.Text t) s = s
 
 -- two minimums or maximums together
 abbrev pub extremes_joined : {K : Type 0} → Native K → MinMaxAgg K → MinMaxAgg K → MinMaxAgg K
-extremes_joined k a b = record { direction = a.direction; extreme = least (native_order k a.direction) b.extreme a.extreme }
+extremes_joined k a b = record {
+  direction = a.direction;
+  extreme = least (native_order k a.direction) b.extreme a.extreme;
+}
 
 -- the least or greatest number as a value, null for none
 abbrev pub extreme_value : {K : Type 0} → Native K → Option K → AnyValue

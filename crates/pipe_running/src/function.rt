@@ -180,50 +180,24 @@ impl AggregateFn for AggregateFunction {
 
     fn combine(&mut self, other: AggregateFunction) {
         match (self, other) {
-            (AggregateFunction::First(state), AggregateFunction::First(other)) => state.combine(
-                other,
-            ),
-            (AggregateFunction::Last(state), AggregateFunction::Last(other)) => state.combine(
-                other,
-            ),
-            (AggregateFunction::Count(state), AggregateFunction::Count(other)) => state.combine(
-                other,
-            ),
-            (AggregateFunction::Len(state), AggregateFunction::Len(other)) => state.combine(other),
-            (AggregateFunction::SumU32(state), AggregateFunction::SumU32(other)) => state.combine(
-                other,
-            ),
-            (AggregateFunction::SumU64(state), AggregateFunction::SumU64(other)) => state.combine(
-                other,
-            ),
-            (AggregateFunction::SumI32(state), AggregateFunction::SumI32(other)) => state.combine(
-                other,
-            ),
-            (AggregateFunction::SumI64(state), AggregateFunction::SumI64(other)) => state.combine(
-                other,
-            ),
-            (AggregateFunction::Mean(state), AggregateFunction::Mean(other)) => state.combine(
-                other,
-            ),
-            (AggregateFunction::Null(state), AggregateFunction::Null(other)) => state.combine(
-                other,
-            ),
-            (AggregateFunction::MinMaxU8(state), AggregateFunction::MinMaxU8(other)) =>
-                state.combine(other),
-            (AggregateFunction::MinMaxU16(state), AggregateFunction::MinMaxU16(other)) =>
-                state.combine(other),
-            (AggregateFunction::MinMaxU32(state), AggregateFunction::MinMaxU32(other)) =>
-                state.combine(other),
-            (AggregateFunction::MinMaxU64(state), AggregateFunction::MinMaxU64(other)) =>
-                state.combine(other),
-            (AggregateFunction::MinMaxI8(state), AggregateFunction::MinMaxI8(other)) =>
-                state.combine(other),
-            (AggregateFunction::MinMaxI16(state), AggregateFunction::MinMaxI16(other)) =>
-                state.combine(other),
-            (AggregateFunction::MinMaxI32(state), AggregateFunction::MinMaxI32(other)) =>
-                state.combine(other),
-            (AggregateFunction::MinMaxI64(state), AggregateFunction::MinMaxI64(other)) =>
-                state.combine(other),
+            (Self::First(state), Self::First(other)) => state.combine(other),
+            (Self::Last(state), Self::Last(other)) => state.combine(other),
+            (Self::Count(state), Self::Count(other)) => state.combine(other),
+            (Self::Len(state), Self::Len(other)) => state.combine(other),
+            (Self::SumU32(state), Self::SumU32(other)) => state.combine(other),
+            (Self::SumU64(state), Self::SumU64(other)) => state.combine(other),
+            (Self::SumI32(state), Self::SumI32(other)) => state.combine(other),
+            (Self::SumI64(state), Self::SumI64(other)) => state.combine(other),
+            (Self::Mean(state), Self::Mean(other)) => state.combine(other),
+            (Self::Null(state), Self::Null(other)) => state.combine(other),
+            (Self::MinMaxU8(state), Self::MinMaxU8(other)) => state.combine(other),
+            (Self::MinMaxU16(state), Self::MinMaxU16(other)) => state.combine(other),
+            (Self::MinMaxU32(state), Self::MinMaxU32(other)) => state.combine(other),
+            (Self::MinMaxU64(state), Self::MinMaxU64(other)) => state.combine(other),
+            (Self::MinMaxI8(state), Self::MinMaxI8(other)) => state.combine(other),
+            (Self::MinMaxI16(state), Self::MinMaxI16(other)) => state.combine(other),
+            (Self::MinMaxI32(state), Self::MinMaxI32(other)) => state.combine(other),
+            (Self::MinMaxI64(state), Self::MinMaxI64(other)) => state.combine(other),
             _ => unreachable!(),
         }
     }

@@ -87,7 +87,9 @@ pub trait AggregateFn {
         ensures given { result ≡ given self.old }
         ensures fresh { self.new ≡ fresh self.old };
 
-    ghost seen_by_one: { (p : Place) (v : AnyValue) (s : Self) → seen (after_value p v s) ≤ seen s + 1 };
+    ghost seen_by_one: { (p : Place) (v : AnyValue) (s : Self)
+        → seen (after_value p v s) ≤ seen s + 1 };
 
-    ghost takes_alike: { (p : Place) (v w : AnyValue) (s : Self) → takes (after_value p v s) w ≡ takes s w };
+    ghost takes_alike: { (p : Place) (v w : AnyValue) (s : Self)
+        → takes (after_value p v s) w ≡ takes s w };
 }

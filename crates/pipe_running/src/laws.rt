@@ -21,9 +21,11 @@ ghost use Rattle.pipe_running.specs.States.{after_entries, after_value, alike, f
 /// states that are joined.
 pub fn what_calls_keep()
     ensures fresh { (f : AggregateFunction) → Stands (fresh f) [] }
-    ensures value { (f : AggregateFunction) (entries : List (Place × AnyValue)) (p : Place) (v : AnyValue)
-        → takes f v ≡ true → Stands f entries → Stands (after_value p v f) (entries ++ (p, v) ∷ []) }
-    ensures run { (f : AggregateFunction) (entries : List (Place × AnyValue)) (chunk row : ℕ) (values : List AnyValue)
+    ensures value { (f : AggregateFunction) (entries : List (Place × AnyValue))
+        (p : Place) (v : AnyValue) → takes f v ≡ true → Stands f entries
+        → Stands (after_value p v f) (entries ++ (p, v) ∷ []) }
+    ensures run { (f : AggregateFunction) (entries : List (Place × AnyValue))
+        (chunk row : ℕ) (values : List AnyValue)
         → list_all (λ v. takes f v) values ≡ true → Stands f entries
         → Stands (after_run after_value chunk row values f) (entries ++ placed chunk row values) }
     ensures joined { (f g : AggregateFunction) (xs ys : List (Place × AnyValue))
@@ -38,7 +40,8 @@ pub fn what_calls_keep()
 /// A running aggregate stays of its kind, whatever it takes.
 pub fn what_stays()
     ensures fresh { (f : AggregateFunction) → SameKind f (fresh f) }
-    ensures value { (f : AggregateFunction) (p : Place) (v : AnyValue) → SameKind f (after_value p v f) }
+    ensures value { (f : AggregateFunction) (p : Place) (v : AnyValue)
+        → SameKind f (after_value p v f) }
     ensures joined { (f g : AggregateFunction) → SameKind f (joined f g) }
 {}
 
@@ -68,7 +71,8 @@ pub fn entries_one_by_one()
         → FitTypes (output_values (given (after_entries entries (fresh f)))) (given_types f) }
 {}
 
-/// States over disjoint places merge in any order, and a fresh one changes nothing of what is given.
+/// States over disjoint places merge in any order, and a fresh one changes nothing of what is
+/// given.
 pub fn how_states_merge()
     ensures commute { (f g : AggregateFunction) (xs ys : List (Place × AnyValue))
         → alike f g ≡ true → Stands f xs → Stands g ys → DistinctPlaces (xs ++ ys)

@@ -9,7 +9,6 @@ mod last;
 mod laws;
 mod mean;
 mod min_max;
-mod native;
 mod null;
 mod sum;
 
@@ -20,8 +19,8 @@ pub use interface::{AggregateFn, Finalized};
 pub use last::LastAgg;
 pub use mean::MeanAgg;
 pub use min_max::{Direction, MinMaxAgg};
-pub use native::NumericNative;
 pub use null::NullAgg;
+pub use pipe_native::NumericNative;
 pub use sum::SumAgg;
 
 #[cfg(test)]

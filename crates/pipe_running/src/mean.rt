@@ -2,8 +2,8 @@ ghost use Rattle.std.specs.Prelude.{◌≡◌, true, false, refl};
 ghost use Rattle.pipe_running.specs.Aggregate.{addend};
 
 use crate::interface::{AggregateFn, Finalized};
-use crate::native::NumericNative;
 use pipe_columns::{AnyValue, DataType, Place};
+use pipe_native::NumericNative;
 use std::marker::Model;
 use std::mem;
 

@@ -4,8 +4,8 @@ ghost use Rattle.pipe_columns.specs.AnyValue.{fits};
 ghost use Rattle.pipe_running.specs.declared.interface.Finalized.TheVariants as finalized;
 
 use crate::interface::{AggregateFn, Finalized};
-use crate::native::NumericNative;
 use pipe_columns::{AnyValue, DataType, Place};
+use pipe_native::NumericNative;
 use std::cmp::Ordering;
 
 /// Whether the least or the greatest value is wanted.

@@ -5,8 +5,8 @@ ghost use Rattle.pipe_running.specs.Transitions.{empty_sum, sum_after, sum_state
 ghost use Rattle.pipe_running.specs.TransitionLaws.{none_by_one};
 
 use crate::interface::{AggregateFn, Finalized};
-use crate::native::NumericNative;
 use pipe_columns::{AnyValue, DataType, Place};
+use pipe_native::NumericNative;
 use std::mem;
 
 /// A running sum, wrapped into the type of its numbers, and whether a value came.

@@ -154,74 +154,60 @@ fn edges(least: i128, greatest: i128) -> [AnyValue; 5] {
     [int(1), AnyValue::Null, int(greatest), int(least), int(0)]
 }
 
+/// Whether a minimum and a maximum give the edges of their number type.
+fn gives_edges(
+    alloc: Global,
+    minimum: AggregateFunction,
+    maximum: AggregateFunction,
+    least: i128,
+    greatest: i128,
+) -> Result<bool, AllocError> {
+    let values = edges(least, greatest);
+    Ok(
+        always_gives(alloc, minimum, &values, one(least))?
+            && always_gives(alloc, maximum, &values, one(greatest))?,
+    )
+}
+
 #[test]
-fn least_and_greatest(rt: HostRuntime) -> Result<(), Fail> {
+fn unsigned_extremes(rt: HostRuntime) -> Result<(), Fail> {
     let alloc = rt.alloc();
-    let least = AggregateFunction::MinMaxU8(MinMaxAgg::new(Direction::Min));
-    assert!(rt; always_gives(alloc, least, &edges(0, 255), one(0))?);
-    let greatest = AggregateFunction::MinMaxU8(MinMaxAgg::new(Direction::Max));
-    assert!(rt; always_gives(alloc, greatest, &edges(0, 255), one(255))?);
-    let least = AggregateFunction::MinMaxU16(MinMaxAgg::new(Direction::Min));
-    assert!(rt; always_gives(alloc, least, &edges(0, 65535), one(0))?);
-    let greatest = AggregateFunction::MinMaxU16(MinMaxAgg::new(Direction::Max));
-    assert!(rt; always_gives(alloc, greatest, &edges(0, 65535), one(65535))?);
-    let least = AggregateFunction::MinMaxU32(MinMaxAgg::new(Direction::Min));
-    assert!(rt; always_gives(alloc, least, &edges(0, 4294967295), one(0))?);
-    let greatest = AggregateFunction::MinMaxU32(MinMaxAgg::new(Direction::Max));
-    assert!(rt; always_gives(alloc, greatest, &edges(0, 4294967295), one(4294967295))?);
-    let least = AggregateFunction::MinMaxU64(MinMaxAgg::new(Direction::Min));
-    assert!(rt; always_gives(alloc, least, &edges(0, 18446744073709551615), one(0))?);
-    let greatest = AggregateFunction::MinMaxU64(MinMaxAgg::new(Direction::Max));
+    let minimum = AggregateFunction::MinMaxU8(MinMaxAgg::new(Direction::Min));
+    let maximum = AggregateFunction::MinMaxU8(MinMaxAgg::new(Direction::Max));
+    assert!(rt; gives_edges(alloc, minimum, maximum, 0, 255)?);
+    let minimum = AggregateFunction::MinMaxU16(MinMaxAgg::new(Direction::Min));
+    let maximum = AggregateFunction::MinMaxU16(MinMaxAgg::new(Direction::Max));
+    assert!(rt; gives_edges(alloc, minimum, maximum, 0, 65535)?);
+    let minimum = AggregateFunction::MinMaxU32(MinMaxAgg::new(Direction::Min));
+    let maximum = AggregateFunction::MinMaxU32(MinMaxAgg::new(Direction::Max));
+    assert!(rt; gives_edges(alloc, minimum, maximum, 0, 4294967295)?);
+    let minimum = AggregateFunction::MinMaxU64(MinMaxAgg::new(Direction::Min));
+    let maximum = AggregateFunction::MinMaxU64(MinMaxAgg::new(Direction::Max));
+    assert!(rt; gives_edges(alloc, minimum, maximum, 0, 18446744073709551615)?);
+    Ok(())
+}
+
+#[test]
+fn signed_extremes(rt: HostRuntime) -> Result<(), Fail> {
+    let alloc = rt.alloc();
+    let minimum = AggregateFunction::MinMaxI8(MinMaxAgg::new(Direction::Min));
+    let maximum = AggregateFunction::MinMaxI8(MinMaxAgg::new(Direction::Max));
+    assert!(rt; gives_edges(alloc, minimum, maximum, -128, 127)?);
+    let minimum = AggregateFunction::MinMaxI16(MinMaxAgg::new(Direction::Min));
+    let maximum = AggregateFunction::MinMaxI16(MinMaxAgg::new(Direction::Max));
+    assert!(rt; gives_edges(alloc, minimum, maximum, -32768, 32767)?);
+    let minimum = AggregateFunction::MinMaxI32(MinMaxAgg::new(Direction::Min));
+    let maximum = AggregateFunction::MinMaxI32(MinMaxAgg::new(Direction::Max));
+    assert!(rt; gives_edges(alloc, minimum, maximum, -2147483648, 2147483647)?);
+    let minimum = AggregateFunction::MinMaxI64(MinMaxAgg::new(Direction::Min));
+    let maximum = AggregateFunction::MinMaxI64(MinMaxAgg::new(Direction::Max));
     assert!(rt;
-        always_gives(
+        gives_edges(
             alloc,
-            greatest,
-            &edges(0, 18446744073709551615),
-            one(18446744073709551615)
-        )?
-    );
-    let least = AggregateFunction::MinMaxI8(MinMaxAgg::new(Direction::Min));
-    assert!(rt; always_gives(alloc, least, &edges(-128, 127), one(-128))?);
-    let greatest = AggregateFunction::MinMaxI8(MinMaxAgg::new(Direction::Max));
-    assert!(rt; always_gives(alloc, greatest, &edges(-128, 127), one(127))?);
-    let least = AggregateFunction::MinMaxI16(MinMaxAgg::new(Direction::Min));
-    assert!(rt; always_gives(alloc, least, &edges(-32768, 32767), one(-32768))?);
-    let greatest = AggregateFunction::MinMaxI16(MinMaxAgg::new(Direction::Max));
-    assert!(rt; always_gives(alloc, greatest, &edges(-32768, 32767), one(32767))?);
-    let least = AggregateFunction::MinMaxI32(MinMaxAgg::new(Direction::Min));
-    assert!(rt;
-        always_gives(
-            alloc,
-            least,
-            &edges(-2147483648, 2147483647),
-            one(-2147483648)
-        )?
-    );
-    let greatest = AggregateFunction::MinMaxI32(MinMaxAgg::new(Direction::Max));
-    assert!(rt;
-        always_gives(
-            alloc,
-            greatest,
-            &edges(-2147483648, 2147483647),
-            one(2147483647)
-        )?
-    );
-    let least = AggregateFunction::MinMaxI64(MinMaxAgg::new(Direction::Min));
-    assert!(rt;
-        always_gives(
-            alloc,
-            least,
-            &edges(-9223372036854775808, 9223372036854775807),
-            one(-9223372036854775808)
-        )?
-    );
-    let greatest = AggregateFunction::MinMaxI64(MinMaxAgg::new(Direction::Max));
-    assert!(rt;
-        always_gives(
-            alloc,
-            greatest,
-            &edges(-9223372036854775808, 9223372036854775807),
-            one(9223372036854775807)
+            minimum,
+            maximum,
+            -9223372036854775808,
+            9223372036854775807
         )?
     );
     let none = AggregateFunction::MinMaxI64(MinMaxAgg::new(Direction::Min));

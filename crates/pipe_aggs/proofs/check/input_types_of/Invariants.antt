@@ -1,7 +1,7 @@
 use Rattle.std.proofs.Common.{◌≡◌, take, map}
 use Rattle.pipe_aggs.specs.Output.{input_type}
 use Rattle.pipe_aggs.specs.QueryTrees.{agg_tree}
-use Rattle.pipe_aggs.specs.Trees.{tree}
+use Rattle.pipe_exprs.specs.Trees.{tree}
 use Rattle.pipe_aggs.proofs.check.input_types_of.Given as goal
 
 -- the types of what the aggregates so far are fed

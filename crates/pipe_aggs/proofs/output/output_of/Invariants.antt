@@ -1,7 +1,7 @@
 use Rattle.std.proofs.Common.{◌≡◌, ◌++◌, take, map}
 use Rattle.std.specs.List.{flat_map}
 use Rattle.pipe_aggs.specs.KnownArena.{agg_columns, key_field}
-use Rattle.pipe_aggs.specs.Trees.{tree}
+use Rattle.pipe_exprs.specs.Trees.{tree}
 use Rattle.pipe_aggs.proofs.output.output_of.Given as goal
 
 -- the fields of the keys so far

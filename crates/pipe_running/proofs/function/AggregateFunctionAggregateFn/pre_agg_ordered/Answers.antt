@@ -1,6 +1,6 @@
 use Rattle.std.proofs.Common.{refl, true, false}
+use Rattle.pipe_native.specs.Native.{native_i8, native_i16, native_i32, native_i64, native_u8, native_u16, native_u32, native_u64}
 use Rattle.pipe_running.specs.declared.function.AggregateFunction.TheVariants as function
-use Rattle.pipe_running.specs.Native.{native_i8, native_i16, native_i32, native_i64, native_u8, native_u16, native_u32, native_u64}
 use Rattle.pipe_running.specs.States.{after_value}
 use Rattle.pipe_running.specs.Transitions.{count_after, extreme_after, first_after, last_after, mean_after, sum_state_after}
 use Rattle.pipe_running.proofs.RunFacts.{run-within}

@@ -1,0 +1,28 @@
+-- What a query without fault has: values in each row, of types that its aggregates take.
+use Rattle.std.specs.Prelude.{◌≡◌, ◌&&◌, Bool, true, List, is_some}
+use Rattle.std.specs.List.{list_all}
+use Rattle.pipe_columns.specs.declared.schema.Field.{Field}
+use Rattle.pipe_exprs.specs.Expr.{Expr}
+use Rattle.pipe_aggs.specs.HashAggs.{suited}
+use Rattle.pipe_aggs.specs.Output.{input_type}
+use Rattle.pipe_aggs.specs.Query.{AggTree, each, Input, QueryTree, rows_alone}
+use Rattle.pipe_exprs.specs.Typing.{is_row_wise, type_of}
+
+-- whether an expression has a value in each row, of a type
+abbrev pub is_valued : List Field → Expr → Bool
+is_valued schema e = is_row_wise e && is_some (type_of e schema)
+
+-- whether what an aggregate is fed has a value in each row; rows alone need none
+abbrev pub is_fed : List Field → Input → Bool
+is_fed schema (each e) = is_valued schema e
+is_fed schema rows_alone = true
+
+-- whether a table of groups can keep an aggregate
+abbrev pub is_suited : List Field → AggTree → Bool
+is_suited schema a = suited a.kind (input_type schema a.input)
+
+-- keys and inputs have values in each row, and a table of groups can keep the aggregates
+pub record IsGroupable (q : QueryTree) : Type 0 where
+  pub keys : list_all (is_valued q.schema) q.keys ≡ true
+  pub inputs : list_all (λ a. is_fed q.schema a.input) q.aggs ≡ true
+  pub aggs : list_all (is_suited q.schema) q.aggs ≡ true

@@ -1,0 +1,58 @@
+// Calls that want memory: `rt try --test --fail-alloc N` refuses the allocation of number N.
+
+use crate::known::Known;
+use crate::tests::{arena_of, query_of, schema_of};
+use crate::{AggregateFunction, Arena, CheckError, HashAgg, Node, convert_to_hash_agg};
+use pipe_columns::{DataType, Schema};
+use std::alloc::{AllocError, Global};
+use std::test::Fail;
+
+/// The aggregate that a node is, where a table of groups can keep it.
+fn converted(
+    alloc: Global,
+    arena: &Arena,
+    node: usize,
+    schema: &Schema,
+) -> Result<Result<HashAgg, AllocError>, Fail> {
+    if node >= arena.len() {
+        return Err("no node".into());
+    }
+    let node = Node(node);
+    let known = Known::new(alloc, arena, schema)?;
+    if known.facts(node).dtype.is_none() || known.adds_dates(node) || !known.is_convertible(node) {
+        return Err("not kept".into());
+    }
+    Ok(convert_to_hash_agg(alloc, node, arena, schema))
+}
+
+#[test]
+fn memory_for_a_hash_aggregate(rt: HostRuntime) -> Result<(), Fail> {
+    let alloc = rt.alloc();
+    let arena = arena_of(alloc)?;
+    let schema = schema_of(alloc, None)?;
+    let agg = match converted(alloc, &arena, 6, &schema)? {
+        Ok(agg) => agg,
+        Err(AllocError) => return Err("the aggregate wants memory".into()),
+    };
+    assert_eq!(rt; agg.input_dtype, DataType::Int8);
+    match agg.function {
+        AggregateFunction::SumI64(_) => Ok(()),
+        _ => Err("no sum".into()),
+    }
+}
+
+#[test]
+fn memory_for_a_check(rt: HostRuntime) -> Result<(), Fail> {
+    let alloc = rt.alloc();
+    let query = query_of(alloc, &[0], &[6, 20, 15])?;
+    match query.check(alloc) {
+        Ok(checked) => {
+            assert_eq!(rt; checked.output_schema().fields().len(), 5);
+            assert_eq!(rt; checked.inputs().len(), 3);
+            assert_eq!(rt; checked.prototypes().len(), 3);
+            Ok(())
+        }
+        Err(CheckError::Memory) => Err("the check wants memory".into()),
+        Err(CheckError::Fault(_)) => Err("a fault".into()),
+    }
+}

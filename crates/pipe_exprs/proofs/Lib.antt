@@ -1,0 +1,11 @@
+pub mod ArenaFacts
+pub mod RowFacts
+pub mod NumberFacts
+pub mod TreeFacts
+pub mod FitFacts
+pub mod UseFacts
+pub mod OperandFacts
+pub mod ReachFacts
+pub mod PassFacts
+pub mod NameFacts
+pub mod SortedFacts

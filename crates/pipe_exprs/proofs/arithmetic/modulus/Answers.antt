@@ -1,0 +1,8 @@
+use Rattle.std.proofs.Common.{rules}
+use Rattle.pipe_exprs.proofs.NumberFacts.{modulus_is}
+use Rattle.pipe_exprs.proofs.arithmetic.modulus.Goals as goal
+
+pub returns-else-b-gt0 : goal.returns-else-b-gt0
+returns-else-b-gt0 c =
+    modulus_is c.args.dtype c.args.a c.args.b c.rem_euclid-else-b-gt0.result c.wrapped_into-else-b-gt0.result c.requires.short_a c.requires.short_b c.if-b-eq0.false c.if-b-gt0.false
+    c.rem_euclid-else-b-gt0.ensures.upper_bound c.rem_euclid-else-b-gt0.ensures.value (search rules) c.wrapped_into-else-b-gt0.ensures

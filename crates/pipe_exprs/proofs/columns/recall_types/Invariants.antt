@@ -1,0 +1,7 @@
+use Rattle.std.proofs.Common.{take}
+use Rattle.pipe_exprs.specs.Operands.{ColumnsFit}
+use Rattle.pipe_exprs.proofs.columns.recall_types.Given as goal
+
+-- the values of the columns so far fit
+abbrev pub invariant-loop-column : goal.invariant-loop-column
+invariant-loop-column l = ColumnsFit (take l.column-index l.columns)

@@ -1,0 +1,161 @@
+-- The type of an expression.
+use Rattle.std.specs.Prelude.{ℕ, ◌==◌, Bool, true, false, not, ◌&&◌, ◌||◌, List, Option, Some, None, option_map, option_and_then, if◌then◌else◌, is_some, unwrap_or}
+use Rattle.std.specs.List.{find}
+use Rattle.std.specs.Str.{bytes_eq}
+use Rattle.pipe_columns.specs.declared.data_type.DataType.{DataType}
+use Rattle.pipe_columns.specs.declared.data_type.DataType.TheVariants as dt
+use Rattle.pipe_columns.specs.declared.schema.Field.{Field}
+use Rattle.pipe_columns.specs.AnyValue.{fits, is_boolean}
+use Rattle.pipe_running.specs.Aggregate.{sum_type}
+use Rattle.pipe_exprs.specs.declared.operator.Operator.{Operator}
+use Rattle.pipe_exprs.specs.declared.operator.Operator.TheVariants as op
+use Rattle.pipe_exprs.specs.Expr.{Aggregation, Expr}
+use Rattle.pipe_exprs.specs.Expr as expr
+
+-- the first field of a name
+abbrev pub field_named : List ℕ → List Field → Option Field
+field_named name fields = find (λ f. bytes_eq f.name name) fields
+
+-- the types in their order
+abbrev pub type_number : DataType → ℕ
+type_number dt.Boolean = 0
+type_number dt.Int8 = 1
+type_number dt.Int16 = 2
+type_number dt.Int32 = 3
+type_number dt.Int64 = 4
+type_number dt.UInt8 = 5
+type_number dt.UInt16 = 6
+type_number dt.UInt32 = 7
+type_number dt.UInt64 = 8
+type_number dt.Int128 = 9
+type_number dt.Date = 10
+type_number dt.String = 11
+
+abbrev pub same_type : DataType → DataType → Bool
+same_type a b = type_number a == type_number b
+
+-- the types whose values are whole numbers of up to 64 bits
+abbrev pub is_integer : DataType → Bool
+is_integer dt.Boolean = false
+is_integer dt.Int8 = true
+is_integer dt.Int16 = true
+is_integer dt.Int32 = true
+is_integer dt.Int64 = true
+is_integer dt.UInt8 = true
+is_integer dt.UInt16 = true
+is_integer dt.UInt32 = true
+is_integer dt.UInt64 = true
+is_integer dt.Int128 = false
+is_integer dt.Date = false
+is_integer dt.String = false
+
+abbrev pub is_date : DataType → Bool
+is_date t = same_type t dt.Date
+
+-- the types of inputs: all but Int128
+abbrev pub is_input : DataType → Bool
+is_input t = not (same_type t dt.Int128)
+
+-- the types that a cast takes and gives
+abbrev pub is_castable : DataType → Bool
+is_castable t = is_integer t || is_boolean t || is_date t
+
+-- a type that meets a test
+abbrev pub type_if : (DataType → Bool) → DataType → Option DataType
+type_if test t = if test t then Some t else None
+
+-- the type of two operands of one type that meets a test
+abbrev pub shared_type : (DataType → Bool) → DataType → DataType → Option DataType
+shared_type test a b = if same_type a b && test a then Some a else None
+
+-- the truth of a test of two operands of one type
+abbrev pub truth_type : (DataType → Bool) → DataType → DataType → Option DataType
+truth_type test a b = option_map (λ t. dt.Boolean) (shared_type test a b)
+
+-- the type of an operator's result: arithmetic is of one integer type, comparisons are of one input
+-- type, and logic of Booleans
+abbrev pub operator_type : Operator → DataType → DataType → Option DataType
+operator_type op.Plus a b = shared_type is_integer a b
+operator_type op.Minus a b = shared_type is_integer a b
+operator_type op.Multiply a b = shared_type is_integer a b
+operator_type op.FloorDivide a b = shared_type is_integer a b
+operator_type op.Modulus a b = shared_type is_integer a b
+operator_type op.Eq a b = truth_type is_input a b
+operator_type op.NotEq a b = truth_type is_input a b
+operator_type op.Lt a b = truth_type is_input a b
+operator_type op.LtEq a b = truth_type is_input a b
+operator_type op.Gt a b = truth_type is_input a b
+operator_type op.GtEq a b = truth_type is_input a b
+operator_type op.And a b = truth_type is_boolean a b
+operator_type op.Or a b = truth_type is_boolean a b
+
+-- the type of a mean: its exact sum is one of 128 bits
+abbrev pub mean_type : DataType → DataType
+mean_type t = if is_integer t || is_boolean t then dt.Int128 else t
+
+-- the type of an aggregate of values of a type
+abbrev pub aggregate_type : Aggregation → DataType → DataType
+aggregate_type expr.sum t = sum_type t
+aggregate_type expr.first t = t
+aggregate_type expr.last t = t
+aggregate_type expr.mean t = mean_type t
+aggregate_type (expr.count include_nulls) t = dt.UInt32
+aggregate_type (expr.min propagate_nans) t = t
+aggregate_type (expr.max propagate_nans) t = t
+aggregate_type expr.median t = t
+aggregate_type expr.n_unique t = dt.UInt32
+
+-- what two types make, where both are there
+abbrev pub both : (DataType → DataType → Option DataType) → Option DataType → Option DataType → Option DataType
+both f a b = option_and_then (λ t. option_and_then (λ u. f t u) b) a
+
+-- the type of what follows a Boolean
+abbrev pub where_boolean : Option DataType → Option DataType → Option DataType
+where_boolean test t = option_and_then (λ u. if is_boolean u then t else None) test
+
+-- the type of an expression over a schema, or none
+abbrev pub type_of : Expr → List Field → Option DataType
+type_of (expr.column name) schema = option_map (λ f. f.dtype) (field_named name schema)
+type_of (expr.literal t v) schema = if is_input t && fits v t then Some t else None
+type_of (expr.cast e t) schema =
+    option_and_then (λ u. if is_castable u && is_castable t then Some t else None) (type_of e schema)
+type_of (expr.binary l o r) schema = both (operator_type o) (type_of l schema) (type_of r schema)
+type_of (expr.ternary p truthy falsy) schema =
+    where_boolean (type_of p schema) (both (shared_type (λ t. true)) (type_of truthy schema) (type_of falsy schema))
+type_of (expr.alias e name) schema = type_of e schema
+type_of (expr.aggregate a e) schema =
+    option_and_then (λ t. if is_input t then Some (aggregate_type a t) else None) (type_of e schema)
+type_of expr.len schema = Some dt.UInt32
+type_of (expr.filter e by) schema = where_boolean (type_of by schema) (type_of e schema)
+type_of (expr.sort e) schema = type_of e schema
+
+-- the type of an expression that has one
+abbrev pub known_type : Expr → List Field → DataType
+known_type e schema = unwrap_or (type_of e schema) dt.UInt32
+
+-- whether each column that an expression reaches is a field
+abbrev pub knows_columns : Expr → List Field → Bool
+knows_columns (expr.column name) schema = is_some (field_named name schema)
+knows_columns (expr.literal t v) schema = true
+knows_columns (expr.cast e t) schema = knows_columns e schema
+knows_columns (expr.binary l o r) schema = knows_columns l schema && knows_columns r schema
+knows_columns (expr.ternary p truthy falsy) schema =
+    knows_columns p schema && knows_columns truthy schema && knows_columns falsy schema
+knows_columns (expr.alias e name) schema = knows_columns e schema
+knows_columns (expr.aggregate a e) schema = knows_columns e schema
+knows_columns expr.len schema = true
+knows_columns (expr.filter e by) schema = knows_columns e schema && knows_columns by schema
+knows_columns (expr.sort e) schema = knows_columns e schema
+
+-- whether an expression has a value in each row: it reaches no aggregate, count of rows, filter or sort
+abbrev pub is_row_wise : Expr → Bool
+is_row_wise (expr.column name) = true
+is_row_wise (expr.literal t v) = true
+is_row_wise (expr.cast e t) = is_row_wise e
+is_row_wise (expr.binary l o r) = is_row_wise l && is_row_wise r
+is_row_wise (expr.ternary p truthy falsy) = is_row_wise p && is_row_wise truthy && is_row_wise falsy
+is_row_wise (expr.alias e name) = is_row_wise e
+is_row_wise (expr.aggregate a e) = false
+is_row_wise expr.len = false
+is_row_wise (expr.filter e by) = false
+is_row_wise (expr.sort e) = false

@@ -1,0 +1,44 @@
+//! Expressions: their arena, their names and types, and their values in the rows of a chunk.
+#![tactic(auto)]
+
+mod arena;
+mod arithmetic;
+mod casts;
+mod columns;
+mod evaluate;
+mod expression;
+mod facts;
+mod fields;
+mod last_uses;
+mod len;
+mod logic;
+mod names;
+mod node_operand;
+mod operand;
+mod operator;
+mod operators;
+mod piped_expr;
+mod rows;
+mod types;
+mod typing;
+mod values;
+mod worked;
+
+pub use arena::{AddError, Arena};
+pub use expression::{AExpr, IRAggExpr, Node};
+pub use facts::{NodeFacts, facts_at};
+pub use fields::{TypeFault, to_field};
+pub use len::Len;
+pub use names::alias_input;
+pub use operator::Operator;
+pub use piped_expr::PipedExpr;
+pub use types::node_facts;
+pub use typing::{is_input, is_integer, sum_type};
+pub use values::Values;
+
+#[cfg(test)]
+mod cast_tests;
+#[cfg(test)]
+mod evaluate_tests;
+#[cfg(test)]
+mod operator_tests;

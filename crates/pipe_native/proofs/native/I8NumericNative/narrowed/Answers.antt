@@ -1,0 +1,7 @@
+use Rattle.std.proofs.Common.{rules}
+use Rattle.std.specs.Int.{int_wrap}
+use Rattle.pipe_native.proofs.native.I8NumericNative.narrowed.Goals as goal
+
+pub returns-in-Err : goal.returns-in-Err
+unfolding int_wrap
+returns-in-Err c = search rules

@@ -1,0 +1,10 @@
+//! The number types that running aggregates keep numbers in.
+#![tactic(auto)]
+
+mod native;
+mod worked;
+
+pub use native::NumericNative;
+
+#[cfg(test)]
+mod tests;

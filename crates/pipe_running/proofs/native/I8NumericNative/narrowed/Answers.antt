@@ -1,7 +1,0 @@
-use Rattle.std.proofs.Common.{rules}
-use Rattle.std.specs.Int.{int_wrap}
-use Rattle.pipe_running.proofs.native.I8NumericNative.narrowed.Goals as goal
-
-pub returns-in-Err : goal.returns-in-Err
-unfolding int_wrap
-returns-in-Err c = search rules
