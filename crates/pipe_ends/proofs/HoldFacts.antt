@@ -6,10 +6,10 @@ use Rattle.std.proofs.lemmas.List.{drop-set-lt, drop_more, get_or-map, length-ma
 use Rattle.pipe_columns.specs.declared.any_value.AnyValue.{AnyValue}
 use Rattle.pipe_columns.specs.declared.schema.Field.{Field}
 use Rattle.pipe_columns.specs.AnyValue.{fits}
-use Rattle.pipe_columns.specs.Frame.{AllFit, AllHaveHeight, ColumnData, value_at}
+use Rattle.pipe_columns.specs.Frame.{AllFit, AllHaveHeight, ColumnData, fields_of, value_at}
 use Rattle.pipe_ends.specs.Fields.{read_field}
 use Rattle.pipe_ends.specs.CsvChunks.{Misfit, Values}
-use Rattle.pipe_ends.specs.Columns.{DoHold, column_of, values_from}
+use Rattle.pipe_ends.specs.Columns.{DoHold, column_of, columns_of, values_from}
 use Rattle.pipe_ends.proofs.ColumnFacts.{items_of}
 use Rattle.pipe_ends.proofs.FieldFacts.{field-fits}
 
@@ -85,3 +85,9 @@ height-push n (m ∷ ms) c f values h e l = both _ _ (left _ _ h) (height-push n
   right : (a b : Bool) → (a && b) ≡ true → b ≡ true
   right true b k = k
   right false b k = cc
+
+-- columns that hold what fits have the names and the types of their fields
+pub columns-fit : (n : ℕ) (fs : List Field) (columns : List Values) → DoHold n fs columns → fields_of (columns_of fs columns) ≡ fs
+columns-fit n [] columns h = refl
+columns-fit n (f ∷ fs) [] h = absurd h
+columns-fit n (f ∷ fs) (c ∷ cs) h = ap (λ (t : List Field). f ∷ t) (columns-fit n fs cs h.2)

@@ -1,5 +1,5 @@
 -- Reading a text from its header on.
-use Rattle.std.proofs.Common.{◌≡◌, ◌∙◌, ◌≤◌, ℕ, Bool, true, List, Vec, Global, Bor, Result, Ok, Err, length, sym, ap, subst}
+use Rattle.std.proofs.Common.{◌≡◌, ◌∙◌, ◌≤◌, ℕ, Bool, true, List, Bor, Result, Ok, Err, length, sym, ap, subst}
 use Rattle.std.specs.List.{All, sum_by}
 use Rattle.std.specs.Result.{IfOk}
 use Rattle.csv.specs.Reading.{default_config, records, strip_bom}
@@ -38,24 +38,20 @@ text-read n file fs fields text before after found same names chunks h a =
     let Q : List Field → Type 0 = λ t. AllRead n t (text_rows file t text) chunks in
     subst Q h.schema (a.0, rows-after file fields text before after found same names own ∙ a.1, a.2)
 
--- what a read of the rows gives
-abbrev pub Made : Type 0
-Made = Result (Vec DataChunk Global) CsvError
-
 -- the chunks of a text have its schema
-pub text-fits : (n file : ℕ) (fs fields : List Field) (text : List ℕ) (before after : Reader (Bor (List ℕ))) (found same : Bool) (names : List (List ℕ)) (made : Made)
-    → HeaderRead file fs fields text before after found same names → IfOk made (λ v. AllRead n fields (read_rows file 1 fields (records_left after)) v.items) → IfOk made (λ v. All (λ c. FitsSchema fs c.frame) v.items)
-text-fits n file fs fields text before after found same names (Ok v) h a = read-fits n file fs (text_rows file fs text) v.items (text-read n file fs fields text before after found same names v.items h a)
-text-fits n file fs fields text before after found same names (Err e) h a = tt
+pub text-fits : {S : Type 0} (taken : S → List DataChunk) (n file : ℕ) (fs fields : List Field) (text : List ℕ) (before after : Reader (Bor (List ℕ))) (found same : Bool) (names : List (List ℕ)) (made : Result S CsvError)
+    → HeaderRead file fs fields text before after found same names → IfOk made (λ v. AllRead n fields (read_rows file 1 fields (records_left after)) (taken v)) → IfOk made (λ v. All (λ c. FitsSchema fs c.frame) (taken v))
+text-fits taken n file fs fields text before after found same names (Ok v) h a = read-fits n file fs (text_rows file fs text) (taken v) (text-read n file fs fields text before after found same names (taken v) h a)
+text-fits taken n file fs fields text before after found same names (Err e) h a = tt
 
 -- the chunks of a text have no more rows than it has bytes
-pub text-few : (n file : ℕ) (fs fields : List Field) (text : List ℕ) (before after : Reader (Bor (List ℕ))) (found same : Bool) (names : List (List ℕ)) (made : Made)
-    → HeaderRead file fs fields text before after found same names → IfOk made (λ v. AllRead n fields (read_rows file 1 fields (records_left after)) v.items) → IfOk made (λ v. sum_by (λ c. c.frame.height) v.items ≤ length text)
-text-few n file fs fields text before after found same names (Ok v) h a = read-few n file fs text v.items (text-read n file fs fields text before after found same names v.items h a)
-text-few n file fs fields text before after found same names (Err e) h a = tt
+pub text-few : {S : Type 0} (taken : S → List DataChunk) (n file : ℕ) (fs fields : List Field) (text : List ℕ) (before after : Reader (Bor (List ℕ))) (found same : Bool) (names : List (List ℕ)) (made : Result S CsvError)
+    → HeaderRead file fs fields text before after found same names → IfOk made (λ v. AllRead n fields (read_rows file 1 fields (records_left after)) (taken v)) → IfOk made (λ v. sum_by (λ c. c.frame.height) (taken v) ≤ length text)
+text-few taken n file fs fields text before after found same names (Ok v) h a = read-few n file fs text (taken v) (text-read n file fs fields text before after found same names (taken v) h a)
+text-few taken n file fs fields text before after found same names (Err e) h a = tt
 
 -- a text has no more chunks than bytes
-pub text-number : (n file : ℕ) (fs fields : List Field) (text : List ℕ) (before after : Reader (Bor (List ℕ))) (found same : Bool) (names : List (List ℕ)) (made : Made)
-    → HeaderRead file fs fields text before after found same names → IfOk made (λ v. AllRead n fields (read_rows file 1 fields (records_left after)) v.items) → IfOk made (λ v. length v.items ≤ length text)
-text-number n file fs fields text before after found same names (Ok v) h a = read-number n file fs text v.items (text-read n file fs fields text before after found same names v.items h a)
-text-number n file fs fields text before after found same names (Err e) h a = tt
+pub text-number : {S : Type 0} (taken : S → List DataChunk) (n file : ℕ) (fs fields : List Field) (text : List ℕ) (before after : Reader (Bor (List ℕ))) (found same : Bool) (names : List (List ℕ)) (made : Result S CsvError)
+    → HeaderRead file fs fields text before after found same names → IfOk made (λ v. AllRead n fields (read_rows file 1 fields (records_left after)) (taken v)) → IfOk made (λ v. length (taken v) ≤ length text)
+text-number taken n file fs fields text before after found same names (Ok v) h a = read-number n file fs text (taken v) (text-read n file fs fields text before after found same names (taken v) h a)
+text-number taken n file fs fields text before after found same names (Err e) h a = tt

@@ -2,6 +2,7 @@
 //! written. Inputs and outputs count their faults.
 #![tactic(auto)]
 
+mod chunk_sink;
 mod columns;
 mod csv_chunks;
 mod csv_error;
@@ -20,7 +21,8 @@ mod records;
 mod whole_file;
 mod worked;
 
-pub use csv_chunks::read_chunks;
+pub use chunk_sink::ChunkSink;
+pub use csv_chunks::{read_chunks, read_into};
 pub use csv_error::CsvError;
 pub use csv_text::frame_text;
 pub use input::{InputError, InputFiles};

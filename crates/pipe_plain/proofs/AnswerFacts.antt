@@ -1,18 +1,20 @@
 -- What the groups of a table give is the answer.
 use Rattle.std.proofs.Common.{◌≡◌, ◌∙◌, ℕ, ◌+◌, ◌%◌, Bool, true, false, List, [], ◌∷◌, ◌++◌, map, Option, Some, None, unwrap_or, refl, sym, ap}
-use Rattle.std.specs.List.{fold, list_all}
+use Rattle.std.specs.List.{All, fold, list_all}
 use Rattle.std.specs.Ordering.{is_eq, nat_cmp, ordering_then}
 use Rattle.std.specs.declared.cmp.Ordering.{Ordering}
 use Rattle.std.specs.Cmp.{nat_cmp_total}
 use Rattle.std.proofs.Math.Nat.{mod-one}
 use Rattle.std.proofs.lemmas.List.{drop-map, take-map}
+use Rattle.std.proofs.lemmas.List.Elements.{All-head, All-tail, All-weaker}
 use Rattle.std.proofs.lemmas.List.Sums.{fold-append}
 use Rattle.pipe_columns.specs.declared.any_value.AnyValue.{AnyValue}
 use Rattle.pipe_columns.specs.declared.data_chunk.DataChunk.{DataChunk}
 use Rattle.pipe_columns.specs.declared.data_type.DataType.{DataType}
 use Rattle.pipe_columns.specs.declared.place.Place.{Place}
 use Rattle.pipe_columns.specs.declared.schema.Field.{Field}
-use Rattle.pipe_columns.specs.Frame.{frame_of, value_at}
+use Rattle.pipe_columns.specs.AnyValue.{fits}
+use Rattle.pipe_columns.specs.Frame.{value_at}
 use Rattle.pipe_columns.specs.Groups.{sorted_keys}
 use Rattle.pipe_columns.specs.Key.{code, fold_bytes, partition}
 use Rattle.pipe_columns.specs.Place.{first_entry, place_cmp}
@@ -21,26 +23,26 @@ use Rattle.pipe_columns.specs.Slice.{sliced}
 use Rattle.pipe_columns.proofs.ValueOrder.{tuples_tie, tuples_total}
 use Rattle.pipe_running.specs.declared.function.AggregateFunction.{AggregateFunction}
 use Rattle.pipe_running.specs.Aggregate.{agg}
-use Rattle.pipe_running.specs.States.{after_entries, fresh, given, kind_of, output_values}
-use Rattle.pipe_aggs.specs.Expr.{column}
-use Rattle.pipe_aggs.specs.Output.{key_types, output_schema}
-use Rattle.pipe_aggs.specs.Typing.{known_type}
-use Rattle.pipe_aggs.specs.Typing.{type_of}
-use Rattle.pipe_model.specs.Answer.{aggs_from, answer, answer_row, entry_of, first_place_cmp, groups, partition_cmp, rows_at, tuple_cmp}
-use Rattle.pipe_model.specs.Rows.{rows}
+use Rattle.pipe_running.specs.States.{after_entries, fresh, given, output_values}
+use Rattle.pipe_aggs.specs.Groupable.{IsGroupable, is_suited}
+use Rattle.pipe_aggs.specs.HashAggs.{function_for, prototypes}
+use Rattle.pipe_aggs.specs.Output.{input_type, key_types}
+use Rattle.pipe_aggs.specs.Query.{AggTree, QueryTree}
+use Rattle.pipe_exprs.proofs.FitFacts.{both_true}
+use Rattle.pipe_model.specs.Answer.{aggs_from, answer_row, entry_of, first_place_cmp, groups, partition_cmp, rows_at, tuple_cmp}
+use Rattle.pipe_model.specs.Rows.{AreChunksOf, rows}
 use Rattle.pipe_plain.specs.declared.groups.Group.{Group}
-use Rattle.pipe_plain.specs.declared.query.PlainAgg.{PlainAgg}
-use Rattle.pipe_plain.specs.declared.query.PlainQuery.{PlainQuery}
+use Rattle.pipe_plain.specs.Fits.{HoldsTypes}
 use Rattle.pipe_plain.specs.Order.{IsSortedStably}
-use Rattle.pipe_plain.specs.PlainQuery.{agg_tree, is_plain, query_tree, takes}
 use Rattle.pipe_plain.specs.Running.{fed, fed_from, group_seen, keyed_line, Line, line_of, output_row, starts, with_rows}
-use Rattle.pipe_plain.proofs.AscendingFacts.{all_has, Has, sorted-same}
-use Rattle.pipe_plain.proofs.BuiltFacts.{plain-gives}
+use Rattle.pipe_plain.proofs.AscendingFacts.{all_has, Ascending, Has, sorted-same}
+use Rattle.pipe_plain.proofs.BuiltFacts.{all_of_type, built-gives, joined}
 use Rattle.pipe_plain.proofs.ChunkFacts.{map_twice}
-use Rattle.pipe_plain.proofs.FrameFacts.{aggs_taken, both, outputs_of, suits}
+use Rattle.pipe_plain.proofs.EntryFacts.{at-ascend, at-holds, distinct-at, Entries, entries_at}
+use Rattle.pipe_plain.proofs.FrameFacts.{outputs_of}
 use Rattle.pipe_plain.proofs.GroupFacts.{groups_all, keyed_none}
+use Rattle.pipe_plain.proofs.InputFacts.{FitsFrom, rows-fit}
 use Rattle.pipe_plain.proofs.OrderFacts.{sorted_lines}
-use Rattle.pipe_plain.proofs.SeenFacts.{takes_plain}
 use Rattle.pipe_plain.proofs.PlaceFacts.{by_first_place, first_at, first_of, place_cmp_total, rows-ascend}
 
 -- ---- the table
@@ -52,21 +54,17 @@ more_rows : (start : Line) (v : Place × List AnyValue) (vs : List (Place × Lis
 more_rows start v vs = sym (fold-append (λ (line : Line) (w : Place × List AnyValue). fed w line) start vs (v ∷ []))
 
 -- a table to which rows are added one by one has each key with the line of its rows
-pub table_is : (aggs : List PlainAgg) (rs : List Row) → with_rows (starts aggs) [] rs ≡ map (keyed_line aggs rs) (sorted_keys tuple_cmp (map (λ r. r.key) rs))
-table_is aggs rs =
-    let start : Line = starts aggs in
+pub table_is : (prototypes : List AggregateFunction) (rs : List Row) → with_rows (starts prototypes) [] rs ≡ map (keyed_line prototypes rs) (sorted_keys tuple_cmp (map (λ r. r.key) rs))
+table_is prototypes rs =
+    let start : Line = starts prototypes in
     let keys : map (λ e. e.0) (map entry_of rs) ≡ map (λ r. r.key) rs = map_twice (λ e. e.0) entry_of rs in
     groups_all tuple_cmp tuples_total tuples_tie (λ v. fed v start) fed (line_of start) (one_row start) (more_rows start) entry_of [] rs (keyed_none tuple_cmp tuples_total tuples_tie)
-    ∙ ap (λ (ks : List (List AnyValue)). map (keyed_line aggs rs) (sorted_keys tuple_cmp ks)) keys
+    ∙ ap (λ (ks : List (List AnyValue)). map (keyed_line prototypes rs) (sorted_keys tuple_cmp ks)) keys
 
 -- ---- the aggregates
 
 abbrev states_from : ℕ → List AggregateFunction → List (Place × List AnyValue) → List AggregateFunction
 states_from j start entries = fold (λ states v. fed_from v.0 j v.1 states) start entries
-
--- the entries of one aggregate
-abbrev entries_at : ℕ → List (Place × List AnyValue) → List (Place × AnyValue)
-entries_at j entries = map (λ e. (e.0, value_at e.1 j)) entries
 
 states_from-nil : (j : ℕ) (entries : List (Place × List AnyValue)) → states_from j [] entries ≡ []
 states_from-nil j [] = refl
@@ -82,17 +80,43 @@ states_of-line : (line : Line) (entries : List (Place × List AnyValue)) → (li
 states_of-line line [] = refl
 states_of-line line (e ∷ es) = states_of-line (fed e line) es
 
-outputs_from : (schema : List Field) (aggs : List PlainAgg) (j : ℕ) (entries : List (Place × List AnyValue)) → list_all (λ a. takes a.function (type_of (column a.input) schema)) aggs ≡ true
-    → outputs_of (states_from j (starts aggs).states entries) ≡ aggs_from j schema (map agg_tree aggs) entries
-outputs_from schema [] j entries e = ap outputs_of (states_from-nil j entries)
-outputs_from schema (a ∷ aggs) j entries e =
-    let parts = both (takes a.function (type_of (column a.input) schema)) (list_all (λ b. takes b.function (type_of (column b.input) schema)) aggs) e in
-    let own : output_values (given (after_entries (entries_at j entries) (fresh a.function))) ≡ agg (kind_of a.function) (known_type (column a.input) schema) (entries_at j entries) =
-    plain-gives a.function (known_type (column a.input) schema) (entries_at j entries) (takes_plain a.function (type_of (column a.input) schema) parts.0) (suits a.function (type_of (column a.input) schema) parts.0) in
-    let rest : outputs_of (states_from (j + 1) (starts aggs).states entries) ≡ aggs_from (j + 1) schema (map agg_tree aggs) entries = outputs_from schema aggs (j + 1) entries parts.1 in
-    ap outputs_of (states_from-cons j (fresh a.function) (starts aggs).states entries)
-    ∙ ap (λ (t : List AnyValue). t ++ outputs_of (states_from (j + 1) (starts aggs).states entries)) own
-    ∙ ap (λ (t : List AnyValue). agg (kind_of a.function) (known_type (column a.input) schema) (entries_at j entries) ++ t) rest
+-- each entry has inputs that fit
+abbrev pub EntriesFit : ℕ → List Field → List AggTree → Entries → Type 0
+EntriesFit j schema aggs entries = All (λ e. FitsFrom j schema aggs e.1) entries
+
+pub entries-fit : (j : ℕ) (schema : List Field) (a : AggTree) (others : List AggTree) (entries : Entries) → EntriesFit j schema (a ∷ others) entries
+    → all_of_type (input_type schema a.input) (entries_at j entries) ≡ true
+entries-fit j schema a others [] h = refl
+entries-fit j schema a others (e ∷ es) h =
+    let P : Place × List AnyValue → Type 0 = λ x. FitsFrom j schema (a ∷ others) x.1 in
+    joined (fits (value_at e.1 j) (input_type schema a.input)) (all_of_type (input_type schema a.input) (entries_at j es))
+    (All-head P e es h).0 (entries-fit j schema a others es (All-tail P e es h))
+
+pub others-fit : (j : ℕ) (schema : List Field) (a : AggTree) (others : List AggTree) (entries : Entries) → EntriesFit j schema (a ∷ others) entries
+    → EntriesFit (j + 1) schema others entries
+others-fit j schema a others entries h = All-weaker (λ (e : Place × List AnyValue). FitsFrom j schema (a ∷ others) e.1) (λ (e : Place × List AnyValue). FitsFrom (j + 1) schema others e.1) (λ e f. f.1) entries h
+
+-- what one aggregate gives of entries at ascending places
+pub one-gives : (j : ℕ) (schema : List Field) (a : AggTree) (others : List AggTree) (entries : Entries) → is_suited schema a ≡ true → EntriesFit j schema (a ∷ others) entries
+    → Ascending place_cmp (map (λ e. e.0) entries)
+    → output_values (given (after_entries (entries_at j entries) (fresh (function_for a.kind (input_type schema a.input))))) ≡ agg a.kind (input_type schema a.input) (entries_at j entries)
+one-gives j schema a others entries s h up =
+    built-gives a.kind (input_type schema a.input) (entries_at j entries) s (entries-fit j schema a others entries h) (distinct-at j entries up)
+
+outputs_from : (schema : List Field) (aggs : List AggTree) (j : ℕ) (entries : Entries) → list_all (is_suited schema) aggs ≡ true → EntriesFit j schema aggs entries
+    → Ascending place_cmp (map (λ e. e.0) entries)
+    → outputs_of (states_from j (starts (map (λ a. function_for a.kind (input_type schema a.input)) aggs)).states entries) ≡ aggs_from j schema aggs entries
+outputs_from schema [] j entries s h up = ap outputs_of (states_from-nil j entries)
+outputs_from schema (a ∷ others) j entries s h up =
+    let parts = both_true (is_suited schema a) (list_all (is_suited schema) others) s in
+    let f : AggregateFunction = function_for a.kind (input_type schema a.input) in
+    let rest : List AggregateFunction = (starts (map (λ b. function_for b.kind (input_type schema b.input)) others)).states in
+    let own = one-gives j schema a others entries parts.0 h up in
+    let more : outputs_of (states_from (j + 1) rest entries) ≡ aggs_from (j + 1) schema others entries =
+    outputs_from schema others (j + 1) entries parts.1 (others-fit j schema a others entries h) up in
+    ap outputs_of (states_from-cons j (fresh f) rest entries)
+    ∙ ap (λ (t : List AnyValue). t ++ outputs_of (states_from (j + 1) rest entries)) own
+    ∙ ap (λ (t : List AnyValue). agg a.kind (input_type schema a.input) (entries_at j entries) ++ t) more
 
 -- ---- first places
 
@@ -109,9 +133,9 @@ first_kept line (r ∷ rs) k h = by_test (is_eq (tuple_cmp r.key k)) refl (first
   by_test false e rest = rw e rest
 
 -- so the group of a key has it
-place_kept : (aggs : List PlainAgg) (rs : List Row) (g : Group) → group_seen g ≡ keyed_line aggs rs g.key.items → g.first ≡ first_of rs g.key.items
-place_kept aggs rs g e =
-    let seen : Some g.first ≡ first_at rs g.key.items = ap (λ (p : List AnyValue × Line). p.1.first) e ∙ first_kept (starts aggs) rs g.key.items refl in
+place_kept : (prototypes : List AggregateFunction) (rs : List Row) (g : Group) → group_seen g ≡ keyed_line prototypes rs g.key.items → g.first ≡ first_of rs g.key.items
+place_kept prototypes rs g e =
+    let seen : Some g.first ≡ first_at rs g.key.items = ap (λ (p : List AnyValue × Line). p.1.first) e ∙ first_kept (starts prototypes) rs g.key.items refl in
     ap (λ (o : Option Place). unwrap_or o (record { chunk = 0; row = 0 })) seen
 
 -- ---- the order of groups
@@ -119,49 +143,49 @@ place_kept aggs rs g e =
 equal_partitions : (m n : ℕ) (o : Ordering) → ordering_then (nat_cmp (m % 1) (n % 1)) o ≡ o
 equal_partitions m n o = rw (mod-one m, mod-one n) refl
 
-order_is : (q : PlainQuery) (a b : List AnyValue) → partition_cmp 1 (key_types (query_tree q)) a b ≡ tuple_cmp a b
-order_is q a b = equal_partitions (fold_bytes (code (key_types (query_tree q)) a)) (fold_bytes (code (key_types (query_tree q)) b)) (tuple_cmp a b)
+order_is : (q : QueryTree) (a b : List AnyValue) → partition_cmp 1 (key_types q) a b ≡ tuple_cmp a b
+order_is q a b = equal_partitions (fold_bytes (code (key_types q) a)) (fold_bytes (code (key_types q) b)) (tuple_cmp a b)
 
 -- with one partition and no kept order, groups come in the order of their keys
-groups_by_key : (q : PlainQuery) (rs : List Row) → q.maintain_order ≡ false → groups rs (query_tree q) 1 ≡ sorted_keys tuple_cmp (map (λ r. r.key) rs)
+groups_by_key : (q : QueryTree) (rs : List Row) → q.keeps_order ≡ false → groups rs q 1 ≡ sorted_keys tuple_cmp (map (λ r. r.key) rs)
 groups_by_key q rs e = rw e (ap (λ (o : List AnyValue → List AnyValue → Ordering). sorted_keys o (map (λ (r : Row). r.key) rs)) (λ i a b. order_is q a b i))
 
 -- a table in the order of keys is then that of the groups
-pub table_by_key : (q : PlainQuery) (chunks : List DataChunk) (table : List Group) → q.maintain_order ≡ false → map group_seen table ≡ with_rows (starts q.aggs.items) [] (rows chunks (query_tree q))
-    → map group_seen table ≡ map (keyed_line q.aggs.items (rows chunks (query_tree q))) (groups (rows chunks (query_tree q)) (query_tree q) 1)
+pub table_by_key : (q : QueryTree) (chunks : List DataChunk) (table : List Group) → q.keeps_order ≡ false → map group_seen table ≡ with_rows (starts (prototypes q)) [] (rows chunks q)
+    → map group_seen table ≡ map (keyed_line (prototypes q) (rows chunks q)) (groups (rows chunks q) q 1)
 table_by_key q chunks table plain e =
-    let rs : List Row = rows chunks (query_tree q) in
-    e ∙ table_is q.aggs.items rs ∙ ap (map (keyed_line q.aggs.items rs)) (sym (groups_by_key q rs plain))
+    let rs : List Row = rows chunks q in
+    e ∙ table_is (prototypes q) rs ∙ ap (map (keyed_line (prototypes q) rs)) (sym (groups_by_key q rs plain))
 
 -- a table that is sorted by partitions is that of the groups where no order is kept
-pub table_by_partition : (q : PlainQuery) (chunks : List DataChunk) (partitions : ℕ) (before after : List Group) → q.maintain_order ≡ false
-    → map group_seen before ≡ with_rows (starts q.aggs.items) [] (rows chunks (query_tree q)) → IsSortedStably (λ g. partition partitions (key_types (query_tree q)) g.key.items) nat_cmp before after
-    → map group_seen after ≡ map (keyed_line q.aggs.items (rows chunks (query_tree q))) (groups (rows chunks (query_tree q)) (query_tree q) partitions)
+pub table_by_partition : (q : QueryTree) (chunks : List DataChunk) (partitions : ℕ) (before after : List Group) → q.keeps_order ≡ false
+    → map group_seen before ≡ with_rows (starts (prototypes q)) [] (rows chunks q) → IsSortedStably (λ g. partition partitions (key_types q) g.key.items) nat_cmp before after
+    → map group_seen after ≡ map (keyed_line (prototypes q) (rows chunks q)) (groups (rows chunks q) q partitions)
 table_by_partition q chunks partitions before after plain e s =
-    let rs : List Row = rows chunks (query_tree q) in
-    let types : List DataType = key_types (query_tree q) in
+    let rs : List Row = rows chunks q in
+    let types : List DataType = key_types q in
     let keys : List (List AnyValue) = map (λ (r : Row). r.key) rs in
-    let due : groups rs (query_tree q) partitions ≡ sorted_keys (partition_cmp partitions types) keys = rw plain refl in
-    sorted_lines q.aggs.items rs (λ g. partition partitions types g.key.items) nat_cmp nat_cmp_total (partition partitions types) (λ g f. refl) before after keys (e ∙ table_is q.aggs.items rs) s
-    ∙ ap (map (keyed_line q.aggs.items rs)) (sym due)
+    let due : groups rs q partitions ≡ sorted_keys (partition_cmp partitions types) keys = rw plain refl in
+    sorted_lines (prototypes q) rs (λ g. partition partitions types g.key.items) nat_cmp nat_cmp_total (partition partitions types) (λ g f. refl) before after keys (e ∙ table_is (prototypes q) rs) s
+    ∙ ap (map (keyed_line (prototypes q) rs)) (sym due)
 
 -- where order is kept, groups come in the order of their first places
-groups_by_place : (q : PlainQuery) (chunks : List DataChunk) (partitions : ℕ) → q.maintain_order ≡ true
-    → groups (rows chunks (query_tree q)) (query_tree q) partitions ≡ sorted_keys (λ a b. ordering_then (place_cmp (first_of (rows chunks (query_tree q)) a) (first_of (rows chunks (query_tree q)) b)) (tuple_cmp a b)) (map (λ r. r.key) (rows chunks (query_tree q)))
+groups_by_place : (q : QueryTree) (chunks : List DataChunk) (partitions : ℕ) → q.keeps_order ≡ true
+    → groups (rows chunks q) q partitions ≡ sorted_keys (λ a b. ordering_then (place_cmp (first_of (rows chunks q) a) (first_of (rows chunks q) b)) (tuple_cmp a b)) (map (λ r. r.key) (rows chunks q))
 groups_by_place q chunks partitions e =
-    let rs : List Row = rows chunks (query_tree q) in
+    let rs : List Row = rows chunks q in
     let keys : List (List AnyValue) = map (λ (r : Row). r.key) rs in
     rw e (sorted-same (λ k. Has k keys) (λ a b. first_place_cmp (first_entry (rows_at rs a)) (first_entry (rows_at rs b))) (λ a b. ordering_then (place_cmp (first_of rs a) (first_of rs b)) (tuple_cmp a b))
-    (λ a b m n. by_first_place rs a b (rows-ascend (query_tree q) chunks) m n) keys (all_has keys))
+    (λ a b m n. by_first_place rs a b (rows-ascend q chunks) m n) keys (all_has keys))
 
 -- a table that is sorted by first places has the groups in order
-pub table_by_place : (q : PlainQuery) (chunks : List DataChunk) (partitions : ℕ) (before after : List Group) → q.maintain_order ≡ true
-    → map group_seen before ≡ with_rows (starts q.aggs.items) [] (rows chunks (query_tree q)) → IsSortedStably (λ g. g.first) place_cmp before after
-    → map group_seen after ≡ map (keyed_line q.aggs.items (rows chunks (query_tree q))) (groups (rows chunks (query_tree q)) (query_tree q) partitions)
+pub table_by_place : (q : QueryTree) (chunks : List DataChunk) (partitions : ℕ) (before after : List Group) → q.keeps_order ≡ true
+    → map group_seen before ≡ with_rows (starts (prototypes q)) [] (rows chunks q) → IsSortedStably (λ g. g.first) place_cmp before after
+    → map group_seen after ≡ map (keyed_line (prototypes q) (rows chunks q)) (groups (rows chunks q) q partitions)
 table_by_place q chunks partitions before after kept e s =
-    let rs : List Row = rows chunks (query_tree q) in
-    sorted_lines q.aggs.items rs (λ g. g.first) place_cmp place_cmp_total (first_of rs) (place_kept q.aggs.items rs) before after (map (λ (r : Row). r.key) rs) (e ∙ table_is q.aggs.items rs) s
-    ∙ ap (map (keyed_line q.aggs.items rs)) (sym (groups_by_place q chunks partitions kept))
+    let rs : List Row = rows chunks q in
+    sorted_lines (prototypes q) rs (λ g. g.first) place_cmp place_cmp_total (first_of rs) (place_kept (prototypes q) rs) before after (map (λ (r : Row). r.key) rs) (e ∙ table_is (prototypes q) rs) s
+    ∙ ap (map (keyed_line (prototypes q) rs)) (sym (groups_by_place q chunks partitions kept))
 
 -- ---- the answer
 
@@ -169,21 +193,35 @@ sliced-map : {X Y : Type 0} (f : X → Y) (slice : Option (ℕ × ℕ)) (xs : Li
 sliced-map f None xs = refl
 sliced-map f (Some s) xs = rw (drop-map, take-map) refl
 
+-- the entries of a key of the rows of chunks fit, at ascending places
+pub key-entries-fit : (q : QueryTree) (chunks : List DataChunk) (k : List AnyValue) → IsGroupable q → AreChunksOf q chunks → All (λ c. HoldsTypes c.frame) chunks
+    → EntriesFit 0 q.schema q.aggs (rows_at (rows chunks q) k)
+key-entries-fit q chunks k g are hold = at-holds (λ e. FitsFrom 0 q.schema q.aggs e.1) (rows chunks q) k (rows-fit q 0 chunks g are.columns hold)
+
+pub key-places-ascend : (q : QueryTree) (chunks : List DataChunk) (k : List AnyValue) → Ascending place_cmp (map (λ e. e.0) (rows_at (rows chunks q) k))
+key-places-ascend q chunks k = at-ascend (rows chunks q) k (rows-ascend q chunks)
+
 -- each group that the slice keeps gives a row of the answer
-pub rows_given : (q : PlainQuery) (chunks : List DataChunk) (partitions : ℕ) (table : List Group) → is_plain q ≡ true
-    → map group_seen table ≡ map (keyed_line q.aggs.items (rows chunks (query_tree q))) (groups (rows chunks (query_tree q)) (query_tree q) partitions)
-    → map output_row (map group_seen (sliced q.slice table)) ≡ map (answer_row (query_tree q) (rows chunks (query_tree q))) (sliced q.slice (groups (rows chunks (query_tree q)) (query_tree q) partitions))
-rows_given q chunks partitions table plain e =
-    let rs : List Row = rows chunks (query_tree q) in
-    let ks : List (List AnyValue) = groups rs (query_tree q) partitions in
-    let line : List AnyValue → List AnyValue × Line = keyed_line q.aggs.items rs in
+pub rows_given : (q : QueryTree) (chunks : List DataChunk) (partitions : ℕ) (table : List Group) → IsGroupable q → AreChunksOf q chunks → All (λ c. HoldsTypes c.frame) chunks
+    → map group_seen table ≡ map (keyed_line (prototypes q) (rows chunks q)) (groups (rows chunks q) q partitions)
+    → map output_row (map group_seen (sliced q.slice table)) ≡ map (answer_row q (rows chunks q)) (sliced q.slice (groups (rows chunks q) q partitions))
+rows_given q chunks partitions table g are hold e =
+    let rs : List Row = rows chunks q in
+    let ks : List (List AnyValue) = groups rs q partitions in
+    let line : List AnyValue → List AnyValue × Line = keyed_line (prototypes q) rs in
     let kept : map group_seen (sliced q.slice table) ≡ map line (sliced q.slice ks) = sym (sliced-map group_seen q.slice table) ∙ ap (sliced q.slice) e ∙ sliced-map line q.slice ks in
-    let rows_are : (k : List AnyValue) → output_row (line k) ≡ answer_row (query_tree q) rs k =
-    λ k. ap (λ (ss : List AggregateFunction). k ++ outputs_of ss) (states_of-line (starts q.aggs.items) (rows_at rs k)) ∙ ap (λ (t : List AnyValue). k ++ t) (outputs_from q.schema q.aggs.items 0 (rows_at rs k) (aggs_taken q plain)) in
+    let rows_are : (k : List AnyValue) → output_row (line k) ≡ answer_row q rs k =
+    λ k. ap (λ (ss : List AggregateFunction). k ++ outputs_of ss) (states_of-line (starts (prototypes q)) (rows_at rs k))
+    ∙ ap (λ (t : List AnyValue). k ++ t) (outputs_from q.schema q.aggs 0 (rows_at rs k) g.aggs (key-entries-fit q chunks k g are hold) (key-places-ascend q chunks k)) in
     ap (map output_row) kept ∙ map_twice output_row line (sliced q.slice ks) ∙ ap (λ (f : List AnyValue → List AnyValue). map f (sliced q.slice ks)) (λ i k. rows_are k i)
 
--- what they give is the answer
-pub answer_is : (q : PlainQuery) (chunks : List DataChunk) (partitions : ℕ) (table : List Group) → is_plain q ≡ true
-    → map group_seen table ≡ map (keyed_line q.aggs.items (rows chunks (query_tree q))) (groups (rows chunks (query_tree q)) (query_tree q) partitions)
-    → frame_of (output_schema (query_tree q)) (map output_row (map group_seen (sliced q.slice table))) ≡ answer chunks (query_tree q) partitions
-answer_is q chunks partitions table plain e = ap (frame_of (output_schema (query_tree q))) (rows_given q chunks partitions table plain e)
+-- the rows that the answer is made of
+abbrev pub answer_rows : QueryTree → List DataChunk → ℕ → List (List AnyValue)
+answer_rows q chunks partitions = map (answer_row q (rows chunks q)) (sliced q.slice (groups (rows chunks q) q partitions))
+
+-- the rows of the groups that are kept are these
+pub kept_rows : (q : QueryTree) (chunks : List DataChunk) (partitions : ℕ) (table kept : List Group) (made : List (List AnyValue)) → IsGroupable q → AreChunksOf q chunks → All (λ c. HoldsTypes c.frame) chunks
+    → map group_seen table ≡ map (keyed_line (prototypes q) (rows chunks q)) (groups (rows chunks q) q partitions)
+    → kept ≡ sliced q.slice table → made ≡ map output_row (map group_seen kept) → made ≡ answer_rows q chunks partitions
+kept_rows q chunks partitions table kept made g are hold e k m =
+    m ∙ ap (λ (gs : List Group). map output_row (map group_seen gs)) k ∙ rows_given q chunks partitions table g are hold e

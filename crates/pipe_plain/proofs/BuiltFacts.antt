@@ -1,77 +1,57 @@
--- What counts and sums of 64 bits give of entries added one by one.
-use Rattle.std.proofs.Common.{◌≡◌, ◌<◌, ◌≤◌, ◌^◌, ℤ, pos, negsuc, true, List, [], ◌∷◌, length, refl, arith}
+-- What the running aggregate of a kind gives of entries that it took one by one.
+use Rattle.std.proofs.Common.{◌≡◌, ◌∙◌, ◌&&◌, ℕ, ◌<◌, ◌^◌, Bool, true, false, List, [], ◌∷◌, length, map, refl, sym, subst}
 use Rattle.std.specs.List.{list_all}
-use Rattle.std.specs.Int.{int_wrap, w64}
-use Rattle.std.specs.Int.RustNames.{FitsSigned}
-use Rattle.std.proofs.lemmas.Int.{SFits-int_wrap}
-use Rattle.std.proofs.lemmas.Bool.{false≢true, lt-ltb}
-use Rattle.std.proofs.lemmas.List.{length-map}
-use Rattle.pipe_columns.specs.declared.data_type.DataType.{DataType}
-use Rattle.pipe_columns.specs.declared.data_type.DataType.TheVariants as dt
 use Rattle.pipe_columns.specs.declared.any_value.AnyValue.{AnyValue}
-use Rattle.pipe_columns.specs.declared.any_value.AnyValue.TheVariants as av
+use Rattle.pipe_columns.specs.declared.data_type.DataType.{DataType}
 use Rattle.pipe_columns.specs.declared.place.Place.{Place}
-use Rattle.pipe_columns.specs.AnyValue.{fits, is_signed}
+use Rattle.pipe_columns.specs.declared.schema.Field.{Field}
+use Rattle.pipe_columns.specs.AnyValue.{fits}
 use Rattle.pipe_running.specs.declared.function.AggregateFunction.{AggregateFunction}
-use Rattle.pipe_running.specs.Aggregate.{agg, counted, exact_sum, present, sum_type, total, values_in}
-use Rattle.pipe_running.specs.Stands.{DistinctPlaces, looks_at_places, Suits}
-use Rattle.pipe_running.specs.States.{after_entries, first_type, fresh, given, kind_of, output_values, takes}
-use Rattle.pipe_running.proofs.EntryFacts.{given-after_entries}
-use Rattle.pipe_plain.specs.PlainQuery.{is_plain_function}
-use Rattle.pipe_plain.proofs.SeenFacts.{plain_function_is}
+use Rattle.pipe_running.specs.Aggregate.{agg, values_in}
+use Rattle.pipe_running.specs.Kind.{Kind}
+use Rattle.pipe_running.specs.Stands.{DistinctPlaces, FitTypes, given_types}
+use Rattle.pipe_running.specs.States.{after_entries, fresh, given, output_values, takes}
+use Rattle.pipe_running.proofs.EntryFacts.{all_taken, fits-given, given-after_entries}
+use Rattle.pipe_aggs.specs.HashAggs.{function_for, suited}
+use Rattle.pipe_aggs.specs.Output.{agg_fields}
+use Rattle.pipe_exprs.proofs.FitFacts.{both_true}
+use Rattle.pipe_aggs.proofs.HashAggFacts.{agg-for, suits-for, takes-for, types-for}
+use Rattle.pipe_plain.specs.Fits.{RowFits}
 
-all_true : {X : Type 0} (xs : List X) → list_all (λ x. true) xs ≡ true
-all_true [] = refl
-all_true (x ∷ xs) = all_true xs
+-- whether the values of entries fit a type
+abbrev pub all_of_type : DataType → List (Place × AnyValue) → Bool
+all_of_type t entries = list_all (λ v. fits v t) (values_in entries)
 
--- adding entries one by one to a fresh state gives the aggregate of the entries
-pub plain-gives : (f : AggregateFunction) (t : DataType) (entries : List (Place × AnyValue)) → is_plain_function f ≡ true → Suits f t
-    → output_values (given (after_entries entries (fresh f))) ≡ agg (kind_of f) t entries
-plain-gives f t entries plain s = given-after_entries f t entries s
-    (plain_function_is (λ g. list_all (λ e. takes g e.1) entries ≡ true) (λ a. all_true entries) (λ a. all_true entries) f plain)
-    (plain_function_is (λ g. looks_at_places g ≡ true → DistinctPlaces entries) (λ a l. absurd (false≢true l)) (λ a l. absurd (false≢true l)) f plain)
+-- two tests that hold
+pub joined : (a b : Bool) → a ≡ true → b ≡ true → (a && b) ≡ true
+joined true b e h = h
+joined false b e h = cc
 
--- a sum whose type is of 64 bits
-total_is : (t : DataType) (values : List AnyValue) → sum_type t ≡ dt.Int64 → total t values ≡ av.Int (int_wrap w64 (exact_sum values))
-total_is dt.Boolean values e = cc
-total_is dt.Int8 values e = refl
-total_is dt.Int16 values e = refl
-total_is dt.Int32 values e = cc
-total_is dt.Int64 values e = refl
-total_is dt.UInt8 values e = refl
-total_is dt.UInt16 values e = refl
-total_is dt.UInt32 values e = cc
-total_is dt.UInt64 values e = cc
-total_is dt.Int128 values e = cc
-total_is dt.Date values e = cc
-total_is dt.String values e = cc
+taken : (k : Kind) (t : DataType) (entries : List (Place × AnyValue)) → all_of_type t entries ≡ true → all_taken (function_for k t) entries ≡ true
+taken k t [] h = refl
+taken k t (e ∷ es) h =
+    let parts = both_true (fits e.1 t) (all_of_type t es) h in
+    joined (takes (function_for k t) e.1) (all_taken (function_for k t) es) (takes-for k t e.1 parts.0) (taken k t es parts.1)
 
-signed-fits : (z : ℤ) → FitsSigned w64 z → is_signed 63 z ≡ true
-signed-fits (pos n) f = grind arith
-signed-fits (negsuc n) f = grind arith
+-- it gives the aggregate of the entries
+pub built-gives : (k : Kind) (t : DataType) (entries : List (Place × AnyValue)) → suited k t ≡ true → all_of_type t entries ≡ true → DistinctPlaces entries
+    → output_values (given (after_entries entries (fresh (function_for k t)))) ≡ agg k t entries
+built-gives k t entries s h d =
+    given-after_entries (function_for k t) t entries (suits-for k t s) (taken k t entries h) (λ l. d) ∙ agg-for k t entries s
 
-length-present : (vs : List AnyValue) → length (present vs) ≤ length vs
-length-present [] = omega arith
-length-present (v ∷ vs) = length_more v vs (length-present vs) where
-  length_more : (v : AnyValue) (vs : List AnyValue) → length (present vs) ≤ length vs → length (present (v ∷ vs)) ≤ length (v ∷ vs)
-  length_more av.Null vs h = omega arith
-  length_more (av.Boolean b) vs h = omega arith
-  length_more (av.Int n) vs h = omega arith
-  length_more (av.Text s) vs h = omega arith
+types-fit : (fs : List Field) (vs : List AnyValue) → FitTypes vs (map (λ f. f.dtype) fs) → RowFits fs vs
+types-fit [] [] h = tt
+types-fit [] (v ∷ vs) h = absurd h
+types-fit (f ∷ fs) [] h = absurd h
+types-fit (f ∷ fs) (v ∷ vs) h = (h.0, types-fit fs vs h.1)
 
-count_fits : (entries : List (Place × AnyValue)) → length entries < 2 ^ 32
-    → list_all (λ v. fits v dt.UInt32) (counted (length (present (values_in entries))) ∷ []) ≡ true
-count_fits entries h =
-    let short : length (present (values_in entries)) < 2 ^ 32 = omega (arith, h, length-present (values_in entries), length-map entries (λ (x : Place × AnyValue). x.1)) in
-    rw (lt-ltb (length (present (values_in entries))) (2 ^ 32) short) refl
-
-sum_fits : (t : DataType) (entries : List (Place × AnyValue)) → sum_type t ≡ dt.Int64
-    → list_all (λ v. fits v dt.Int64) (total t (values_in entries) ∷ []) ≡ true
-sum_fits t entries e = rw (total_is t (values_in entries) e) (rw (signed-fits (int_wrap w64 (exact_sum (values_in entries))) (SFits-int_wrap w64 (exact_sum (values_in entries)))) refl)
-
--- what is given fits its type, of fewer than 2^32 values
-pub plain-fits : (f : AggregateFunction) (t : DataType) (entries : List (Place × AnyValue)) → is_plain_function f ≡ true → Suits f t → length entries < 2 ^ 32
-    → list_all (λ v. fits v (first_type f)) (agg (kind_of f) t entries) ≡ true
-plain-fits f t entries plain s h = plain_function_is
-    (λ g. Suits g t → list_all (λ v. fits v (first_type g)) (agg (kind_of g) t entries) ≡ true)
-    (λ a e. count_fits entries h) (λ a e. sum_fits t entries e) f plain s
+-- and that fits its columns, of fewer than 2^32 entries
+pub built-fits : (name : List ℕ) (k : Kind) (t : DataType) (entries : List (Place × AnyValue)) → suited k t ≡ true → all_of_type t entries ≡ true → DistinctPlaces entries
+    → length entries < 2 ^ 32 → RowFits (agg_fields name k t) (agg k t entries)
+built-fits name k t entries s h d few =
+    let f : AggregateFunction = function_for k t in
+    let outputs : List AnyValue = output_values (given (after_entries entries (fresh f))) in
+    let fit : FitTypes outputs (given_types f) = fits-given f t entries (suits-for k t s) (taken k t entries h) h few in
+    let V : List AnyValue → Type 0 = λ vs. FitTypes vs (given_types f) in
+    let T : List DataType → Type 0 = λ ts. FitTypes (agg k t entries) ts in
+    types-fit (agg_fields name k t) (agg k t entries) (subst T (sym (types-for name k t s)) (subst V (built-gives k t entries s h d) fit))

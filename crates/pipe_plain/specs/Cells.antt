@@ -1,33 +1,27 @@
--- The cells of a row, by the positions of columns.
-use Rattle.std.specs.Prelude.{ℕ, List, map, Option}
-use Rattle.std.specs.List.{slice_get}
+-- The values of a row, in lists of values.
+use Rattle.std.specs.Prelude.{ℕ, List, [], map}
 use Rattle.pipe_columns.specs.declared.any_value.AnyValue.{AnyValue}
 use Rattle.pipe_columns.specs.declared.place.Place.{Place}
-use Rattle.pipe_columns.specs.Frame.{ColumnData, value_at}
+use Rattle.pipe_columns.specs.Frame.{FrameData, value_at}
 use Rattle.pipe_columns.specs.Row.{Row}
-use Rattle.pipe_aggs.specs.Value.{column_named, values_if_any}
-use Rattle.pipe_plain.specs.declared.rows.Positions.{Positions}
+use Rattle.pipe_exprs.specs.declared.values.Values.{Values}
+use Rattle.pipe_exprs.specs.Evaluated.{items_of, row_values}
+use Rattle.pipe_aggs.specs.Query.{each, Input, rows_alone}
+use Rattle.pipe_plain.specs.declared.lists.ValueLists.{ValueLists}
 
--- the value in a row of the column at a position, null where there is none
-abbrev pub cell : List ColumnData → ℕ → ℕ → AnyValue
-cell columns row position = value_at (values_if_any (slice_get columns position)) row
+-- what an aggregate is fed in the rows of a frame: no value where only rows count
+abbrev pub input_values : Input → FrameData → List AnyValue
+input_values (each e) frame = row_values e frame
+input_values rows_alone frame = []
 
--- the values in a row of the columns at some positions
-abbrev pub cells : List ColumnData → ℕ → List ℕ → List AnyValue
-cells columns row positions = map (λ p. cell columns row p) positions
+-- the value of each list in a row, null past its end
+abbrev pub cells : List Values → ℕ → List AnyValue
+cells lists row = map (λ values. value_at (items_of values) row) lists
 
--- the columns at some positions
-abbrev pub columns_at : List ColumnData → List ℕ → List (Option ColumnData)
-columns_at columns positions = map (λ p. slice_get columns p) positions
-
--- the columns of some names
-abbrev pub columns_named : List ColumnData → List (List ℕ) → List (Option ColumnData)
-columns_named columns names = map (λ n. column_named n columns) names
-
--- the row at a place, by the positions of its columns
-abbrev pub row_read : List ColumnData → Positions → Place → Row
-row_read columns positions place = record {
+-- the row at a place
+abbrev pub row_read : ValueLists → Place → Row
+row_read lists place = record {
   place = place;
-  key = cells columns place.row positions.keys.items;
-  inputs = cells columns place.row positions.inputs.items;
+  key = cells lists.keys.items place.row;
+  inputs = cells lists.inputs.items place.row;
 }

@@ -4,11 +4,12 @@ use Rattle.std.specs.List.{All, AllZip}
 use Rattle.pipe_columns.specs.declared.any_value.AnyValue.{AnyValue}
 use Rattle.pipe_columns.specs.declared.schema.Field.{Field}
 use Rattle.pipe_columns.specs.AnyValue.{fits}
-use Rattle.pipe_columns.specs.Frame.{AllFit, FrameData}
+use Rattle.pipe_columns.specs.Frame.{FrameData}
+use Rattle.pipe_exprs.specs.Operands.{ColumnsFit}
 
 -- each value of a frame fits its column's type, as it does of every frame
 abbrev pub HoldsTypes : FrameData → Type 0
-HoldsTypes frame = All (λ c. AllFit c.dtype c.values) frame.columns
+HoldsTypes frame = ColumnsFit frame.columns
 
 -- a row has a value for each field, which fits the field's type
 abbrev pub RowFits : List Field → List AnyValue → Type 0

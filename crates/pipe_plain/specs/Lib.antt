@@ -1,6 +1,6 @@
-pub mod PlainQuery
 pub mod Cells
-pub mod Fields
+pub mod Counting
 pub mod Fits
 pub mod Order
 pub mod Running
+pub mod Taken

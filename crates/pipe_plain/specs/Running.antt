@@ -1,6 +1,6 @@
 -- A table of running groups: keys in order, each with its running aggregates.
-use Rattle.std.specs.Prelude.{◌≡◌, Bool, true, ℕ, ◌+◌, ◌<◌, ◌≤◌, List, [], ◌∷◌, ◌++◌, length, map, fold, take, drop, Option, Some, None, unwrap_or}
-use Rattle.std.specs.List.{flat_map, list_all}
+use Rattle.std.specs.Prelude.{◌≡◌, true, ℕ, ◌+◌, ◌<◌, ◌≤◌, List, [], ◌∷◌, ◌++◌, length, map, fold, take, drop, Option, Some, None, unwrap_or}
+use Rattle.std.specs.List.{flat_map}
 use Rattle.std.specs.declared.cmp.Ordering.{Ordering}
 use Rattle.std.specs.declared.cmp.Ordering.TheVariants.{Less, Equal, Greater}
 use Rattle.std.specs.Ordering.{match_ordering}
@@ -9,10 +9,8 @@ use Rattle.pipe_columns.specs.declared.place.Place.{Place}
 use Rattle.pipe_columns.specs.Frame.{value_at}
 use Rattle.pipe_columns.specs.Row.{Row}
 use Rattle.pipe_running.specs.declared.function.AggregateFunction.{AggregateFunction}
-use Rattle.pipe_running.specs.States.{after_value, fresh, given, output_values, seen}
+use Rattle.pipe_running.specs.States.{after_value, fresh, given, output_values, seen, takes}
 use Rattle.pipe_model.specs.Answer.{entry_of, rows_at, tuple_cmp}
-use Rattle.pipe_plain.specs.declared.query.PlainAgg.{PlainAgg}
-use Rattle.pipe_plain.specs.PlainQuery.{is_plain_function}
 use Rattle.pipe_plain.specs.declared.groups.Group.{Group}
 use Rattle.pipe_plain.specs.declared.groups.Spot.{Spot}
 use Rattle.pipe_plain.specs.declared.groups.Spot.TheVariants as spot
@@ -37,8 +35,8 @@ abbrev pub fed : Place × List AnyValue → Line → Line
 fed v line = record { first = Some (unwrap_or line.first v.0); states = fed_from v.0 0 v.1 line.states }
 
 -- the line of a key before any row
-abbrev pub starts : List PlainAgg → Line
-starts aggs = record { first = None; states = map (λ a. fresh a.function) aggs }
+abbrev pub starts : List AggregateFunction → Line
+starts prototypes = record { first = None; states = map fresh prototypes }
 
 -- the line of some rows
 abbrev pub line_of : Line → List (Place × List AnyValue) → Line
@@ -56,8 +54,8 @@ abbrev pub with_rows : Line → Table → List Row → Table
 with_rows start table rs = fold (λ t r. with_row start t r) table rs
 
 -- a key with the line of its rows
-abbrev pub keyed_line : List PlainAgg → List Row → List AnyValue → List AnyValue × Line
-keyed_line aggs rs key = (key, line_of (starts aggs) (rows_at rs key))
+abbrev pub keyed_line : List AggregateFunction → List Row → List AnyValue → List AnyValue × Line
+keyed_line prototypes rs key = (key, line_of (starts prototypes) (rows_at rs key))
 
 abbrev pub group_seen : Group → List AnyValue × Line
 group_seen g = (g.key.items, record { first = Some g.first; states = g.states.items })
@@ -66,18 +64,31 @@ group_seen g = (g.key.items, record { first = Some g.first; states = g.states.it
 abbrev pub output_row : List AnyValue × Line → List AnyValue
 output_row g = g.0 ++ flat_map (λ s. output_values (given s)) g.1.states
 
--- no aggregate has counted more than n values, and each is one that the plain program keeps
+-- no running aggregate has counted more than n values
 abbrev pub StatesSeen : ℕ → List AggregateFunction → Type 0
 StatesSeen n [] = Unit {0}
-StatesSeen n (s ∷ ss) = ((seen s ≤ n) × (is_plain_function s ≡ true)) × StatesSeen n ss
+StatesSeen n (s ∷ ss) = (seen s ≤ n) × StatesSeen n ss
 
--- the aggregates of a query are such
-abbrev pub are_plain_functions : List PlainAgg → Bool
-are_plain_functions aggs = list_all (λ a. is_plain_function a.function) aggs
+-- each running aggregate takes its input, from the input at place j on
+abbrev pub TakesFrom : ℕ → List AggregateFunction → List AnyValue → Type 0
+TakesFrom j [] inputs = Unit {0}
+TakesFrom j (s ∷ ss) inputs = (takes s (value_at inputs j) ≡ true) × TakesFrom (j + 1) ss inputs
 
-abbrev pub TableSeen : ℕ → Table → Type 0
-TableSeen n [] = Unit {0}
-TableSeen n (g ∷ gs) = StatesSeen n g.1.states × TableSeen n gs
+-- a running aggregate has counted at most n values, and takes what its prototype takes
+abbrev pub IsLike : ℕ → AggregateFunction → AggregateFunction → Type 0
+IsLike n prototype s = (seen s ≤ n) × ((v : AnyValue) → takes s v ≡ takes prototype v)
+
+-- so is each of some, one for each prototype
+abbrev pub StatesHold : ℕ → List AggregateFunction → List AggregateFunction → Type 0
+StatesHold n [] [] = Unit {0}
+StatesHold n [] (s ∷ ss) = ⊥
+StatesHold n (f ∷ fs) [] = ⊥
+StatesHold n (f ∷ fs) (s ∷ ss) = IsLike n f s × StatesHold n fs ss
+
+-- so are those of each group of a table
+abbrev pub TableHolds : ℕ → List AggregateFunction → Table → Type 0
+TableHolds n prototypes [] = Unit {0}
+TableHolds n prototypes (g ∷ gs) = StatesHold n prototypes g.1.states × TableHolds n prototypes gs
 
 -- k is below each key of a table
 abbrev pub AllAbove : List AnyValue → Table → Type 0

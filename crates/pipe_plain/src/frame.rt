@@ -1,58 +1,13 @@
-ghost use Rattle.std.specs.Prelude.{◌≡◌, ◌∷◌, ◌++◌, All, IfOk, OnOk, map, true, false};
+ghost use Rattle.std.specs.Prelude.{◌≡◌, ◌∷◌, ◌++◌, IfOk, OnOk, map, true, false};
 ghost use Rattle.pipe_columns.specs.Frame.{all_fit, frame_of, value_at};
 ghost use Rattle.pipe_running.specs.States.{output_values};
-ghost use Rattle.pipe_aggs.specs.Expr.{column};
-ghost use Rattle.pipe_aggs.specs.Output.{key_types, output_schema};
-ghost use Rattle.pipe_aggs.specs.Typing.{known_type};
 ghost use Rattle.pipe_plain.specs.Fits.{HoldsTypes, RowsFit};
-ghost use Rattle.pipe_plain.specs.PlainQuery.{is_plain, query_tree};
 ghost use Rattle.pipe_plain.specs.Running.{group_seen, output_row as row_given};
 
-use crate::conditions::dtype_named;
 use crate::groups::Group;
-use crate::query::PlainQuery;
-use pipe_columns::{AnyValue, Column, DataChunk, DataFrame, DataType, Field, Text};
-use pipe_running::{AggregateFn, Finalized};
+use pipe_aggs::{AggregateFn, Finalized};
+use pipe_columns::{AnyValue, Column, DataFrame, Field};
 use std::alloc::{AllocError, Global};
-
-/// The type of the first field of a name, that of a count where there is none.
-fn dtype_of(fields: &[Field], name: &Text) -> DataType
-    ensures { result ≡ known_type (column name.now) fields.now }
-{
-    dtype_named(fields, name).unwrap_or(DataType::UInt32)
-}
-
-/// The types of the keys of a query.
-pub fn key_dtypes(alloc: Global, query: &PlainQuery) -> Result<Vec<DataType>, AllocError>
-    ensures { IfOk result (λ types. types.items ≡ key_types (query_tree query.now)) }
-{
-    let mut types = Vec::new(alloc);
-    let known = query.schema.fields();
-    for key in &query.keys {
-        types.push(dtype_of(known, key))?;
-    }
-    Ok(types)
-}
-
-/// The fields of the answer: those of the keys, then those of the aggregates.
-pub fn output_fields(alloc: Global, query: &PlainQuery) -> Result<Vec<Field>, AllocError>
-    requires { is_plain query.now ≡ true }
-    ensures { IfOk result (λ fields. fields.items ≡ output_schema (query_tree query.now)) }
-{
-    let mut fields = Vec::new(alloc);
-    let known = query.schema.fields();
-    for key in &query.keys {
-        let name = key.try_clone(alloc)?;
-        let dtype = dtype_of(known, key);
-        fields.push(Field { name, dtype })?;
-    }
-    for agg in &query.aggs {
-        let name = agg.name.try_clone(alloc)?;
-        let dtype = agg.function.dtype();
-        fields.push(Field { name, dtype })?;
-    }
-    Ok(fields)
-}
 
 /// Puts what an aggregate gives at the end of a row.
 fn push_outputs(row: &mut Vec<AnyValue>, outputs: Finalized) -> Result<(), AllocError>
@@ -129,21 +84,12 @@ fn output_column(
 }
 
 /// Recalls that the values of a frame fit their columns' types, by a look at each column.
-fn recall_types(frame: &DataFrame)
+pub fn recall_types(frame: &DataFrame)
     ensures { HoldsTypes frame.now }
 {
     let columns = frame.columns();
     for column in columns {
         column.values();
-    }
-}
-
-/// Recalls that the values of chunks fit their columns' types.
-pub fn recall_chunk_types(chunks: &[DataChunk])
-    ensures { All (λ c. HoldsTypes c.frame) chunks.now }
-{
-    for chunk in chunks {
-        recall_types(&chunk.frame);
     }
 }
 

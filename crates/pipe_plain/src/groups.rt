@@ -1,11 +1,15 @@
-ghost use Rattle.std.specs.Prelude.{◌≡◌, ◌^◌, ◌-◌, ◌∷◌, IfOk, OnOk, map, true};
+ghost use Rattle.std.specs.Prelude.{◌≡◌, ◌≤◌, ◌^◌, ◌-◌, ◌∷◌, IfOk, OnOk, map, true};
 ghost use Rattle.pipe_columns.specs.declared.any_value.AnyValue.{AnyValue};
+ghost use Rattle.pipe_columns.specs.Frame.{value_at};
+ghost use Rattle.pipe_running.specs.States.{after_value, seen, takes};
 ghost use Rattle.pipe_plain.specs.Cells.{cells, row_read};
+ghost use Rattle.pipe_plain.specs.Counting.{counts};
 
-use crate::query::PlainAgg;
-use crate::rows::{Positions, compare_key, own_input, own_key};
-use pipe_columns::{AnyValue, Column, Place};
-use pipe_running::{AggregateFn, AggregateFunction};
+use crate::cells::{compare_key, own_input, own_key};
+use crate::guesses::{Guesses, key_number};
+use crate::lists::ValueLists;
+use pipe_aggs::{AggregateFn, AggregateFunction, Values};
+use pipe_columns::{AnyValue, Place};
 use std::alloc::{AllocError, Global};
 use std::cmp::Ordering;
 
@@ -24,40 +28,65 @@ pub enum Spot {
     Before(usize),
 }
 
+/// Whether an aggregate looks only at whether values are null.
+fn counts(function: &AggregateFunction) -> bool
+    ensures { result ≡ counts function.now }
+{
+    matches!(
+        function,
+        AggregateFunction::Count(_) | AggregateFunction::Len(_) | AggregateFunction::Null(_)
+    )
+}
+
+/// Feeds a running aggregate the input at place j of a row.
+fn feed_state(
+    alloc: Global,
+    state: &mut AggregateFunction,
+    inputs: &[Values<'_>],
+    j: usize,
+    place: Place,
+) -> Result<(), AllocError>
+    requires few { seen state.old ≤ 2 ^ 32 - 2 }
+    requires taken { takes state.old (value_at (cells inputs.now place.row) j) ≡ true }
+    ensures ok { OnOk result (state.new
+        ≡ after_value place (value_at (cells inputs.now place.row) j) state.old) }
+{
+    let value = own_input(alloc, inputs, place.row as usize, j, counts(state))?;
+    state.pre_agg(place, value);
+    Ok(())
+}
+
 impl Group {
-    ghost use Rattle.pipe_plain.specs.Running.{fed_from, StatesSeen};
+    ghost use Rattle.pipe_plain.specs.Running.{fed_from, StatesSeen, TakesFrom};
 
     /// Takes the inputs of a row.
-    fn feed(
-        &mut self,
-        alloc: Global,
-        columns: &[Column],
-        inputs: &[usize],
-        place: Place,
-    ) -> Result<(), AllocError>
-        requires { StatesSeen (2 ^ 32 - 2) self.old.states.items }
+    fn feed(&mut self, alloc: Global, inputs: &[Values<'_>], place: Place) -> Result<(), AllocError>
+        requires few { StatesSeen (2 ^ 32 - 2) self.old.states.items }
+        requires taken { TakesFrom 0 self.old.states.items (cells inputs.now place.row) }
         ensures key { self.new.key ≡ self.old.key }
         ensures first { self.new.first ≡ self.old.first }
         ensures ok { OnOk result (self.new.states.items
-            ≡ fed_from place 0 (cells columns.now place.row inputs.now) self.old.states.items) }
+            ≡ fed_from place 0 (cells inputs.now place.row) self.old.states.items) }
     {
         for j in 0..self.states.len() {
-            let value = own_input(alloc, columns, place.row as usize, inputs, j)?;
-            self.states[j].pre_agg(place, value);
+            feed_state(alloc, &mut self.states[j], inputs, j, place)?;
         }
         Ok(())
     }
 }
 
-ghost use Rattle.pipe_plain.specs.Running.{are_plain_functions, fed, group_seen, IsAscending, IsSpot, starts, TableSeen, with_row};
+ghost use Rattle.pipe_plain.specs.Running.{fed, group_seen, IsAscending, IsSpot, starts, TableHolds, TakesFrom, with_row};
 
-/// The aggregates of a query before any row.
-fn starting(alloc: Global, aggs: &[PlainAgg]) -> Result<Vec<AggregateFunction>, AllocError>
-    ensures { IfOk result (λ states. states.items ≡ (starts aggs.now).states) }
+/// Running aggregates before any row, of the kinds of others.
+fn starting(
+    alloc: Global,
+    prototypes: &[AggregateFunction],
+) -> Result<Vec<AggregateFunction>, AllocError>
+    ensures { IfOk result (λ states. states.items ≡ (starts prototypes.now).states) }
 {
-    let mut states = Vec::new(alloc);
-    for agg in aggs {
-        states.push(agg.function.split())?;
+    let mut states = Vec::with_capacity(alloc, prototypes.len())?;
+    for prototype in prototypes {
+        states.push(prototype.split())?;
     }
     Ok(states)
 }
@@ -65,36 +94,35 @@ fn starting(alloc: Global, aggs: &[PlainAgg]) -> Result<Vec<AggregateFunction>, 
 /// The group of a row that is the first of its key.
 fn new_group(
     alloc: Global,
-    aggs: &[PlainAgg],
-    columns: &[Column],
-    positions: &Positions,
+    prototypes: &[AggregateFunction],
+    lists: &ValueLists<'_>,
     place: Place,
 ) -> Result<Group, AllocError>
-    requires { are_plain_functions aggs.now ≡ true }
-    ensures { IfOk result (λ g. let row = row_read columns.now positions.now place in
-        group_seen g ≡ (row.key, fed (place, row.inputs) (starts aggs.now))) }
+    requires { TakesFrom 0 prototypes.now (row_read lists.now place).inputs }
+    ensures { IfOk result (λ g. let row = row_read lists.now place in
+        group_seen g ≡ (row.key, fed (place, row.inputs) (starts prototypes.now))) }
 {
-    let key = own_key(alloc, columns, place.row as usize, &positions.keys)?;
-    let states = starting(alloc, aggs)?;
+    let key = own_key(alloc, &lists.keys, place.row as usize)?;
+    let states = starting(alloc, prototypes)?;
     let mut group = Group {
         key,
         first: place,
         states,
     };
-    group.feed(alloc, columns, &positions.inputs, place)?;
+    group.feed(alloc, &lists.inputs, place)?;
     Ok(group)
 }
 
 /// Where a table has the group of a row.
-fn find(table: &[Group], columns: &[Column], row: usize, keys: &[usize]) -> Spot
+fn find(table: &[Group], keys: &[Values<'_>], row: usize) -> Spot
     requires { IsAscending (map group_seen table.now) }
-    ensures { IsSpot (cells columns.now row keys.now) (map group_seen table.now) result }
+    ensures { IsSpot (cells keys.now row) (map group_seen table.now) result }
 {
     let mut low = 0;
     let mut high = table.len();
     while low < high {
         let middle = low + (high - low) / 2;
-        match compare_key(columns, row, keys, &table[middle].key) {
+        match compare_key(keys, row, &table[middle].key) {
             Ordering::Less => high = middle,
             Ordering::Equal => return Spot::At(middle),
             Ordering::Greater => low = middle + 1,
@@ -103,29 +131,47 @@ fn find(table: &[Group], columns: &[Column], row: usize, keys: &[usize]) -> Spot
     Spot::Before(low)
 }
 
+/// Where a table has the group of a row, which may be where it is guessed.
+fn find_near(table: &[Group], keys: &[Values<'_>], row: usize, guess: usize) -> Spot
+    requires { IsAscending (map group_seen table.now) }
+    ensures { IsSpot (cells keys.now row) (map group_seen table.now) result }
+{
+    if guess < table.len() {
+        if compare_key(keys, row, &table[guess].key) == Ordering::Equal {
+            return Spot::At(guess);
+        }
+    }
+    find(table, keys, row)
+}
+
 /// Puts a row into a table.
 pub fn add_row(
     alloc: Global,
     table: &mut Vec<Group>,
-    aggs: &[PlainAgg],
-    columns: &[Column],
-    positions: &Positions,
+    guesses: &mut Guesses,
+    prototypes: &[AggregateFunction],
+    lists: &ValueLists<'_>,
     place: Place,
 ) -> Result<(), AllocError>
-    requires seen { TableSeen (2 ^ 32 - 2) (map group_seen table.old.items) }
+    requires held { TableHolds (2 ^ 32 - 2) prototypes.now (map group_seen table.old.items) }
     requires ascending { IsAscending (map group_seen table.old.items) }
-    requires plain { are_plain_functions aggs.now ≡ true }
+    requires taken { TakesFrom 0 prototypes.now (row_read lists.now place).inputs }
     ensures { OnOk result (map group_seen table.new.items
-        ≡ with_row (starts aggs.now) (map group_seen table.old.items)
-        (row_read columns.now positions.now place)) }
+        ≡ with_row (starts prototypes.now) (map group_seen table.old.items)
+        (row_read lists.now place)) }
 {
-    match find(table, columns, place.row as usize, &positions.keys) {
+    let number = key_number(&lists.keys, place.row as usize);
+    let guess = guesses.get(number);
+    match find_near(table, &lists.keys, place.row as usize, guess) {
         Spot::At(i) => {
+            if i != guess {
+                guesses.set(number, i);
+            }
             let group = &mut table[i];
-            group.feed(alloc, columns, &positions.inputs, place)
+            group.feed(alloc, &lists.inputs, place)
         }
         Spot::Before(i) => {
-            let group = new_group(alloc, aggs, columns, positions, place)?;
+            let group = new_group(alloc, prototypes, lists, place)?;
             table.insert(i, group)?;
             Ok(())
         }

@@ -2,17 +2,19 @@
 //! so faster programs are tested beside it.
 #![tactic(auto)]
 
+mod cells;
 mod conditions;
 mod frame;
 mod groups;
+mod guesses;
+mod lists;
 mod order;
 mod plain;
-mod query;
-mod rows;
+mod table;
 
-pub use conditions::{are_chunks, is_plain_query};
+pub use conditions::are_chunks;
 pub use plain::plain_answer;
-pub use query::{PlainAgg, PlainQuery};
+pub use table::PlainGroups;
 
 #[cfg(test)]
 mod tests;

@@ -13,7 +13,8 @@ use std::alloc::{AllocError, Global};
 
 /// The groups of a table in the order of their first rows.
 pub fn by_first_row(mut table: Vec<Group>) -> Result<Vec<Group>, AllocError>
-    ensures { IfOk result (λ sorted. IsSortedStably (λ g. g.first) place_cmp table.items sorted.items) }
+    ensures { IfOk result (λ sorted. IsSortedStably (λ g. g.first) place_cmp
+        table.items sorted.items) }
 {
     table.sort_by_key(|group| group.first)?;
     Ok(table)
@@ -69,8 +70,8 @@ pub fn by_partition(
 ) -> Result<Vec<Group>, AllocError>
     requires some { 0 < partitions }
     requires typed { All (λ g. AreOfTypes types.now g.key.items) table.items }
-    ensures { IfOk result (λ sorted. IsSortedStably (λ g. partition_due partitions types.now g.key.items)
-        nat_cmp table.items sorted.items) }
+    ensures { IfOk result (λ sorted. IsSortedStably
+        (λ g. partition_due partitions types.now g.key.items) nat_cmp table.items sorted.items) }
 {
     let mut placed = with_partitions(alloc, table, types, partitions)?;
     placed.sort_by_key(|place| place.partition)?;

@@ -1,9 +1,10 @@
-use crate::{PlainAgg, PlainQuery, are_chunks, is_plain_query, plain_answer};
+use crate::{are_chunks, plain_answer};
+use pipe_aggs::{AExpr, Arena, IRAggExpr, Node, Query};
 use pipe_columns::{AnyValue, Column, DataChunk, DataFrame, DataType, Field, Schema, Text};
-use pipe_running::{AggregateFunction, CountAgg, SumAgg};
 use std::alloc::{AllocError, Global};
 use std::test::Fail;
 
+mod expressions;
 mod mixed;
 mod order;
 
@@ -41,60 +42,79 @@ fn chunk_of(alloc: Global, rows: &[Given]) -> Result<DataChunk, Fail> {
     })
 }
 
-fn field_of(alloc: Global, name: &str) -> Result<Field, AllocError> {
-    Ok(Field {
-        name: Text::new(alloc, name)?,
-        dtype: DataType::Int64,
-    })
+fn field_of(alloc: Global, name: &str, dtype: DataType) -> Result<Field, AllocError> {
+    let name = Text::new(alloc, name)?;
+    Ok(Field { name, dtype })
 }
 
-fn agg_of(alloc: Global, name: &str, function: AggregateFunction) -> Result<PlainAgg, AllocError> {
-    Ok(PlainAgg {
-        name: Text::new(alloc, name)?,
-        input: Text::new(alloc, "v")?,
-        function,
-    })
+/// Adds an expression to an arena.
+fn add(arena: &mut Arena, expr: AExpr) -> Result<Node, Fail> {
+    match arena.add(expr) {
+        Ok(node) => Ok(node),
+        Err(_) => Err("not added".into()),
+    }
+}
+
+/// Adds a column of a name.
+fn add_column(alloc: Global, arena: &mut Arena, name: &str) -> Result<Node, Fail> {
+    add(arena, AExpr::Column(Text::new(alloc, name)?))
+}
+
+/// Adds an aggregate under a name.
+fn add_agg(alloc: Global, arena: &mut Arena, agg: IRAggExpr, name: &str) -> Result<Node, Fail> {
+    let node = add(arena, AExpr::Agg(agg))?;
+    add(arena, AExpr::Alias(node, Text::new(alloc, name)?))
 }
 
 /// What is asked besides keys: a slice, whether order is kept, and a number of partitions.
-type Wanted = (Option<(usize, usize)>, bool, usize);
+type Wanted = (Option<(i64, usize)>, bool, usize);
 
 /// No slice, no order kept, and one partition.
 const ALL: Wanted = (None, false, 1);
 
-/// The query for the sum and the count of v by some keys.
-fn query_of(alloc: Global, keys: &[&str], wanted: Wanted) -> Result<PlainQuery, AllocError> {
+/// The schema of the columns j, k and v.
+fn schema_of(alloc: Global) -> Result<Schema, AllocError> {
     let mut fields = Vec::new(alloc);
-    fields.push(field_of(alloc, "j")?)?;
-    fields.push(field_of(alloc, "k")?)?;
-    fields.push(field_of(alloc, "v")?)?;
-    let mut names = Vec::new(alloc);
-    for key in keys {
-        names.push(Text::new(alloc, key)?)?;
+    for name in ["j", "k", "v"] {
+        fields.push(field_of(alloc, name, DataType::Int64)?)?;
     }
-    let mut aggs = Vec::new(alloc);
-    aggs.push(agg_of(alloc, "s", AggregateFunction::SumI64(SumAgg::new()))?)?;
-    aggs.push(agg_of(alloc, "c", AggregateFunction::Count(CountAgg::new()))?)?;
-    Ok(PlainQuery {
-        schema: Schema::new(fields),
-        keys: names,
-        aggs,
+    Ok(Schema::new(fields))
+}
+
+/// The query for the sum and the count of v by some keys.
+fn query_of(alloc: Global, names: &[&str], wanted: Wanted) -> Result<Query, Fail> {
+    let mut arena = Arena::new(alloc);
+    let mut keys = Vec::new(alloc);
+    for name in names {
+        keys.push(add_column(alloc, &mut arena, name)?)?;
+    }
+    let input = add_column(alloc, &mut arena, "v")?;
+    let sum = add_agg(alloc, &mut arena, IRAggExpr::Sum(input), "s")?;
+    let count = add_agg(alloc, &mut arena, IRAggExpr::Count(input, false), "c")?;
+    Ok(Query {
+        schema: schema_of(alloc)?,
+        arena,
+        keys,
+        aggs: vec![in alloc; sum, count]?,
         slice: wanted.0,
         maintain_order: wanted.1,
     })
 }
 
-/// The answer, or none where the query, the chunks or the partitions aren't plain ones.
+/// The answer of a query without fault over chunks of its columns.
 fn asked(
     alloc: Global,
     chunks: &[DataChunk],
-    query: &PlainQuery,
+    query: &Query,
     partitions: usize,
-) -> Result<Option<DataFrame>, AllocError> {
-    if partitions > 0 && is_plain_query(query) && are_chunks(chunks, query) {
-        Ok(Some(plain_answer(alloc, chunks, query, partitions)?))
+) -> Result<DataFrame, Fail> {
+    let Ok(checked) = query.check(alloc) else {
+        return Err("refused".into());
+    };
+    if partitions > 0 && are_chunks(chunks, &checked) {
+        Ok(plain_answer(alloc, chunks, &checked, partitions)?)
     } else {
-        Ok(None)
+        Err("other chunks".into())
     }
 }
 
@@ -140,7 +160,7 @@ fn answered(
         chunks.push(chunk_of(alloc, piece)?)?;
     }
     let query = query_of(alloc, keys, wanted)?;
-    let frame = asked(alloc, &chunks, &query, wanted.2)?.ok_or("not plain")?;
+    let frame = asked(alloc, &chunks, &query, wanted.2)?;
     text_of(alloc, &frame)
 }
 

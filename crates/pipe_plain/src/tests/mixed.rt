@@ -1,7 +1,6 @@
-use super::{agg_of, asked, text_of};
-use crate::PlainQuery;
-use pipe_columns::{AnyValue, Column, DataChunk, DataFrame, DataType, Field, Schema, Text};
-use pipe_running::{AggregateFunction, SumAgg};
+use super::{add_agg, add_column, asked, field_of, text_of};
+use pipe_aggs::{Arena, IRAggExpr, Query};
+use pipe_columns::{AnyValue, Column, DataChunk, DataFrame, DataType, Schema, Text};
 use std::alloc::{AllocError, Global};
 use std::test::Fail;
 
@@ -48,21 +47,21 @@ fn chunk_of(alloc: Global, rows: &[Given]) -> Result<DataChunk, Fail> {
 }
 
 /// The query for the sum of v by some keys.
-fn query_of(alloc: Global, names: &[&str]) -> Result<PlainQuery, AllocError> {
+fn query_of(alloc: Global, names: &[&str]) -> Result<Query, Fail> {
     let mut fields = Vec::new(alloc);
     for (name, dtype) in COLUMNS {
-        fields.push(Field {
-            name: Text::new(alloc, name)?,
-            dtype,
-        })?;
+        fields.push(field_of(alloc, name, dtype)?)?;
     }
+    let mut arena = Arena::new(alloc);
     let mut keys = Vec::new(alloc);
-    for key in names {
-        keys.push(Text::new(alloc, key)?)?;
+    for name in names {
+        keys.push(add_column(alloc, &mut arena, name)?)?;
     }
-    let sum = agg_of(alloc, "s", AggregateFunction::SumI64(SumAgg::new()))?;
-    Ok(PlainQuery {
+    let input = add_column(alloc, &mut arena, "v")?;
+    let sum = add_agg(alloc, &mut arena, IRAggExpr::Sum(input), "s")?;
+    Ok(Query {
         schema: Schema::new(fields),
+        arena,
         keys,
         aggs: vec![in alloc; sum]?,
         slice: None,
@@ -86,7 +85,7 @@ fn keys_of_three_types(rt: HostRuntime) -> Result<(), Fail> {
     let mut chunks = Vec::new(alloc);
     chunks.push(chunk_of(alloc, rows)?)?;
     let query = query_of(alloc, &["name", "open", "day"])?;
-    let frame = asked(alloc, &chunks, &query, 1)?.ok_or("not plain")?;
+    let frame = asked(alloc, &chunks, &query, 1)?;
     assert_eq!(rt;
         text_of(alloc, &frame)?.as_str(),
         " null true 0 5; a null 1 6; a false 9 3; a true -1 4; a true 2 10; ab false 0 7; b true 3 1;"
@@ -101,7 +100,7 @@ fn texts_in_two_partitions(rt: HostRuntime) -> Result<(), Fail> {
     let mut chunks = Vec::new(alloc);
     chunks.push(chunk_of(alloc, rows)?)?;
     let query = query_of(alloc, &["name"])?;
-    let frame = asked(alloc, &chunks, &query, 2)?.ok_or("not plain")?;
+    let frame = asked(alloc, &chunks, &query, 2)?;
     assert_eq!(rt; text_of(alloc, &frame)?.as_str(), " a 2; b 1;");
     Ok(())
 }

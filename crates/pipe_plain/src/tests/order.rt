@@ -30,12 +30,13 @@ fn check(
 fn slices(rt: HostRuntime) -> Result<(), Fail> {
     let alloc = rt.alloc();
     let most = 18446744073709551615;
+    let last = 9223372036854775807;
     let five = rows_of(alloc, &[5, 3, 1, 2, 4])?;
     let cases: &[(Wanted, &str)] = &[
         ((Some((2, 10)), false, 1), " 3 3 1; 4 4 1; 5 5 1;"),
         ((Some((0, 2)), false, 1), " 1 1 1; 2 2 1;"),
         ((Some((1, most)), false, 1), " 2 2 1; 3 3 1; 4 4 1; 5 5 1;"),
-        ((Some((most, most)), false, 1), ""),
+        ((Some((last, most)), false, 1), ""),
         ((Some((0, 0)), false, 1), ""),
     ];
     check(&rt, &five, cases)?;
@@ -66,6 +67,18 @@ fn kept_order(rt: HostRuntime) -> Result<(), Fail> {
         let text = answered(alloc, &["k"], *wanted, &[front, back])?;
         assert_eq!(rt; text.as_str(), *due);
     }
+    Ok(())
+}
+
+#[test]
+fn many_chunks(rt: HostRuntime) -> Result<(), Fail> {
+    let alloc = rt.alloc();
+    let three: &[Given] = &[[None, Some(3), Some(1)]];
+    let two: &[Given] = &[[None, Some(2), Some(10)]];
+    let one: &[Given] = &[[None, Some(1), Some(100)]];
+    let ten: &[&[Given]] = &[three, two, two, one, three, two, two, one, three, one];
+    let text = answered(alloc, &["k"], (None, true, 1), ten)?;
+    assert_eq!(rt; text.as_str(), " 3 3 3; 2 40 4; 1 300 3;");
     Ok(())
 }
 

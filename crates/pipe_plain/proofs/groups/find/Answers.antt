@@ -10,7 +10,7 @@ use Rattle.pipe_plain.proofs.groups.find.Goals as goal
 pub loop-low-preserved-in-Less : goal.loop-low-preserved-in-Less
 loop-low-preserved-in-Less c =
     let middle = c.loop-low.low + (c.loop-low.high - c.loop-low.low) / 2 in
-    let key : List AnyValue = cells c.args.columns.now c.args.row c.args.keys.now in
+    let key : List AnyValue = cells c.args.keys.now c.args.row in
     let group : Group = c.index-table-middle.result in
     let within : middle < length c.args.table.now = omega (arith, c.loop-low.invariant.within, c.loop-low-test.true) in
     let order : tuple_cmp key group.key.items ≡ Less = search rules in
@@ -24,7 +24,7 @@ loop-low-preserved-in-Less c =
 pub returns-in-Equal : goal.returns-in-Equal
 returns-in-Equal c =
     let middle = c.loop-low.low + (c.loop-low.high - c.loop-low.low) / 2 in
-    let key : List AnyValue = cells c.args.columns.now c.args.row c.args.keys.now in
+    let key : List AnyValue = cells c.args.keys.now c.args.row in
     let group : Group = c.index-table-middle.result in
     let within : middle < length c.args.table.now = omega (arith, c.loop-low.invariant.within, c.loop-low-test.true) in
     let order : tuple_cmp key group.key.items ≡ Equal = search rules in
@@ -33,7 +33,7 @@ returns-in-Equal c =
 pub loop-low-preserved : goal.loop-low-preserved
 loop-low-preserved c =
     let middle = c.loop-low.low + (c.loop-low.high - c.loop-low.low) / 2 in
-    let key : List AnyValue = cells c.args.columns.now c.args.row c.args.keys.now in
+    let key : List AnyValue = cells c.args.keys.now c.args.row in
     let group : Group = c.index-table-middle.result in
     let within : middle < length c.args.table.now = omega (arith, c.loop-low.invariant.within, c.loop-low-test.true) in
     let order : tuple_cmp key group.key.items ≡ Greater = search rules in

@@ -8,8 +8,8 @@ abbrev pub invariant-loop-low : goal.invariant-loop-low
 invariant-loop-low l = record {
   ordered : l.low ≤ l.high;
   within : l.high ≤ length l.table;
-  below : AllBelow (cells l.columns l.row l.keys) (take l.low (map group_seen l.table));
-  above : AllAbove (cells l.columns l.row l.keys) (drop l.high (map group_seen l.table));
+  below : AllBelow (cells l.keys l.row) (take l.low (map group_seen l.table));
+  above : AllAbove (cells l.keys l.row) (drop l.high (map group_seen l.table));
 }
 
 abbrev pub decreases-loop-low : goal.decreases-loop-low

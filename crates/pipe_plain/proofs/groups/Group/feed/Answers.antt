@@ -1,24 +1,29 @@
-use Rattle.std.proofs.Common.{true, refl, arith, ◌≡◌, ◌∷◌, ◌+◌, ◌-◌, ◌^◌, ◌∙◌, List, length, ◌<◌, sym, drop, ap}
-use Rattle.std.proofs.lemmas.List.{drop_more, length-drop}
+use Rattle.std.proofs.Common.{true, arith, ℕ, subst, ◌≡◌, ◌<◌, ◌+◌, ◌-◌, ◌^◌, ◌∷◌, List, length, drop}
+use Rattle.pipe_columns.specs.declared.any_value.AnyValue.{AnyValue}
+use Rattle.pipe_columns.specs.Frame.{value_at}
 use Rattle.pipe_running.specs.declared.function.AggregateFunction.{AggregateFunction}
 use Rattle.pipe_running.specs.States.{takes}
-use Rattle.pipe_plain.proofs.SeenFacts.{plain_function_is, Seen, states-drop, states-head}
+use Rattle.pipe_plain.specs.Cells.{cells}
+use Rattle.pipe_plain.proofs.HoldFacts.{left_at, seen-at, takes-at}
 use Rattle.pipe_plain.proofs.groups.Group.feed.Goals as goal
 
-seen_here : (c : goal.After-index_mut) → Seen (2 ^ 32 - 2) c.index_mut.result.now
-seen_here c =
+pub feed_state-requires-clause-few : goal.feed_state-requires-clause-few
+feed_state-requires-clause-few c =
     let state : AggregateFunction = c.index_mut.result.now in
-    let j = c.loop-j.j in
-    let states : List AggregateFunction = c.loop-j.self.states.items in
     let before : List AggregateFunction = c.args.self.now.states.items in
-    let same_left = ap length c.loop-j.invariant.left in
-    let within : j < length states = omega (arith, same_left, length-drop j states, length-drop j before, c.len-j-end.ensures) in
-    let left : drop j before ≡ state ∷ drop (j + 1) states =
-    sym c.loop-j.invariant.left ∙ drop_more states j state within ∙ ap (λ (s : AggregateFunction). s ∷ drop (j + 1) states) (sym c.index_mut.ensures.value) in
-    states-head (2 ^ 32 - 2) state (drop j before) (drop (j + 1) states) left (states-drop (2 ^ 32 - 2) j before c.requires)
+    let states : List AggregateFunction = c.loop-j.self.states.items in
+    let within : c.loop-j.j < length before = omega (arith, c.loop-j-test.true, c.len-j-end.ensures) in
+    let left : drop c.loop-j.j before ≡ state ∷ drop (c.loop-j.j + 1) states = left_at before states c.loop-j.j state c.loop-j.invariant.left within c.index_mut.ensures.value in
+    seen-at (2 ^ 32 - 2) state before (drop (c.loop-j.j + 1) states) c.loop-j.j left c.requires.few
 
-pub pre_agg-requires-clause-few : goal.pre_agg-requires-clause-few
-pre_agg-requires-clause-few c = omega (arith, (seen_here c).0)
-
-pub pre_agg-requires-clause-taken : goal.pre_agg-requires-clause-taken
-pre_agg-requires-clause-taken c = plain_function_is (λ g. takes g c.in_ok-value.value ≡ true) (λ a. refl) (λ a. refl) c.index_mut.result.now (seen_here c).1
+pub feed_state-requires-clause-taken : goal.feed_state-requires-clause-taken
+feed_state-requires-clause-taken c =
+    let state : AggregateFunction = c.index_mut.result.now in
+    let before : List AggregateFunction = c.args.self.now.states.items in
+    let states : List AggregateFunction = c.loop-j.self.states.items in
+    let inputs : List AnyValue = cells c.args.inputs.now c.args.place.row in
+    let within : c.loop-j.j < length before = omega (arith, c.loop-j-test.true, c.len-j-end.ensures) in
+    let left : drop c.loop-j.j before ≡ state ∷ drop (c.loop-j.j + 1) states = left_at before states c.loop-j.j state c.loop-j.invariant.left within c.index_mut.ensures.value in
+    let there : takes state (value_at inputs (0 + c.loop-j.j)) ≡ true = takes-at 0 c.loop-j.j state before (drop (c.loop-j.j + 1) states) inputs left c.requires.taken in
+    let T : ℕ → Type 0 = λ k. takes state (value_at inputs k) ≡ true in
+    subst T (omega arith) there

@@ -5,7 +5,7 @@ use Rattle.pipe_plain.proofs.groups.Group.feed.Given as goal
 
 -- the states so far are fed, and the others as they were
 abbrev pub invariant-loop-j : goal.invariant-loop-j
-invariant-loop-j l = let inputs = cells l.columns l.place.row l.inputs in record {
+invariant-loop-j l = let inputs = cells l.inputs l.place.row in record {
   key : l.self.key ≡ l.fn.self.key;
   first : l.self.first ≡ l.fn.self.first;
   left : drop l.j l.self.states.items ≡ drop l.j l.fn.self.states.items;

@@ -1,7 +1,0 @@
-use Rattle.std.proofs.Common.{◌≡◌, drop}
-use Rattle.pipe_aggs.specs.Typing.{field_named}
-use Rattle.pipe_plain.proofs.conditions.dtype_named.Given as goal
-
--- the fields so far have other names
-abbrev pub invariant-loop-field : goal.invariant-loop-field
-invariant-loop-field l = field_named l.name l.fields ≡ field_named l.name (drop l.field-index l.fields)

@@ -1,0 +1,97 @@
+//! What a query's keys and inputs are in the rows of a chunk.
+
+ghost use Rattle.std.specs.Prelude.{◌≡◌, IfOk, map, true};
+ghost use Rattle.pipe_columns.specs.Frame.{fields_of, FitsSchema};
+ghost use Rattle.pipe_exprs.specs.Evaluated.{items_of, row_values};
+ghost use Rattle.pipe_aggs.specs.Groupable.{is_fed};
+ghost use Rattle.pipe_aggs.specs.HashAggs.{input_of, IsThere};
+ghost use Rattle.pipe_aggs.specs.QueryTrees.{query_tree};
+ghost use Rattle.pipe_plain.specs.Cells.{input_values};
+
+use pipe_aggs::{AggInput, Arena, CheckedQuery, PipedExpr, Values};
+use pipe_columns::DataChunk;
+use std::alloc::{AllocError, Global};
+
+/// A list of values for each key and for each input, one a row. What only counts rows has an empty
+/// list.
+#[derive(Drop)]
+pub struct ValueLists<'a> {
+    pub keys: Vec<Values<'a>>,
+    pub inputs: Vec<Values<'a>>,
+}
+
+/// The values of the keys of a query.
+fn key_lists<'a>(
+    alloc: Global,
+    query: &CheckedQuery<'_>,
+    chunk: &'a DataChunk,
+) -> Result<Vec<Values<'a>>, AllocError>
+    requires { FitsSchema query.now.schema chunk.now.frame }
+    ensures { IfOk result (λ lists. map items_of lists.items
+        ≡ map (λ e. row_values e chunk.now.frame) (query_tree query.now).keys) }
+{
+    let query = query.query();
+    let mut lists = Vec::with_capacity(alloc, query.keys.len())?;
+    for key in &query.keys {
+        let expr = PipedExpr { node: *key };
+        lists.push(expr.values(alloc, &query.arena, chunk)?)?;
+    }
+    Ok(lists)
+}
+
+/// The values that an aggregate is fed.
+fn input_list<'a>(
+    alloc: Global,
+    input: &AggInput,
+    arena: &Arena,
+    chunk: &'a DataChunk,
+) -> Result<Values<'a>, AllocError>
+    requires there { IsThere arena.now input.now }
+    requires fed { is_fed (fields_of chunk.now.frame.columns) (input_of arena.now input.now)
+        ≡ true }
+    ensures { IfOk result (λ values. items_of values
+        ≡ input_values (input_of arena.now input.now) chunk.now.frame) }
+{
+    match input {
+        AggInput::Expr(expr) => expr.values(alloc, arena, chunk),
+        AggInput::Len(_) => Ok(Values::Own(Vec::new(alloc))),
+    }
+}
+
+/// The values that the aggregates of a query are fed.
+fn input_lists<'a>(
+    alloc: Global,
+    query: &CheckedQuery<'_>,
+    chunk: &'a DataChunk,
+) -> Result<Vec<Values<'a>>, AllocError>
+    requires { FitsSchema query.now.schema chunk.now.frame }
+    ensures { IfOk result (λ lists. map items_of lists.items
+        ≡ map (λ a. input_values a.input chunk.now.frame) (query_tree query.now).aggs) }
+{
+    let arena = &query.query().arena;
+    let inputs = query.inputs();
+    let mut lists = Vec::with_capacity(alloc, inputs.len())?;
+    for input in inputs {
+        lists.push(input_list(alloc, input, arena, chunk)?)?;
+    }
+    Ok(lists)
+}
+
+impl<'a> ValueLists<'a> {
+    /// The values of a query in the rows of a chunk. Those of a column are lent by the chunk.
+    pub fn new(
+        alloc: Global,
+        query: &CheckedQuery<'_>,
+        chunk: &'a DataChunk,
+    ) -> Result<ValueLists<'a>, AllocError>
+        requires { FitsSchema query.now.schema chunk.now.frame }
+        ensures keys { IfOk result (λ lists. map items_of lists.keys.items
+            ≡ map (λ e. row_values e chunk.now.frame) (query_tree query.now).keys) }
+        ensures inputs { IfOk result (λ lists. map items_of lists.inputs.items
+            ≡ map (λ a. input_values a.input chunk.now.frame) (query_tree query.now).aggs) }
+    {
+        let keys = key_lists(alloc, query, chunk)?;
+        let inputs = input_lists(alloc, query, chunk)?;
+        Ok(ValueLists { keys, inputs })
+    }
+}
