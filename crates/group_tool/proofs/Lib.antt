@@ -1,3 +1,1 @@
-pub mod Shapes
-pub mod PlainForms
-pub mod OutputNames
+pub mod AskedFacts

@@ -1,20 +1,35 @@
 -- The faults of a run, their statuses and their causes.
-use Rattle.std.specs.Prelude.{◌≡◌, ℕ, Option, None, ⊤}
-use Rattle.pipe_aggs.specs.Query.{QueryTree}
+use Rattle.std.specs.Prelude.{◌≡◌, ◌⊎◌, ℕ, List, Option, ⊤, Result, Ok, Err}
 use Rattle.pipe_ends.specs.Files.{Files}
 use Rattle.group_tool.specs.declared.fault.ToolFault.{ToolFault}
 use Rattle.group_tool.specs.declared.fault.ToolFault.TheVariants as fault
+use Rattle.group_tool.specs.Asked.{Asked, faulty, no_json, no_query, other_words}
 use Rattle.group_tool.specs.Headline.{IsDue}
+use Rattle.group_tool.specs.Status.{status_line}
 use Rattle.pipe_ends.specs.declared.csv_error.CsvError.{CsvError}
 use Rattle.pipe_ends.specs.declared.csv_error.CsvError.TheVariants as e
 
 abbrev pub status_of : ToolFault → ℕ
+status_of fault.NotBuilt = 11
+status_of fault.NotJson = 3
+status_of fault.NotAQuery = 3
+status_of (fault.Faulty f) = 3
 status_of fault.Refused = 4
 status_of fault.InputFailed = 5
 status_of fault.OutputFailed = 6
 status_of fault.TooLarge = 7
 status_of fault.Memory = 10
-status_of fault.NotBuilt = 11
+
+-- what is asked where the words have this fault
+abbrev pub asked_by : ToolFault → Asked
+asked_by fault.NotJson = no_json
+asked_by fault.NotAQuery = no_query
+asked_by (fault.Faulty f) = faulty f
+asked_by f = other_words
+
+-- the line that tells a fault
+abbrev pub fault_line : ToolFault → List ℕ
+fault_line f = status_line (asked_by f) (status_of f)
 
 -- the fault that an error of CSV makes
 abbrev pub csv_fault : CsvError → ToolFault
@@ -26,20 +41,31 @@ csv_fault e.TooLarge = fault.TooLarge
 csv_fault e.Memory = fault.Memory
 csv_fault (e.Missing f) = fault.Refused
 
--- where the input tells its files, what a fault says of them; nothing is said of what failed outside
-abbrev pub IsCaused : ToolFault → Option QueryTree → Option Files → Type 0
-IsCaused fault.Refused query told = IsDue 4 query told
-IsCaused fault.InputFailed query told = ⊤
-IsCaused fault.OutputFailed query told = IsDue 0 query told
-IsCaused fault.TooLarge query told = IsDue 7 query told
-IsCaused fault.Memory query told = ⊤
-IsCaused fault.NotBuilt query told = query ≡ None
+-- a fault of the words says what they ask for; nothing is said of want of memory
+abbrev pub IsOfWords : ToolFault → Asked → Type 0
+IsOfWords fault.NotBuilt a = a ≡ other_words
+IsOfWords fault.NotJson a = a ≡ no_json
+IsOfWords fault.NotAQuery a = a ≡ no_query
+IsOfWords (fault.Faulty f) a = a ≡ faulty f
+IsOfWords fault.Memory a = ⊤
+IsOfWords f a = ⊥
+
+-- what a fault says of what is asked and, where the input tells them, of its files; nothing is said
+-- of what failed outside
+abbrev pub IsCaused : ToolFault → Asked → Option Files → Type 0
+IsCaused fault.Refused a told = IsDue 4 a told
+IsCaused fault.InputFailed a told = ⊤
+IsCaused fault.OutputFailed a told = IsDue 0 a told
+IsCaused fault.TooLarge a told = IsDue 7 a told
+IsCaused f a told = IsOfWords f a
 
 -- a fault that comes before anything is written
 abbrev pub IsBefore : ToolFault → Type 0
-IsBefore fault.Refused = ⊤
-IsBefore fault.InputFailed = ⊤
 IsBefore fault.OutputFailed = ⊥
-IsBefore fault.TooLarge = ⊤
 IsBefore fault.Memory = ⊥
-IsBefore fault.NotBuilt = ⊤
+IsBefore f = ⊤
+
+-- a fault of this status ended a run, or want of memory did
+abbrev pub EndsWith : {A : Type 0} → ℕ → Result A ToolFault → Type 0
+EndsWith status (Ok v) = ⊥
+EndsWith status (Err f) = (status_of f ≡ status) ⊎ (f ≡ fault.Memory)

@@ -9,6 +9,7 @@ use Rattle.pipe_ends.specs.CsvChunks.{CsvChunks, ReadOptions, csv_chunks, text_r
 use Rattle.pipe_ends.specs.Files.{Files, file_of}
 use Rattle.pipe_ends.specs.Output.{WroteFront}
 use Rattle.pipe_ends.specs.Texts.{csv_text}
+use Rattle.group_tool.specs.Asked.{Asked, asks, faulty, no_json, no_query, other_words}
 
 -- the name of the file that is read: standard input
 abbrev pub input_name : List ℕ
@@ -40,37 +41,44 @@ abbrev pub file_status : List Field → Option (List ℕ) → ℕ
 file_status schema None = 4
 file_status schema (Some text) = text_status schema text
 
--- the status that a query owes over files, where nothing fails: 11 where there is no query
-abbrev pub due_status : Option QueryTree → Files → ℕ
-due_status None files = 11
-due_status (Some q) files = file_status q.schema (file_of files input_name)
+-- the status that is owed over files, where nothing fails: 11 for other than one word, 3 for a word
+-- that is no query or has a fault
+abbrev pub due_status : Asked → Files → ℕ
+due_status other_words files = 11
+due_status no_json files = 3
+due_status no_query files = 3
+due_status (faulty f) files = 3
+due_status (asks q) files = file_status q.schema (file_of files input_name)
 
 -- where the input tells its files, this status is due
-abbrev pub IsDue : ℕ → Option QueryTree → Option Files → Type 0
-IsDue status query told = IfSome told (λ files. due_status query files ≡ status)
+abbrev pub IsDue : ℕ → Asked → Option Files → Type 0
+IsDue status a told = IfSome told (λ files. due_status a files ≡ status)
 
 -- where the input tells its files, a status is the one due, or that of a fault of reading, of
 -- writing or of memory
-abbrev pub EndsAsDue : ℕ → Option QueryTree → Option Files → Type 0
-EndsAsDue status query told =
-    IfSome told (λ files. (status ≡ due_status query files) ⊎ (status ≡ 5) ⊎ (status ≡ 6) ⊎ (status ≡ 10))
+abbrev pub EndsAsDue : ℕ → Asked → Option Files → Type 0
+EndsAsDue status a told =
+    IfSome told (λ files.
+    (status ≡ due_status a files) ⊎ (status ≡ 5) ⊎ (status ≡ 6) ⊎ (status ≡ 10))
 
 -- where the input tells its files, these are the chunks of standard input, which fits
 abbrev pub AreInput : List Field → Option Files → List DataChunk → Type 0
 AreInput schema told chunks =
     IfSome told (λ files. input_chunks files schema ≡ record { chunks = chunks; stop = None })
 
--- where the input tells its files, this is the text that a query owes
-abbrev pub IsAnswerText : Option QueryTree → Option Files → List ℕ → Type 0
-IsAnswerText None told text = ⊥
-IsAnswerText (Some q) told text = IfSome told (λ files. text ≡ answer_text files q)
+-- a query is asked for and, where the input tells its files, this is the text that it owes
+abbrev pub IsAnswerText : Asked → Option Files → List ℕ → Type 0
+IsAnswerText (asks q) told text = IfSome told (λ files. text ≡ answer_text files q)
+IsAnswerText a told text = ⊥
 
--- where input and output tell, the output grew by exactly the text that a query owes
-abbrev pub IsAnswered : Option QueryTree → Option Files → Option (List ℕ) → Option (List ℕ) → Type 0
-IsAnswered None told old new = ⊥
-IsAnswered (Some q) told old new = IfSome told (λ files. Appends old new (answer_text files q))
+-- a query is asked for and, where input and output tell, the output grew by exactly the text that
+-- it owes
+abbrev pub IsAnswered : Asked → Option Files → Option (List ℕ) → Option (List ℕ) → Type 0
+IsAnswered (asks q) told old new = IfSome told (λ files. Appends old new (answer_text files q))
+IsAnswered a told old new = ⊥
 
--- where input and output tell, the output grew by a front of the text that a query owes
-abbrev pub IsBegun : Option QueryTree → Option Files → Option (List ℕ) → Option (List ℕ) → Type 0
-IsBegun None told old new = ⊥
-IsBegun (Some q) told old new = IfSome told (λ files. WroteFront old new (answer_text files q))
+-- a query is asked for and, where input and output tell, the output grew by a front of the text
+-- that it owes
+abbrev pub IsBegun : Asked → Option Files → Option (List ℕ) → Option (List ℕ) → Type 0
+IsBegun (asks q) told old new = IfSome told (λ files. WroteFront old new (answer_text files q))
+IsBegun a told old new = ⊥

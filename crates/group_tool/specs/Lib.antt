@@ -1,4 +1,4 @@
-pub mod QueryJson
+pub mod Asked
 pub mod WorkedQuery
 pub mod Status
 pub mod Headline

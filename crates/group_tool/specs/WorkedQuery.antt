@@ -1,33 +1,9 @@
--- A query as a text, as JSON and as a tree.
+-- A query as a text and as a tree.
 use Rattle.std.specs.Prelude.{ℕ, List, [], ◌∷◌, codes, false, None}
-use Rattle.serde_json.specs.Data.{Data, string, array, object, no_items, item, no_members, member}
 use Rattle.pipe_columns.specs.declared.data_type.DataType.TheVariants as dt
 use Rattle.pipe_running.specs.Kind as kind
-use Rattle.pipe_aggs.specs.Expr.{column}
+use Rattle.pipe_exprs.specs.Expr.{column}
 use Rattle.pipe_aggs.specs.Query.{each, QueryTree}
-
--- a list of two values
-abbrev pub pair : Data → Data → Data
-pair a b = array (item a (item b no_items))
-
--- the object of one member
-abbrev pub sole : List ℕ → Data → Data
-sole name d = object (member name d no_members)
-
--- the column of an aggregate of v
-abbrev pub of_v : List ℕ → List ℕ → Data
-of_v function name = sole (codes "alias") (pair (sole function (string (codes "v"))) (string name))
-
-abbrev pub int_column : List ℕ → Data
-int_column name = pair (string name) (string (codes "Int64"))
-
--- the sum and the count of v by k, as JSON
-abbrev pub sum_and_count_json : Data
-sum_and_count_json =
-    object (member (codes "aggs") (array (item (of_v (codes "sum") (codes "s")) (item (of_v (codes "count") (codes "c")) no_items)))
-    (member (codes "keys") (array (item (string (codes "k")) no_items))
-    (member (codes "schema") (array (item (int_column (codes "k")) (item (int_column (codes "v")) no_items)))
-    no_members)))
 
 -- the sum and the count of v by k
 abbrev pub sum_and_count_query : QueryTree
@@ -43,3 +19,7 @@ sum_and_count_query = record {
 -- the sum and the count of v by k, as a text
 abbrev pub sum_and_count_text : List ℕ
 sum_and_count_text = codes "{\"schema\":[[\"k\",\"Int64\"],[\"v\",\"Int64\"]],\"keys\":[\"k\"],\"aggs\":[{\"alias\":[{\"sum\":\"v\"},\"s\"]},{\"alias\":[{\"count\":\"v\"},\"c\"]}]}"
+
+-- the same without a key, as a text
+abbrev pub keyless_text : List ℕ
+keyless_text = codes "{\"schema\":[[\"k\",\"Int64\"],[\"v\",\"Int64\"]],\"keys\":[],\"aggs\":[{\"alias\":[{\"sum\":\"v\"},\"s\"]},{\"alias\":[{\"count\":\"v\"},\"c\"]}]}"

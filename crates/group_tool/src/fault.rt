@@ -4,14 +4,23 @@ ghost use Rattle.std.specs.Prelude.{◌≡◌, ◌≢◌};
 ghost use Rattle.std.specs.Io.KnownBytes.{Appends};
 ghost use Rattle.pipe_ends.specs.Causes.{Rose};
 ghost use Rattle.pipe_ends.specs.Output.{WroteFront};
-ghost use Rattle.group_tool.specs.Faults.{status_of};
-ghost use Rattle.group_tool.specs.Status.{status_line};
+ghost use Rattle.group_tool.specs.Asked.{faulty, refusal_line};
+ghost use Rattle.group_tool.specs.Faults.{fault_line, status_of};
 
+use pipe_aggs::QueryFault;
 use pipe_ends::{Output, OutputError, write_all};
 
 /// Why a run ended without its answer.
 #[derive(Clone, Copy, Debug, PartialEq, Eq)]
 pub enum ToolFault {
+    /// There isn't exactly one word.
+    NotBuilt,
+    /// The word is no JSON.
+    NotJson,
+    /// The JSON is no query.
+    NotAQuery,
+    /// The query has a fault.
+    Faulty(QueryFault),
     /// There is no such file, or its text doesn't fit.
     Refused,
     /// A read failed.
@@ -22,8 +31,6 @@ pub enum ToolFault {
     TooLarge,
     /// Memory ran out.
     Memory,
-    /// The words are no query that is built.
-    NotBuilt,
 }
 
 /// The exit status of a fault.
@@ -31,26 +38,50 @@ fn status(fault: ToolFault) -> u8
     ensures { result ≡ status_of fault }
 {
     match fault {
+        ToolFault::NotBuilt => 11,
+        ToolFault::NotJson => 3,
+        ToolFault::NotAQuery => 3,
+        ToolFault::Faulty(_) => 3,
         ToolFault::Refused => 4,
         ToolFault::InputFailed => 5,
         ToolFault::OutputFailed => 6,
         ToolFault::TooLarge => 7,
         ToolFault::Memory => 10,
-        ToolFault::NotBuilt => 11,
+    }
+}
+
+/// The line of a query's fault, with its end.
+fn query_line(fault: QueryFault) -> &'static [u8]
+    ensures { result.now ≡ refusal_line (faulty fault) }
+{
+    match fault {
+        QueryFault::DoubleName => b"query refused: DoubleName\n",
+        QueryFault::NoKey => b"query refused: NoKey\n",
+        QueryFault::BadNode => b"query refused: BadNode\n",
+        QueryFault::UnknownColumn => b"query refused: UnknownColumn\n",
+        QueryFault::IllTyped => b"query refused: IllTyped\n",
+        QueryFault::KeyHasAggregate => b"query refused: KeyHasAggregate\n",
+        QueryFault::NotConvertible => b"query refused: NotConvertible\n",
+        QueryFault::SumOfDate => b"query refused: SumOfDate\n",
+        QueryFault::DoubleOutput => b"query refused: DoubleOutput\n",
+        QueryFault::NegativeSlice => b"query refused: NegativeSlice\n",
     }
 }
 
 /// The line of a fault, with its end.
 fn line(fault: ToolFault) -> &'static [u8]
-    ensures { result.now ≡ status_line (status_of fault) }
+    ensures { result.now ≡ fault_line fault }
 {
     match fault {
+        ToolFault::NotBuilt => b"not built\n",
+        ToolFault::NotJson => b"query refused: json\n",
+        ToolFault::NotAQuery => b"query refused: shape\n",
+        ToolFault::Faulty(fault) => query_line(fault),
         ToolFault::Refused => b"input refused\n",
         ToolFault::InputFailed => b"input failed\n",
         ToolFault::OutputFailed => b"output failed\n",
         ToolFault::TooLarge => b"too large\n",
         ToolFault::Memory => b"out of memory\n",
-        ToolFault::NotBuilt => b"not built\n",
     }
 }
 
@@ -59,9 +90,8 @@ fn line(fault: ToolFault) -> &'static [u8]
 pub fn tell<E: Output>(faults: &mut E, fault: ToolFault) -> u8
     ensures status { result ≢ 10 → result ≡ status_of fault }
     ensures whole { result ≢ 10 → (Rose (E.faults faults.old) (E.faults faults.new) → ⊥)
-        → Appends (E.told faults.old) (E.told faults.new) (status_line (status_of fault)) }
-    ensures front { WroteFront (E.told faults.old) (E.told faults.new)
-        (status_line (status_of fault)) }
+        → Appends (E.told faults.old) (E.told faults.new) (fault_line fault) }
+    ensures front { WroteFront (E.told faults.old) (E.told faults.new) (fault_line fault) }
 {
     match write_all(faults, line(fault)) {
         Ok(()) => status(fault),

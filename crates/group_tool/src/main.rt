@@ -2,16 +2,12 @@
 //! groups to standard output.
 #![tactic(auto)]
 
-mod aggs_json;
 mod fault;
-mod json_shapes;
-mod names;
-mod query_json;
 mod read;
-mod schema_json;
 #[cfg(test)]
 mod tests;
 mod tool;
+mod words;
 mod worked;
 
 use crate::fault::{ToolFault, tell};
@@ -19,18 +15,26 @@ use crate::tool::run_tool;
 use pipe_columns::Text;
 use pipe_ends::{RealFiles, RealOutput};
 use std::alloc::Global;
-use std::env::{self, Env};
+use std::env::{self, Env, FillError};
 use std::io::{self, ErrorKind};
 use std::process::ExitCode;
 
-/// The words after the program's name. One that isn't UTF-8 is no query.
+/// The fault of words of which one isn't UTF-8: a sole word is no JSON, and others are too many.
+fn not_text(rt: &impl Env) -> ToolFault {
+    match rt.arg(2, &mut []) {
+        Err(FillError::NotPresent) => ToolFault::NotJson,
+        _ => ToolFault::NotBuilt,
+    }
+}
+
+/// The words after the program's name.
 fn words_of(rt: &(impl Env + Alloc<A = Global>)) -> Result<Vec<Text>, ToolFault> {
     let args = match env::args(rt) {
         Ok(args) => args,
         Err(error) => {
             return Err(match error.kind() {
                 ErrorKind::OutOfMemory => ToolFault::Memory,
-                _ => ToolFault::NotBuilt,
+                _ => not_text(rt),
             });
         }
     };

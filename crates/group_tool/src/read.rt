@@ -1,18 +1,20 @@
-//! The chunks of standard input.
+//! The groups of the rows of standard input.
 
-ghost use Rattle.std.specs.Prelude.{◌≡◌, IfOk, IfErr, IsErrOf, OnOk, Some};
+ghost use Rattle.std.specs.Prelude.{◌≡◌, IfOk, IfErr, IsErrOf, OnOk};
+ghost use Rattle.pipe_aggs.specs.declared.query.Query.{Query};
+ghost use Rattle.pipe_aggs.specs.QueryTrees.{query_tree};
 ghost use Rattle.pipe_ends.specs.Causes.{Rose};
-ghost use Rattle.pipe_model.specs.Rows.{AreChunksOf};
-ghost use Rattle.pipe_plain.specs.PlainQuery.{query_tree};
+ghost use Rattle.group_tool.specs.Asked.{asks};
 ghost use Rattle.group_tool.specs.Faults.{IsCaused, csv_fault};
 ghost use Rattle.group_tool.specs.Headline.{AreInput, IsDue};
 ghost use Rattle.group_tool.specs.declared.fault.ToolFault.TheVariants as fault;
 
 use crate::fault::ToolFault;
+use pipe_aggs::CheckedQuery;
 use pipe_columns::{DataChunk, Text};
-use pipe_ends::{CsvError, FileEnd, InputFiles, read_chunks, read_file};
-use pipe_plain::PlainQuery;
-use std::alloc::Global;
+use pipe_ends::{ChunkSink, CsvError, FileEnd, InputFiles, read_file, read_into};
+use pipe_plain::PlainGroups;
+use std::alloc::{AllocError, Global};
 
 /// The most rows of a chunk.
 const CHUNK_ROWS: usize = 50000;
@@ -32,16 +34,41 @@ fn fault_of(error: CsvError) -> ToolFault
     }
 }
 
-/// The chunks of standard input for a query. The size of the file is tested before its text.
-pub fn read_input<I: InputFiles>(
+/// The groups of a query, as what takes the chunks of its input.
+#[derive(Drop)]
+struct GroupSink<'a> {
+    alloc: Global,
+    groups: PlainGroups<'a>,
+}
+
+impl<'a> ChunkSink for GroupSink<'a> {
+    ghost fields = { λ s. s.groups.query.schema };
+
+    ghost taken = { λ s. s.groups.taken };
+
+    ghost Kept = { Query };
+
+    ghost kept = { λ s. s.groups.query };
+
+    fn take(self, chunk: DataChunk) -> Result<Self, AllocError> {
+        let GroupSink { alloc, groups } = self;
+        let groups = groups.add(alloc, &chunk)?;
+        Ok(GroupSink { alloc, groups })
+    }
+}
+
+/// The groups of a query over the chunks of standard input, each of which is dropped before the next
+/// is read. The size of the file is tested before its text.
+pub fn read_groups<'a, I: InputFiles>(
     alloc: Global,
     input: &mut I,
-    query: &PlainQuery,
-) -> Result<Vec<DataChunk>, ToolFault>
-    ensures read { IfOk result (λ v. AreInput query.now.schema (I.told input.old) v.items) }
-    ensures fits { OnOk result (IsDue 0 (Some (query_tree query.now)) (I.told input.old)) }
-    ensures chunks { IfOk result (λ v. AreChunksOf (query_tree query.now) v.items) }
-    ensures cause { IfErr result (λ f. IsCaused f (Some (query_tree query.now)) (I.told input.old)) }
+    query: &'a CheckedQuery<'a>,
+) -> Result<PlainGroups<'a>, ToolFault>
+    ensures query { IfOk result (λ g. g.query ≡ query.now) }
+    ensures read { IfOk result (λ g. AreInput query.now.schema (I.told input.old) g.taken) }
+    ensures fits { OnOk result (IsDue 0 (asks (query_tree query.now)) (I.told input.old)) }
+    ensures cause { IfErr result
+        (λ f. IsCaused f (asks (query_tree query.now)) (I.told input.old)) }
     ensures failed { IsErrOf result fault.InputFailed
         → Rose (I.faults input.old) (I.faults input.new) }
     ensures written { IsErrOf result fault.OutputFailed → ⊥ }
@@ -56,8 +83,13 @@ pub fn read_input<I: InputFiles>(
         Err(FileEnd::TooLarge) => return Err(ToolFault::TooLarge),
         Err(FileEnd::Memory) => return Err(ToolFault::Memory),
     };
-    match read_chunks(alloc, &text, 1, &query.schema, CHUNK_ROWS) {
-        Ok(chunks) => Ok(chunks),
+    let Ok(groups) = PlainGroups::new(alloc, query) else {
+        return Err(ToolFault::Memory);
+    };
+    let schema = &query.query().schema;
+    let sink = GroupSink { alloc, groups };
+    match read_into(alloc, &text, 1, schema, CHUNK_ROWS, sink) {
+        Ok(sink) => Ok(sink.groups),
         Err(error) => Err(fault_of(error)),
     }
 }

@@ -1,4 +1,11 @@
-//! Worked runs of the tool, over files and outputs in memory.
+//! Runs of the tool over files and outputs in memory.
+
+mod aggregates;
+mod answers;
+mod expressions;
+mod faults;
+mod order;
+mod refusals;
 
 use crate::tool::run_tool;
 use pipe_columns::Text;
@@ -7,14 +14,15 @@ use std::alloc::Global;
 use std::process::Abort;
 use std::test::Fail;
 
-const QUERY: &str =
-    "{\"schema\":[[\"k\",\"Int64\"],[\"v\",\"Int64\"]],\"keys\":[\"k\"],\"aggs\":[{\"alias\":[{\"sum\":\"v\"},\"s\"]},{\"alias\":[{\"count\":\"v\"},\"c\"]}]}";
+/// The sum and the count of `v` by `k`.
+const SUM_AND_COUNT: &str =
+    r#"{"schema":[["k","Int64"],["v","Int64"]],"keys":["k"],"aggs":[{"alias":[{"sum":"v"},"s"]},{"alias":[{"count":"v"},"c"]}]}"#;
 
 /// A run and its outcome: what standard input holds, if it is there, and which calls fail, numbered
 /// from 0.
 #[derive(Drop)]
-struct Run {
-    words: &'static [&'static str],
+struct Run<'w> {
+    words: &'w [&'w str],
     text: Option<&'static str>,
     input_fails: &'static [u64],
     output_fails: &'static [u64],
@@ -24,10 +32,16 @@ struct Run {
     line: &'static str,
 }
 
-/// The query over a text, with no failing call.
-fn plain_run(text: &'static str, status: u8, output: &'static str, line: &'static str) -> Run {
+/// Words over a text, with no failing call.
+fn plain_run<'w>(
+    words: &'w [&'w str],
+    text: &'static str,
+    status: u8,
+    output: &'static str,
+    line: &'static str,
+) -> Run<'w> {
     Run {
-        words: &[QUERY],
+        words,
         text: Some(text),
         input_fails: &[],
         output_fails: &[],
@@ -38,7 +52,8 @@ fn plain_run(text: &'static str, status: u8, output: &'static str, line: &'stati
     }
 }
 
-fn drive(rt: &(impl Abort + Alloc<A = Global>), run: &Run) -> Result<(), Fail> {
+/// Runs the tool, and asks for the outcome.
+fn drive(rt: &(impl Abort + Alloc<A = Global>), run: &Run<'_>) -> Result<(), Fail> {
     let alloc = rt.alloc();
     let mut words = Vec::new(alloc);
     for word in run.words {
@@ -59,85 +74,14 @@ fn drive(rt: &(impl Abort + Alloc<A = Global>), run: &Run) -> Result<(), Fail> {
     Ok(())
 }
 
-/// The sum and the count of two keys, and of no row.
-#[test]
-fn answers(rt: HostRuntime) -> Result<(), Fail> {
-    let runs = [
-        plain_run("k,v\n1,5\n2,6\n1,7\n", 0, "k,s,c\n1,12,2\n2,6,1\n", ""),
-        plain_run("k,v\n", 0, "k,s,c\n", ""),
-        plain_run("k,v\n,1\n2,2\n,3\n2,\n", 0, "k,s,c\n,4,2\n2,2,1\n", ""),
-        plain_run(
-            "k,v\r\n-1,+9223372036854775807\r\n-1,1",
-            0,
-            "k,s,c\n-1,-9223372036854775808,2\n",
-            "",
-        ),
-    ];
-    for run in &runs {
-        drive(&rt, run)?;
-    }
-    Ok(())
-}
+/// A query, standard input, and the answer.
+type Answer = (&'static str, &'static str, &'static str);
 
-/// Files that don't fit write nothing.
-#[test]
-fn refuses(rt: HostRuntime) -> Result<(), Fail> {
-    let texts = [
-        "",
-        "k,w\n",
-        "k\n",
-        "k,v\n1\n",
-        "k,v\n1,5\n2,12x\n",
-        "k,v\n1,9223372036854775808\n",
-        "k,v,w\n",
-    ];
-    for text in texts {
-        drive(&rt, &plain_run(text, 4, "", "input refused\n"))?;
-    }
-    let missing = Run {
-        text: None,
-        ..plain_run("", 4, "", "input refused\n")
-    };
-    drive(&rt, &missing)
-}
-
-/// Failing calls: the first of the input begins the file, and its second reads.
-#[test]
-fn tells_faults(rt: HostRuntime) -> Result<(), Fail> {
-    let text = "k,v\n1,5\n";
-    let runs = [
-        Run {
-            input_fails: &[0],
-            ..plain_run(text, 5, "", "input failed\n")
-        },
-        Run {
-            input_fails: &[1],
-            ..plain_run(text, 5, "", "input failed\n")
-        },
-        Run {
-            output_fails: &[0],
-            ..plain_run(text, 6, "", "output failed\n")
-        },
-        Run {
-            input_fails: &[1],
-            fault_fails: &[0],
-            ..plain_run(text, 5, "", "")
-        },
-        Run {
-            words: &[],
-            ..plain_run(text, 11, "", "not built\n")
-        },
-        Run {
-            words: &[QUERY, QUERY],
-            ..plain_run(text, 11, "", "not built\n")
-        },
-        Run {
-            words: &["{"],
-            ..plain_run(text, 11, "", "not built\n")
-        },
-    ];
-    for run in &runs {
-        drive(&rt, run)?;
+/// Asks each query over its text for its answer.
+fn answer_all(rt: &(impl Abort + Alloc<A = Global>), answers: &[Answer]) -> Result<(), Fail> {
+    for answer in answers {
+        let words = [answer.0];
+        drive(rt, &plain_run(&words, answer.1, 0, answer.2, ""))?;
     }
     Ok(())
 }

@@ -1,10 +1,9 @@
 use Rattle.std.proofs.Common.{List, ℕ, length, rules}
 use Rattle.std.proofs.Math.Seq.{take-length}
-use Rattle.group_tool.specs.Faults.{status_of}
-use Rattle.group_tool.specs.Status.{status_line}
+use Rattle.group_tool.specs.Faults.{fault_line}
 use Rattle.group_tool.proofs.fault.tell.Goals as goal
 
 pub returns-in-Ok-clause-front : goal.returns-in-Ok-clause-front
 returns-in-Ok-clause-front g c =
-    let line : List ℕ = status_line (status_of c.args.fault) in
+    let line : List ℕ = fault_line c.args.fault in
     (length line, rw (take-length line) (search rules))

@@ -1,0 +1,55 @@
+//! The query that the words of a command ask for.
+
+ghost use Rattle.std.specs.Prelude.{◌≡◌, IfErr, IfOk, OnOk, Some};
+ghost use Rattle.serde_json.specs.View.{view};
+ghost use Rattle.pipe_aggs.specs.QueryTrees.{query_tree};
+ghost use Rattle.group_tool.specs.Asked.{asked, asks, json_asks, query_asks};
+ghost use Rattle.group_tool.specs.Faults.{IsOfWords};
+
+use crate::fault::ToolFault;
+use pipe_aggs::{CheckError, CheckedQuery, Query};
+use pipe_columns::Text;
+use pipe_query::query_of;
+use serde_json::Value;
+use std::alloc::Global;
+
+/// The query that a JSON value is, not yet checked.
+#[tactic(auto, using(crate::proofs::AskedFacts::nodes_ask))]
+fn json_query(alloc: Global, json: &Value) -> Result<Query, ToolFault>
+    ensures query { IfOk result (λ q. json_asks (Some (view json.now)) ≡ query_asks q) }
+    ensures cause { IfErr result (λ f. IsOfWords f (json_asks (Some (view json.now)))) }
+{
+    match query_of(alloc, json) {
+        Ok(Some(query)) => Ok(query),
+        Ok(None) => Err(ToolFault::NotAQuery),
+        Err(_) => Err(ToolFault::Memory),
+    }
+}
+
+/// The query that the words of a command are, not yet checked.
+pub fn words_query(alloc: Global, words: &[Text]) -> Result<Query, ToolFault>
+    ensures query { IfOk result (λ q. asked words.now ≡ query_asks q) }
+    ensures cause { IfErr result (λ f. IsOfWords f (asked words.now)) }
+{
+    if words.len() != 1 {
+        return Err(ToolFault::NotBuilt);
+    }
+    match Value::from_str(alloc, words[0].as_str()) {
+        Ok(json) => json_query(alloc, &json),
+        Err(error) if error.is_memory() => Err(ToolFault::Memory),
+        Err(_) => Err(ToolFault::NotJson),
+    }
+}
+
+/// A query without fault.
+pub fn checked_query(alloc: Global, query: &Query) -> Result<CheckedQuery<'_>, ToolFault>
+    ensures query { IfOk result (λ q. q ≡ query.now) }
+    ensures asks { OnOk result (query_asks query.now ≡ asks (query_tree query.now)) }
+    ensures cause { IfErr result (λ f. IsOfWords f (query_asks query.now)) }
+{
+    match query.check(alloc) {
+        Ok(checked) => Ok(checked),
+        Err(CheckError::Fault(fault)) => Err(ToolFault::Faulty(fault)),
+        Err(CheckError::Memory) => Err(ToolFault::Memory),
+    }
+}
