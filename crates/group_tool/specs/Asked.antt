@@ -10,6 +10,7 @@ use Rattle.pipe_aggs.specs.Query.{QueryTree, WrittenQuery}
 use Rattle.pipe_aggs.specs.QueryTrees.{query_tree, written_tree}
 use Rattle.pipe_query.specs.QueryJson.{query_of}
 
+-- what the words of a command may ask for
 pub data Asked : Type 0 where
   -- there isn't exactly one word
   other_words : Asked
@@ -62,6 +63,7 @@ is_query a = false
 
 -- ---- how a refusal is told
 
+-- the name by which a fault is told
 abbrev pub fault_name : QueryFault → List ℕ
 fault_name query_fault.DoubleName = codes "DoubleName"
 fault_name query_fault.NoKey = codes "NoKey"

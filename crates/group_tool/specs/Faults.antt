@@ -9,6 +9,7 @@ use Rattle.group_tool.specs.Status.{status_line}
 use Rattle.pipe_ends.specs.declared.csv_error.CsvError.{CsvError}
 use Rattle.pipe_ends.specs.declared.csv_error.CsvError.TheVariants as e
 
+-- the exit status of a fault
 abbrev pub status_of : ToolFault → ℕ
 status_of fault.NotBuilt = 11
 status_of fault.NotJson = 3

@@ -19,6 +19,7 @@ input_name = codes "-"
 abbrev pub most_bytes : ℕ
 most_bytes = 2 ^ 30
 
+-- how standard input is cut into chunks
 abbrev pub read_options : ReadOptions
 read_options = record { chunk_size = 50000 }
 

@@ -13,7 +13,7 @@ use pipe_query::query_of;
 use serde_json::Value;
 use std::alloc::Global;
 
-/// The query that a JSON value is, not yet checked.
+/// The query that a JSON value is, with or without faults.
 #[tactic(auto, using(crate::proofs::AskedFacts::nodes_ask))]
 fn json_query(alloc: Global, json: &Value) -> Result<Query, ToolFault>
     ensures query { IfOk result (λ q. json_asks (Some (view json.now)) ≡ query_asks q) }
@@ -26,7 +26,7 @@ fn json_query(alloc: Global, json: &Value) -> Result<Query, ToolFault>
     }
 }
 
-/// The query that the words of a command are, not yet checked.
+/// The query that the words of a command are, with or without faults.
 pub fn words_query(alloc: Global, words: &[Text]) -> Result<Query, ToolFault>
     ensures query { IfOk result (λ q. asked words.now ≡ query_asks q) }
     ensures cause { IfErr result (λ f. IsOfWords f (asked words.now)) }

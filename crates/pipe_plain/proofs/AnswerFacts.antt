@@ -1,5 +1,7 @@
 -- What the groups of a table give is the answer.
 use Rattle.std.proofs.Common.{◌≡◌, ◌∙◌, ℕ, ◌+◌, ◌%◌, Bool, true, false, List, [], ◌∷◌, ◌++◌, map, Option, Some, None, unwrap_or, refl, sym, ap}
+use Rattle.std.proofs.lemmas.Simd.{map-map}
+use Rattle.std.specs.Cmp.Derive as derive
 use Rattle.std.specs.List.{All, fold, list_all}
 use Rattle.std.specs.Ordering.{is_eq, nat_cmp, ordering_then}
 use Rattle.std.specs.declared.cmp.Ordering.{Ordering}
@@ -13,8 +15,6 @@ use Rattle.pipe_columns.specs.declared.data_chunk.DataChunk.{DataChunk}
 use Rattle.pipe_columns.specs.declared.data_type.DataType.{DataType}
 use Rattle.pipe_columns.specs.declared.place.Place.{Place}
 use Rattle.pipe_columns.specs.declared.schema.Field.{Field}
-use Rattle.pipe_columns.specs.AnyValue.{fits}
-use Rattle.pipe_columns.specs.Frame.{value_at}
 use Rattle.pipe_columns.specs.Groups.{sorted_keys}
 use Rattle.pipe_columns.specs.Key.{code, fold_bytes, partition}
 use Rattle.pipe_columns.specs.Place.{first_entry, place_cmp}
@@ -36,8 +36,7 @@ use Rattle.pipe_plain.specs.Fits.{HoldsTypes}
 use Rattle.pipe_plain.specs.Order.{IsSortedStably}
 use Rattle.pipe_plain.specs.Running.{fed, fed_from, group_seen, keyed_line, Line, line_of, output_row, starts, with_rows}
 use Rattle.pipe_plain.proofs.AscendingFacts.{all_has, Ascending, Has, sorted-same}
-use Rattle.pipe_plain.proofs.BuiltFacts.{all_of_type, built-gives, joined}
-use Rattle.pipe_plain.proofs.ChunkFacts.{map_twice}
+use Rattle.pipe_plain.proofs.BuiltFacts.{all_of_type, built-gives}
 use Rattle.pipe_plain.proofs.EntryFacts.{at-ascend, at-holds, distinct-at, Entries, entries_at}
 use Rattle.pipe_plain.proofs.FrameFacts.{outputs_of}
 use Rattle.pipe_plain.proofs.GroupFacts.{groups_all, keyed_none}
@@ -57,7 +56,7 @@ more_rows start v vs = sym (fold-append (λ (line : Line) (w : Place × List Any
 pub table_is : (prototypes : List AggregateFunction) (rs : List Row) → with_rows (starts prototypes) [] rs ≡ map (keyed_line prototypes rs) (sorted_keys tuple_cmp (map (λ r. r.key) rs))
 table_is prototypes rs =
     let start : Line = starts prototypes in
-    let keys : map (λ e. e.0) (map entry_of rs) ≡ map (λ r. r.key) rs = map_twice (λ e. e.0) entry_of rs in
+    let keys : map (λ e. e.0) (map entry_of rs) ≡ map (λ r. r.key) rs = map-map (λ e. e.0) entry_of rs in
     groups_all tuple_cmp tuples_total tuples_tie (λ v. fed v start) fed (line_of start) (one_row start) (more_rows start) entry_of [] rs (keyed_none tuple_cmp tuples_total tuples_tie)
     ∙ ap (λ (ks : List (List AnyValue)). map (keyed_line prototypes rs) (sorted_keys tuple_cmp ks)) keys
 
@@ -89,8 +88,7 @@ pub entries-fit : (j : ℕ) (schema : List Field) (a : AggTree) (others : List A
 entries-fit j schema a others [] h = refl
 entries-fit j schema a others (e ∷ es) h =
     let P : Place × List AnyValue → Type 0 = λ x. FitsFrom j schema (a ∷ others) x.1 in
-    joined (fits (value_at e.1 j) (input_type schema a.input)) (all_of_type (input_type schema a.input) (entries_at j es))
-    (All-head P e es h).0 (entries-fit j schema a others es (All-tail P e es h))
+    derive.both_true (All-head P e es h).0 (entries-fit j schema a others es (All-tail P e es h))
 
 pub others-fit : (j : ℕ) (schema : List Field) (a : AggTree) (others : List AggTree) (entries : Entries) → EntriesFit j schema (a ∷ others) entries
     → EntriesFit (j + 1) schema others entries
@@ -213,7 +211,7 @@ rows_given q chunks partitions table g are hold e =
     let rows_are : (k : List AnyValue) → output_row (line k) ≡ answer_row q rs k =
     λ k. ap (λ (ss : List AggregateFunction). k ++ outputs_of ss) (states_of-line (starts (prototypes q)) (rows_at rs k))
     ∙ ap (λ (t : List AnyValue). k ++ t) (outputs_from q.schema q.aggs 0 (rows_at rs k) g.aggs (key-entries-fit q chunks k g are hold) (key-places-ascend q chunks k)) in
-    ap (map output_row) kept ∙ map_twice output_row line (sliced q.slice ks) ∙ ap (λ (f : List AnyValue → List AnyValue). map f (sliced q.slice ks)) (λ i k. rows_are k i)
+    ap (map output_row) kept ∙ map-map output_row line (sliced q.slice ks) ∙ ap (λ (f : List AnyValue → List AnyValue). map f (sliced q.slice ks)) (λ i k. rows_are k i)
 
 -- the rows that the answer is made of
 abbrev pub answer_rows : QueryTree → List DataChunk → ℕ → List (List AnyValue)

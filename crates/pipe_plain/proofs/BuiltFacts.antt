@@ -1,5 +1,6 @@
 -- What the running aggregate of a kind gives of entries that it took one by one.
-use Rattle.std.proofs.Common.{◌≡◌, ◌∙◌, ◌&&◌, ℕ, ◌<◌, ◌^◌, Bool, true, false, List, [], ◌∷◌, length, map, refl, sym, subst}
+use Rattle.std.proofs.Common.{◌≡◌, ◌∙◌, ℕ, ◌<◌, ◌^◌, Bool, true, List, [], ◌∷◌, length, map, refl, sym, subst}
+use Rattle.std.specs.Cmp.Derive as derive
 use Rattle.std.specs.List.{list_all}
 use Rattle.pipe_columns.specs.declared.any_value.AnyValue.{AnyValue}
 use Rattle.pipe_columns.specs.declared.data_type.DataType.{DataType}
@@ -10,7 +11,7 @@ use Rattle.pipe_running.specs.declared.function.AggregateFunction.{AggregateFunc
 use Rattle.pipe_running.specs.Aggregate.{agg, values_in}
 use Rattle.pipe_running.specs.Kind.{Kind}
 use Rattle.pipe_running.specs.Stands.{DistinctPlaces, FitTypes, given_types}
-use Rattle.pipe_running.specs.States.{after_entries, fresh, given, output_values, takes}
+use Rattle.pipe_running.specs.States.{after_entries, fresh, given, output_values}
 use Rattle.pipe_running.proofs.EntryFacts.{all_taken, fits-given, given-after_entries}
 use Rattle.pipe_aggs.specs.HashAggs.{function_for, suited}
 use Rattle.pipe_aggs.specs.Output.{agg_fields}
@@ -22,16 +23,11 @@ use Rattle.pipe_plain.specs.Fits.{RowFits}
 abbrev pub all_of_type : DataType → List (Place × AnyValue) → Bool
 all_of_type t entries = list_all (λ v. fits v t) (values_in entries)
 
--- two tests that hold
-pub joined : (a b : Bool) → a ≡ true → b ≡ true → (a && b) ≡ true
-joined true b e h = h
-joined false b e h = cc
-
 taken : (k : Kind) (t : DataType) (entries : List (Place × AnyValue)) → all_of_type t entries ≡ true → all_taken (function_for k t) entries ≡ true
 taken k t [] h = refl
 taken k t (e ∷ es) h =
     let parts = both_true (fits e.1 t) (all_of_type t es) h in
-    joined (takes (function_for k t) e.1) (all_taken (function_for k t) es) (takes-for k t e.1 parts.0) (taken k t es parts.1)
+    derive.both_true (takes-for k t e.1 parts.0) (taken k t es parts.1)
 
 -- it gives the aggregate of the entries
 pub built-gives : (k : Kind) (t : DataType) (entries : List (Place × AnyValue)) → suited k t ≡ true → all_of_type t entries ≡ true → DistinctPlaces entries

@@ -1,5 +1,6 @@
 -- The rows of chunks, as they are read from lists of values.
 use Rattle.std.proofs.Common.{◌≡◌, ◌∙◌, ℕ, ◌+◌, ◌<◌, suc, List, [], ◌∷◌, ◌++◌, length, map, refl, sym, ap, arith}
+use Rattle.std.proofs.lemmas.Simd.{map-map}
 use Rattle.std.specs.List.{range_with_len}
 use Rattle.std.proofs.lemmas.List.{append_assoc, append-nil, length-append}
 use Rattle.std.proofs.lemmas.List.FromFn.{get_or-map-range_with_len, length-map-range_with_len, map-range_with_len_more}
@@ -20,10 +21,6 @@ use Rattle.pipe_plain.specs.declared.lists.ValueLists.{ValueLists}
 use Rattle.pipe_plain.specs.Cells.{cells, input_values, row_read}
 use Rattle.pipe_plain.specs.Running.{Line, Table, with_row, with_rows}
 
-pub map_twice : {A B C : Type 0} (f : B → C) (g : A → B) (xs : List A) → map f (map g xs) ≡ map (λ x. f (g x)) xs
-map_twice f g [] = refl
-map_twice f g (x ∷ xs) = ap (λ (t : List _). f (g x) ∷ t) (map_twice f g xs)
-
 -- ---- a row
 
 -- the value in a row of the values of all rows
@@ -40,8 +37,8 @@ input_in rows_alone frame n h = refl
 cells_are : {X : Type 0} (of : X → List AnyValue) (at : X → AnyValue) (n : ℕ) (xs : List X) (lists : List Values) → ((x : X) → value_at (of x) n ≡ at x)
     → map items_of lists ≡ map of xs → cells lists n ≡ map at xs
 cells_are of at n xs lists same e =
-    sym (map_twice (λ values. value_at values n) items_of lists) ∙ ap (map (λ values. value_at values n)) e
-    ∙ map_twice (λ values. value_at values n) of xs ∙ ap (λ f. map f xs) (λ i x. same x i)
+    sym (map-map (λ values. value_at values n) items_of lists) ∙ ap (map (λ values. value_at values n)) e
+    ∙ map-map (λ values. value_at values n) of xs ∙ ap (λ f. map f xs) (λ i x. same x i)
 
 -- a row that is read from the lists of a query is the row of the query
 pub row_read_is : (q : QueryTree) (i n : ℕ) (frame : FrameData) (lists : ValueLists) → n < frame.height

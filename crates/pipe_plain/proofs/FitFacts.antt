@@ -1,5 +1,6 @@
 -- The rows of an answer fit its fields.
 use Rattle.std.proofs.Common.{◌≡◌, ◌∙◌, ℕ, zero, suc, ◌+◌, ◌<◌, ◌^◌, true, List, [], ◌∷◌, ◌++◌, length, map, get_or, drop, Option, Some, None, Vec, Global, refl, sym, subst, arith}
+use Rattle.std.specs.Cmp.Derive as derive
 use Rattle.std.specs.List.{All, flat_map, list_all, range_with_len}
 use Rattle.std.proofs.lemmas.List.{length-map}
 use Rattle.std.proofs.lemmas.List.Elements.{All-append, All-cons, All-drop, All-head, All-map, All-nil, All-tail, All-take, All-weaker}
@@ -29,7 +30,7 @@ use Rattle.pipe_plain.specs.Running.{group_seen, starts, with_rows}
 use Rattle.pipe_spill.specs.KeyTypes.{AreOfTypes}
 use Rattle.pipe_plain.proofs.AnswerFacts.{EntriesFit, entries-fit, key-entries-fit, key-places-ascend, others-fit, table_is}
 use Rattle.pipe_plain.proofs.AscendingFacts.{Ascending, sorted-holds}
-use Rattle.pipe_plain.proofs.BuiltFacts.{built-fits, joined}
+use Rattle.pipe_plain.proofs.BuiltFacts.{built-fits}
 use Rattle.pipe_plain.proofs.ChunkFacts.{length-rows_from}
 use Rattle.pipe_plain.proofs.EntryFacts.{distinct-at, Entries, entries_at, rows_at-few}
 use Rattle.pipe_plain.proofs.InputFacts.{valued-fits}
@@ -60,7 +61,7 @@ column-fits fs i f (r ∷ rs) lt e h =
     let T : Field → Type 0 = λ g. fits (value_at r.items i) g.dtype ≡ true in
     let others : List (List AnyValue) = map (λ row. row.items) rs in
     let here : fits (value_at r.items i) f.dtype ≡ true = subst T (sym e) (fits-at fs r.items i f lt (All-head P r.items others h)) in
-    joined _ _ here (column-fits fs i f rs lt e (All-tail P r.items others h))
+    derive.both_true here (column-fits fs i f rs lt e (All-tail P r.items others h))
 
 -- ---- keys
 

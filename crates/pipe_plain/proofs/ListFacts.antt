@@ -1,5 +1,6 @@
 -- What holds of the keys and inputs of a query holds of each as it comes.
 use Rattle.std.proofs.Common.{◌≡◌, ◌∙◌, ℕ, ◌<◌, zero, suc, Bool, true, List, [], ◌∷◌, length, map, get_or, refl, sym, ap, arith}
+use Rattle.std.proofs.lemmas.Simd.{map-map}
 use Rattle.std.specs.List.{list_all}
 use Rattle.pipe_columns.specs.declared.schema.Field.{Field}
 use Rattle.pipe_columns.specs.Frame.{FrameData}
@@ -15,7 +16,6 @@ use Rattle.pipe_aggs.specs.Query.{AggTree}
 use Rattle.pipe_aggs.specs.QueryTrees.{query_tree}
 use Rattle.pipe_exprs.proofs.FitFacts.{both_true}
 use Rattle.pipe_plain.specs.Cells.{input_values}
-use Rattle.pipe_plain.proofs.ChunkFacts.{map_twice}
 
 -- a test that each element passes
 passes_at : {X : Type 0} (test : X → Bool) (xs : List X) (i : ℕ) (d : X) → list_all test xs ≡ true → i < length xs → test (get_or xs i d) ≡ true
@@ -44,8 +44,8 @@ input-fed schema exprs aggs inputs i d e h lt =
 pub inputs_are : (exprs : List AExpr) (frame : FrameData) (aggs : List AggTree) (inputs : List AggInput) → map (input_of exprs) inputs ≡ map (λ a. a.input) aggs
     → map (λ i. input_values (input_of exprs i) frame) inputs ≡ map (λ a. input_values a.input frame) aggs
 inputs_are exprs frame aggs inputs e =
-    sym (map_twice (λ i. input_values i frame) (input_of exprs) inputs) ∙ ap (map (λ i. input_values i frame)) e ∙ map_twice (λ i. input_values i frame) (λ a. a.input) aggs
+    sym (map-map (λ i. input_values i frame) (input_of exprs) inputs) ∙ ap (map (λ i. input_values i frame)) e ∙ map-map (λ i. input_values i frame) (λ a. a.input) aggs
 
 -- the values of the keys
 pub keys_are : (q : Query) (frame : FrameData) → map (λ n. row_values (tree q.arena n) frame) q.keys.items ≡ map (λ e. row_values e frame) (query_tree q).keys
-keys_are q frame = sym (map_twice (λ e. row_values e frame) (tree q.arena) q.keys.items)
+keys_are q frame = sym (map-map (λ e. row_values e frame) (tree q.arena) q.keys.items)

@@ -15,5 +15,6 @@ HoldsTypes frame = ColumnsFit frame.columns
 abbrev pub RowFits : List Field → List AnyValue → Type 0
 RowFits fields row = AllZip (λ f v. fits v f.dtype ≡ true) fields row
 
+-- so has each of some rows
 abbrev pub RowsFit : List Field → List (List AnyValue) → Type 0
 RowsFit fields rows = All (λ row. RowFits fields row) rows

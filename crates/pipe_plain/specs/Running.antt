@@ -42,6 +42,7 @@ starts prototypes = record { first = None; states = map fresh prototypes }
 abbrev pub line_of : Line → List (Place × List AnyValue) → Line
 line_of start entries = fold (λ line v. fed v line) start entries
 
+-- keys, each with its line
 abbrev pub Table : Type 0
 Table = List (List AnyValue × Line)
 
@@ -57,6 +58,7 @@ with_rows start table rs = fold (λ t r. with_row start t r) table rs
 abbrev pub keyed_line : List AggregateFunction → List Row → List AnyValue → List AnyValue × Line
 keyed_line prototypes rs key = (key, line_of (starts prototypes) (rows_at rs key))
 
+-- a group as contracts see it: its key with its line
 abbrev pub group_seen : Group → List AnyValue × Line
 group_seen g = (g.key.items, record { first = Some g.first; states = g.states.items })
 

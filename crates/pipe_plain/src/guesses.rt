@@ -1,14 +1,15 @@
 //! Where the groups of keys were found last. It is only a hint: a wrong guess costs a comparison.
 
-use pipe_aggs::Values;
+use pipe_aggs::{NumericNative, Values};
 use pipe_columns::AnyValue;
 use pipe_spill::fold;
 use std::alloc::{AllocError, Global};
 
-/// How many keys are remembered: a power of two, whose logarithm is `BITS`.
-const COUNT: usize = 4096;
-
+/// So many bits of a number tell where its key is remembered.
 const BITS: u32 = 12;
+
+/// How many keys are remembered.
+const COUNT: usize = 1 << BITS;
 
 /// 2^64 over the golden ratio, which spreads numbers over the high bits.
 const SPREAD: u64 = 11400714819323198485;
@@ -46,18 +47,10 @@ fn slot(number: u64) -> usize {
     (number.wrapping_mul(SPREAD) >> (64 - BITS)) as usize
 }
 
-/// The low bits of a number.
-fn low_bits(number: i128) -> u64 {
-    match u64::try_from(number) {
-        Ok(number) => number,
-        Err(_) => number.rem_euclid(1 << 64) as u64,
-    }
-}
-
 /// A number of the value in a row.
 fn cell_number(values: &Values<'_>, row: usize) -> u64 {
     match values.as_slice().get(row) {
-        Some(AnyValue::Int(number)) => low_bits(*number),
+        Some(AnyValue::Int(number)) => u64::narrowed(*number),
         Some(AnyValue::Text(text)) => fold(text.as_str().as_bytes()),
         Some(AnyValue::Boolean(truth)) => *truth as u64,
         _ => 0,

@@ -1,9 +1,9 @@
 use Rattle.std.proofs.Common.{◌∙◌, ◌≡◌, arith, false, true, length, List, ◌∷◌, [], ◌++◌, map, take, ap, sym}
+use Rattle.std.proofs.lemmas.Simd.{map-map}
 use Rattle.std.proofs.lemmas.List.{length-map, take_all}
 use Rattle.pipe_columns.specs.declared.any_value.AnyValue.{AnyValue}
 use Rattle.pipe_columns.specs.declared.schema.Field.{Field}
 use Rattle.pipe_columns.specs.Frame.{all_have_height, ColumnData, columns_from, value_at}
-use Rattle.pipe_plain.proofs.ChunkFacts.{map_twice}
 use Rattle.pipe_plain.proofs.FitFacts.{column-fits}
 use Rattle.pipe_plain.proofs.FrameFacts.{columns_from-more, heights, is_there}
 use Rattle.pipe_plain.proofs.frame.output_frame.Goals as goal
@@ -15,7 +15,7 @@ loop-place-preserved c =
     let rows : List (List AnyValue) = map (λ row. row.items) c.args.rows.now in
     let of_values : List AnyValue → ColumnData = λ vs. record { name = f.name; dtype = f.dtype; sorted = false; values = vs } in
     let column : c.in_ok-output_column.field-0 ≡ of_values (map (λ row. value_at row place) rows) =
-    c.in_ok-output_column.ensures ∙ ap of_values (sym (map_twice (λ (row : List AnyValue). value_at row place) (λ row. row.items) c.args.rows.now)) in
+    c.in_ok-output_column.ensures ∙ ap of_values (sym (map-map (λ (row : List AnyValue). value_at row place) (λ row. row.items) c.args.rows.now)) in
     c.in_ok-push.ensures.items ∙ ap (λ (t : List ColumnData). t ++ (c.in_ok-output_column.field-0 ∷ [])) c.loop-place.invariant
     ∙ ap (λ (x : ColumnData). columns_from 0 (take place c.args.fields.now) rows ++ (x ∷ [])) column
     ∙ columns_from-more c.args.fields.now place f rows c.loop-place-test.true c.index-fields-place.is
