@@ -6,8 +6,9 @@ use Rattle.pipe_aggs.specs.declared.query.Query.{Query}
 use Rattle.pipe_aggs.specs.declared.query_fault.QueryFault.{QueryFault}
 use Rattle.pipe_aggs.specs.declared.query_fault.QueryFault.TheVariants as query_fault
 use Rattle.pipe_aggs.specs.Faults.{first_fault, written_fault}
-use Rattle.pipe_aggs.specs.Query.{QueryTree, WrittenQuery}
-use Rattle.pipe_aggs.specs.QueryTrees.{query_tree, written_tree}
+use Rattle.pipe_model.specs.Query.{QueryTree, WrittenQuery}
+use Rattle.pipe_aggs.specs.QueryTrees.{query_tree}
+use Rattle.pipe_model.specs.WrittenTree.{written_tree}
 use Rattle.pipe_query.specs.QueryJson.{query_of}
 
 -- what the words of a command may ask for

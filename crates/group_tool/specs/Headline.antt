@@ -3,7 +3,7 @@ use Rattle.std.specs.Prelude.{◌≡◌, ◌⊎◌, ℕ, ◌^◌, nat_lt, List, 
 use Rattle.std.specs.Io.KnownBytes.{Appends}
 use Rattle.pipe_columns.specs.declared.schema.Field.{Field}
 use Rattle.pipe_columns.specs.declared.data_chunk.DataChunk.{DataChunk}
-use Rattle.pipe_aggs.specs.Query.{QueryTree}
+use Rattle.pipe_model.specs.Query.{QueryTree}
 use Rattle.pipe_model.specs.Answer.{answer}
 use Rattle.pipe_ends.specs.CsvChunks.{CsvChunks, ReadOptions, csv_chunks, text_rows}
 use Rattle.pipe_ends.specs.Files.{Files, file_of}

@@ -2,7 +2,7 @@
 use Rattle.std.specs.Prelude.{ℕ, ◌==◌, Bool, List, [], ◌∷◌, Option, codes, if◌then◌else◌}
 use Rattle.std.specs.List.{list_any}
 use Rattle.std.specs.Io.KnownBytes.{Appends}
-use Rattle.pipe_ends.specs.Causes.{Rose}
+use Rattle.pipe_columns.specs.Causes.{Rose}
 use Rattle.pipe_ends.specs.Output.{WroteFront}
 use Rattle.group_tool.specs.Asked.{Asked, refusal_line}
 

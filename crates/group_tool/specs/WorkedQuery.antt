@@ -1,9 +1,9 @@
 -- A query as a text and as a tree.
 use Rattle.std.specs.Prelude.{ℕ, List, [], ◌∷◌, codes, false, None}
 use Rattle.pipe_columns.specs.declared.data_type.DataType.TheVariants as dt
-use Rattle.pipe_running.specs.Kind as kind
-use Rattle.pipe_exprs.specs.Expr.{column}
-use Rattle.pipe_aggs.specs.Query.{each, QueryTree}
+use Rattle.pipe_model.specs.Kind as kind
+use Rattle.pipe_model.specs.Expr.{column}
+use Rattle.pipe_model.specs.Query.{each, QueryTree}
 
 -- the sum and the count of v by k
 abbrev pub sum_and_count_query : QueryTree

@@ -3,7 +3,7 @@
 ghost use Rattle.std.specs.Prelude.{◌≡◌, IfOk, IfErr, IsErrOf, OnOk};
 ghost use Rattle.pipe_aggs.specs.declared.query.Query.{Query};
 ghost use Rattle.pipe_aggs.specs.QueryTrees.{query_tree};
-ghost use Rattle.pipe_ends.specs.Causes.{Rose};
+ghost use Rattle.pipe_columns.specs.Causes.{Rose};
 ghost use Rattle.group_tool.specs.Asked.{asks};
 ghost use Rattle.group_tool.specs.Faults.{IsCaused, csv_fault};
 ghost use Rattle.group_tool.specs.Headline.{AreInput, IsDue};

@@ -2,7 +2,7 @@
 
 ghost use Rattle.std.specs.Prelude.{◌≡◌, ◌≢◌, ◌⊎◌, IfOk, IfErr, IsErrOf, IsSome, IsTrue, OnOk, false};
 ghost use Rattle.std.specs.Io.KnownBytes.{Appends};
-ghost use Rattle.pipe_ends.specs.Causes.{Rose};
+ghost use Rattle.pipe_columns.specs.Causes.{Rose};
 ghost use Rattle.group_tool.specs.Asked.{asked, is_query, is_refused, other_words, query_asks};
 ghost use Rattle.group_tool.specs.Faults.{EndsWith, IsBefore, IsCaused};
 ghost use Rattle.group_tool.specs.Headline.{EndsAsDue, IsAnswerText, IsAnswered, IsBegun, IsDue};

@@ -5,10 +5,10 @@ use Rattle.std.specs.List.{list_all, list_any}
 use Rattle.std.proofs.lemmas.Option.{none-some}
 use Rattle.pipe_aggs.specs.declared.query.Query.{Query}
 use Rattle.pipe_aggs.specs.CheckedQuery.{HasShape, IsSound}
-use Rattle.pipe_aggs.specs.Convertible.{convertible, unaliased}
+use Rattle.pipe_model.specs.Convertible.{convertible, unaliased}
 use Rattle.pipe_aggs.specs.Faults.{adds_dates, all_exprs, field_names, first_fault, has_double, has_nodes, is_typed}
 use Rattle.pipe_aggs.specs.QueryTrees.{agg_exprs, key_exprs}
-use Rattle.pipe_exprs.specs.Typing.{is_row_wise, knows_columns}
+use Rattle.pipe_model.specs.Typing.{is_row_wise, knows_columns}
 use Rattle.pipe_aggs.proofs.FaultFacts.{bad_node, double_name, ill_typed, key_has_aggregate, no_key, not_convertible, sum_of_date, unknown_column}
 
 not_true : (b : Bool) → (b ≡ true → ⊥) → b ≡ false

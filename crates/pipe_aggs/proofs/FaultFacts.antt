@@ -7,12 +7,12 @@ use Rattle.pipe_aggs.specs.declared.query.Query.{Query}
 use Rattle.pipe_aggs.specs.declared.query_fault.QueryFault.{QueryFault}
 use Rattle.pipe_aggs.specs.declared.query_fault.QueryFault.TheVariants as fault
 use Rattle.pipe_aggs.specs.CheckedQuery.{HasShape, IsSound}
-use Rattle.pipe_aggs.specs.Convertible.{convertible, unaliased}
+use Rattle.pipe_model.specs.Convertible.{convertible, unaliased}
 use Rattle.pipe_aggs.specs.Faults.{adds_dates, all_exprs, field_names, first_fault, has_double, has_nodes, is_negative_slice, is_typed}
-use Rattle.pipe_aggs.specs.Output.{output_schema}
+use Rattle.pipe_model.specs.Output.{output_schema}
 use Rattle.pipe_aggs.specs.QueryTrees.{agg_exprs, key_exprs, query_tree}
 use Rattle.pipe_exprs.specs.Trees.{tree}
-use Rattle.pipe_exprs.specs.Typing.{is_row_wise, knows_columns}
+use Rattle.pipe_model.specs.Typing.{is_row_wise, knows_columns}
 
 -- the first of some faults that are there
 abbrev first_of_them : List (QueryFault × Bool) → Option QueryFault

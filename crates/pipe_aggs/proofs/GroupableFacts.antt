@@ -7,15 +7,16 @@ use Rattle.pipe_columns.specs.declared.data_type.DataType.TheVariants as dt
 use Rattle.pipe_columns.specs.declared.schema.Field.{Field}
 use Rattle.pipe_aggs.specs.declared.query.Query.{Query}
 use Rattle.pipe_aggs.specs.CheckedQuery.{IsSound}
-use Rattle.pipe_aggs.specs.Convertible.{convertible, is_kept, is_some_integer, keeps, unaliased}
-use Rattle.pipe_exprs.specs.Expr.{Aggregation, Expr, name_of}
-use Rattle.pipe_exprs.specs.Expr as expr
+use Rattle.pipe_model.specs.Convertible.{convertible, is_kept, is_some_integer, keeps, unaliased}
+use Rattle.pipe_model.specs.Expr.{Aggregation, Expr, name_of}
+use Rattle.pipe_model.specs.Expr as expr
 use Rattle.pipe_aggs.specs.Faults.{adds, adds_dates, all_exprs}
-use Rattle.pipe_aggs.specs.Groupable.{is_fed, IsGroupable, is_suited}
-use Rattle.pipe_aggs.specs.HashAggs.{suited}
-use Rattle.pipe_aggs.specs.Query.{AggTree}
-use Rattle.pipe_aggs.specs.QueryTrees.{agg_exprs, agg_named, agg_tree, kept_kind, key_exprs, query_tree}
-use Rattle.pipe_exprs.specs.Typing.{aggregate_type, is_date, is_input, is_row_wise, type_of}
+use Rattle.pipe_model.specs.Groupable.{is_fed, IsGroupable, is_suited, suited}
+use Rattle.pipe_model.specs.Query.{AggTree}
+use Rattle.pipe_aggs.specs.QueryTrees.{agg_exprs, key_exprs, query_tree}
+use Rattle.pipe_model.specs.WrittenTree.{agg_named, agg_tree, kept_kind}
+use Rattle.pipe_model.specs.Typing.{aggregate_type, is_row_wise, type_of}
+use Rattle.pipe_columns.specs.DataType.{is_date, is_input}
 use Rattle.pipe_exprs.proofs.FitFacts.{both_true}
 
 both_hold : (a b : Bool) → a ≡ true → b ≡ true → (a && b) ≡ true

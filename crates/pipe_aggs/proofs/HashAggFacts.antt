@@ -8,15 +8,16 @@ use Rattle.pipe_columns.specs.declared.place.Place.{Place}
 use Rattle.pipe_columns.specs.AnyValue.{fits, fits_number, is_signed, is_unsigned}
 use Rattle.pipe_running.specs.declared.min_max.Direction.{Direction}
 use Rattle.pipe_running.specs.declared.min_max.Direction.TheVariants as direction
-use Rattle.pipe_running.specs.Aggregate.{agg}
-use Rattle.pipe_running.specs.Kind.{Kind}
-use Rattle.pipe_running.specs.Kind as kind
+use Rattle.pipe_model.specs.Aggregate.{agg}
+use Rattle.pipe_model.specs.Kind.{Kind}
+use Rattle.pipe_model.specs.Kind as kind
 use Rattle.pipe_running.specs.Mean.{is_short}
 use Rattle.pipe_running.specs.Stands.{given_types, Suits}
 use Rattle.pipe_running.specs.States.{kind_of, takes}
-use Rattle.pipe_aggs.specs.HashAggs.{extreme_function, function_for, mean_function, suited, sum_function}
-use Rattle.pipe_aggs.specs.Output.{agg_fields}
-use Rattle.pipe_exprs.specs.Typing.{is_integer}
+use Rattle.pipe_aggs.specs.HashAggs.{extreme_function, function_for, mean_function, sum_function}
+use Rattle.pipe_model.specs.Groupable.{suited}
+use Rattle.pipe_model.specs.Output.{agg_fields}
+use Rattle.pipe_columns.specs.DataType.{is_integer}
 
 -- ---- it is one of values of the type
 

@@ -3,9 +3,10 @@ use Rattle.std.proofs.Common.{◌≡◌, ◌∙◌, map, ap, sym}
 use Rattle.pipe_aggs.specs.declared.query.Query.{Query}
 use Rattle.pipe_aggs.specs.HashAggs.{function_for, prototypes}
 use Rattle.pipe_aggs.specs.KnownArena.{KnownArena}
-use Rattle.pipe_aggs.specs.Output.{input_type}
-use Rattle.pipe_aggs.specs.Query.{AggTree}
-use Rattle.pipe_aggs.specs.QueryTrees.{agg_tree, query_tree}
+use Rattle.pipe_model.specs.Output.{input_type}
+use Rattle.pipe_model.specs.Query.{AggTree}
+use Rattle.pipe_model.specs.WrittenTree.{agg_tree}
+use Rattle.pipe_aggs.specs.QueryTrees.{query_tree}
 use Rattle.pipe_exprs.specs.Trees.{tree}
 use Rattle.pipe_aggs.proofs.OutputFacts.{map-map}
 

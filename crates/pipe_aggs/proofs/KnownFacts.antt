@@ -7,13 +7,13 @@ use Rattle.pipe_exprs.specs.declared.expression.AExpr.{AExpr}
 use Rattle.pipe_exprs.specs.declared.expression.AExpr.TheVariants as ax
 use Rattle.pipe_exprs.specs.declared.expression.IRAggExpr.{IRAggExpr}
 use Rattle.pipe_exprs.specs.declared.expression.Node.{Node}
-use Rattle.pipe_aggs.specs.Convertible.{is_kept, unaliased}
-use Rattle.pipe_exprs.specs.Expr.{Expr}
+use Rattle.pipe_model.specs.Convertible.{is_kept, unaliased}
+use Rattle.pipe_model.specs.Expr.{Expr}
 use Rattle.pipe_aggs.specs.KnownArena.{adds_dates_by, fed_by, kept_by, kind_by}
 use Rattle.pipe_aggs.specs.Faults.{adds_dates}
 use Rattle.pipe_exprs.specs.NodeFacts.{facts_of}
-use Rattle.pipe_aggs.specs.Output.{input_type}
-use Rattle.pipe_aggs.specs.QueryTrees.{agg_named}
+use Rattle.pipe_model.specs.Output.{input_type}
+use Rattle.pipe_model.specs.WrittenTree.{agg_named}
 use Rattle.pipe_exprs.specs.Nodes.{alias_input, tree_if}
 use Rattle.pipe_exprs.specs.Trees.{agg_input, IsArena, tree, tree_at, trees}
 use Rattle.pipe_exprs.proofs.PassFacts.{known_at}

@@ -6,12 +6,13 @@ use Rattle.pipe_columns.specs.declared.data_type.DataType.{DataType}
 use Rattle.pipe_columns.specs.declared.schema.Field.{Field}
 use Rattle.pipe_exprs.specs.declared.expression.AExpr.{AExpr}
 use Rattle.pipe_aggs.specs.declared.query.Query.{Query}
-use Rattle.pipe_aggs.specs.Convertible.{unaliased}
-use Rattle.pipe_exprs.specs.Expr.{Expr, name_of}
+use Rattle.pipe_model.specs.Convertible.{unaliased}
+use Rattle.pipe_model.specs.Expr.{Expr, name_of}
 use Rattle.pipe_aggs.specs.KnownArena.{agg_columns, key_field, kind_by, KnownArena}
 use Rattle.pipe_exprs.specs.Nodes.{tree_if}
-use Rattle.pipe_aggs.specs.Output.{agg_fields, input_type, output_schema}
-use Rattle.pipe_aggs.specs.QueryTrees.{agg_named, agg_tree, query_tree}
+use Rattle.pipe_model.specs.Output.{agg_fields, input_type, output_schema}
+use Rattle.pipe_model.specs.WrittenTree.{agg_named, agg_tree}
+use Rattle.pipe_aggs.specs.QueryTrees.{query_tree}
 use Rattle.pipe_exprs.specs.Trees.{tree}
 use Rattle.pipe_aggs.proofs.KnownFacts.{agg_named_so, kind_is}
 

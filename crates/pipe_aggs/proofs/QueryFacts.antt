@@ -7,13 +7,14 @@ use Rattle.std.proofs.lemmas.List.Folds.{list_all-append, list_all-map}
 use Rattle.pipe_columns.specs.declared.schema.Field.{Field}
 use Rattle.pipe_aggs.specs.declared.query.Query.{Query}
 use Rattle.pipe_aggs.specs.CheckedQuery.{input_types}
-use Rattle.pipe_exprs.specs.Expr.{Expr}
+use Rattle.pipe_model.specs.Expr.{Expr}
 use Rattle.pipe_aggs.specs.Faults.{all_exprs, field_names, has_double, has_nodes}
 use Rattle.pipe_aggs.specs.KnownArena.{KnownArena}
-use Rattle.pipe_aggs.specs.Output.{input_type, key_types}
-use Rattle.pipe_aggs.specs.QueryTrees.{agg_exprs, agg_tree, key_exprs, query_tree}
+use Rattle.pipe_model.specs.Output.{input_type, key_types}
+use Rattle.pipe_aggs.specs.QueryTrees.{agg_exprs, key_exprs, query_tree}
+use Rattle.pipe_model.specs.WrittenTree.{agg_tree}
 use Rattle.pipe_exprs.specs.Trees.{tree}
-use Rattle.pipe_exprs.specs.Typing.{known_type}
+use Rattle.pipe_model.specs.Typing.{known_type}
 use Rattle.pipe_aggs.proofs.OutputFacts.{map-map}
 
 -- a test of all keys and aggregates, node by node

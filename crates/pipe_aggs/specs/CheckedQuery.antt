@@ -6,12 +6,12 @@ use Rattle.pipe_columns.specs.declared.schema.Field.{Field}
 use Rattle.pipe_running.specs.declared.function.AggregateFunction.{AggregateFunction}
 use Rattle.pipe_aggs.specs.declared.hash_agg.AggInput.{AggInput}
 use Rattle.pipe_aggs.specs.declared.query.Query.{Query}
-use Rattle.pipe_aggs.specs.Convertible.{convertible, unaliased}
+use Rattle.pipe_model.specs.Convertible.{convertible, unaliased}
 use Rattle.pipe_aggs.specs.Faults.{adds_dates, all_exprs, field_names, first_fault, has_double, has_nodes, is_typed}
 use Rattle.pipe_aggs.specs.HashAggs.{input_of, IsThere, prototypes}
-use Rattle.pipe_aggs.specs.Output.{input_type, key_types, output_schema}
+use Rattle.pipe_model.specs.Output.{input_type, key_types, output_schema}
 use Rattle.pipe_aggs.specs.QueryTrees.{agg_exprs, key_exprs, query_tree}
-use Rattle.pipe_exprs.specs.Typing.{is_row_wise, knows_columns}
+use Rattle.pipe_model.specs.Typing.{is_row_wise, knows_columns}
 
 -- a query has fields of distinct names and a key, and its nodes are in the arena
 pub record HasShape (q : Query) : Type 0 where

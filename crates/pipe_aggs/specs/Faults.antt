@@ -6,13 +6,15 @@ use Rattle.pipe_columns.specs.declared.schema.Field.{Field}
 use Rattle.pipe_aggs.specs.declared.query.Query.{Query}
 use Rattle.pipe_aggs.specs.declared.query_fault.QueryFault.{QueryFault}
 use Rattle.pipe_aggs.specs.declared.query_fault.QueryFault.TheVariants as fault
-use Rattle.pipe_aggs.specs.Convertible.{convertible, unaliased}
-use Rattle.pipe_exprs.specs.Expr.{Aggregation, Expr}
-use Rattle.pipe_exprs.specs.Expr as expr
-use Rattle.pipe_aggs.specs.Output.{output_schema}
-use Rattle.pipe_aggs.specs.Query.{WrittenQuery}
-use Rattle.pipe_aggs.specs.QueryTrees.{written, written_tree}
-use Rattle.pipe_exprs.specs.Typing.{is_date, is_input, is_row_wise, known_type, knows_columns, type_of}
+use Rattle.pipe_model.specs.Convertible.{convertible, unaliased}
+use Rattle.pipe_model.specs.Expr.{Aggregation, Expr}
+use Rattle.pipe_model.specs.Expr as expr
+use Rattle.pipe_model.specs.Output.{output_schema}
+use Rattle.pipe_model.specs.Query.{WrittenQuery}
+use Rattle.pipe_aggs.specs.QueryTrees.{written}
+use Rattle.pipe_model.specs.WrittenTree.{written_tree}
+use Rattle.pipe_columns.specs.DataType.{is_date, is_input}
+use Rattle.pipe_model.specs.Typing.{is_row_wise, known_type, knows_columns, type_of}
 
 -- whether two of some names are the same
 abbrev pub has_double : List (List ℕ) → Bool

@@ -3,8 +3,8 @@ use Rattle.std.specs.Prelude.{◌&&◌, ◌<◌, Bool, map, not, true, List, len
 use Rattle.pipe_columns.specs.declared.data_type.DataType.{DataType}
 use Rattle.pipe_columns.specs.declared.data_type.DataType.TheVariants as dt
 use Rattle.pipe_native.specs.Native.{native_i32, native_i64, native_u32, native_u64}
-use Rattle.pipe_running.specs.Kind.{Kind}
-use Rattle.pipe_running.specs.Kind as kind
+use Rattle.pipe_model.specs.Kind.{Kind}
+use Rattle.pipe_model.specs.Kind as kind
 use Rattle.pipe_running.specs.Transitions.{empty_count, empty_extreme, empty_first, empty_last, empty_mean, empty_sum}
 use Rattle.pipe_running.specs.declared.function.AggregateFunction.{AggregateFunction}
 use Rattle.pipe_running.specs.declared.function.AggregateFunction.TheVariants as function
@@ -13,10 +13,10 @@ use Rattle.pipe_running.specs.declared.min_max.Direction.TheVariants as directio
 use Rattle.pipe_exprs.specs.declared.expression.AExpr.{AExpr}
 use Rattle.pipe_aggs.specs.declared.hash_agg.AggInput.{AggInput}
 use Rattle.pipe_aggs.specs.declared.hash_agg.AggInput.TheVariants as input
-use Rattle.pipe_aggs.specs.Output.{input_type}
-use Rattle.pipe_aggs.specs.Query.{each, Input, QueryTree, rows_alone}
+use Rattle.pipe_model.specs.Output.{input_type}
+use Rattle.pipe_model.specs.Query.{each, Input, QueryTree, rows_alone}
 use Rattle.pipe_exprs.specs.Trees.{tree}
-use Rattle.pipe_exprs.specs.Typing.{is_date, is_input, is_integer}
+use Rattle.pipe_columns.specs.DataType.{is_date, is_input, is_integer}
 
 -- a null of a type: what stands where there is no number to add up
 abbrev pub null_function : DataType → AggregateFunction
@@ -87,18 +87,6 @@ input_of exprs (input.Len n) = rows_alone
 abbrev pub IsThere : List AExpr → AggInput → Type 0
 IsThere exprs (input.Expr e) = e.node.0 < length exprs
 IsThere exprs (input.Len n) = ⊤
-
--- whether a table of groups can keep an aggregate of a kind over values of a type: sums and means of
--- dates are refused, and a least or greatest value is one of integers
-abbrev pub suited : Kind → DataType → Bool
-suited kind.sum t = is_input t && not (is_date t)
-suited kind.mean t = is_input t && not (is_date t)
-suited kind.min t = is_integer t
-suited kind.max t = is_integer t
-suited kind.first t = true
-suited kind.last t = true
-suited kind.count t = true
-suited kind.len t = true
 
 -- the running aggregates of a query's aggregates, before any row
 abbrev pub prototypes : QueryTree → List AggregateFunction

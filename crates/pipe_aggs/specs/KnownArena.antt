@@ -3,19 +3,20 @@ use Rattle.std.specs.Prelude.{◌≡◌, Bool, true, false, ◌&&◌, List, Opti
 use Rattle.pipe_columns.specs.declared.data_type.DataType.{DataType}
 use Rattle.pipe_columns.specs.declared.data_type.DataType.TheVariants as dt
 use Rattle.pipe_columns.specs.declared.schema.Field.{Field}
-use Rattle.pipe_running.specs.Kind.{Kind}
-use Rattle.pipe_running.specs.Kind as kind
+use Rattle.pipe_model.specs.Kind.{Kind}
+use Rattle.pipe_model.specs.Kind as kind
 use Rattle.pipe_exprs.specs.declared.expression.AExpr.{AExpr}
 use Rattle.pipe_exprs.specs.declared.expression.AExpr.TheVariants as ax
 use Rattle.pipe_exprs.specs.declared.facts.NodeFacts.{NodeFacts}
-use Rattle.pipe_aggs.specs.Convertible.{keeps}
-use Rattle.pipe_exprs.specs.Expr.{Expr, name_of}
+use Rattle.pipe_model.specs.Convertible.{keeps}
+use Rattle.pipe_model.specs.Expr.{Expr, name_of}
 use Rattle.pipe_aggs.specs.Faults.{adds}
 use Rattle.pipe_exprs.specs.NodeFacts.{facts_at, facts_of}
-use Rattle.pipe_aggs.specs.Output.{agg_fields, input_type}
-use Rattle.pipe_aggs.specs.QueryTrees.{agg_tree, kept_kind}
+use Rattle.pipe_model.specs.Output.{agg_fields, input_type}
+use Rattle.pipe_model.specs.WrittenTree.{agg_tree, kept_kind}
 use Rattle.pipe_exprs.specs.Trees.{aggregation, agg_input, trees}
-use Rattle.pipe_exprs.specs.Typing.{is_date, known_type}
+use Rattle.pipe_columns.specs.DataType.{is_date}
+use Rattle.pipe_model.specs.Typing.{known_type}
 
 -- the expressions of an arena, and the fields of a schema
 pub record KnownArena : Type 0 where

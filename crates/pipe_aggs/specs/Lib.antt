@@ -1,9 +1,5 @@
-pub mod Convertible
-pub mod Query
 pub mod QueryTrees
-pub mod Output
 pub mod Faults
 pub mod KnownArena
-pub mod Groupable
 pub mod CheckedQuery
 pub mod HashAggs

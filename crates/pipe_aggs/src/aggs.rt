@@ -1,11 +1,11 @@
 //! What aggregates are fed, and which add dates up.
 
 ghost use Rattle.std.specs.Prelude.{◌≡◌, option_copied};
-ghost use Rattle.pipe_aggs.specs.Convertible.{unaliased};
+ghost use Rattle.pipe_model.specs.Convertible.{unaliased};
 ghost use Rattle.pipe_aggs.specs.Faults.{adds, adds_dates};
 ghost use Rattle.pipe_aggs.specs.KnownArena.{adds_dates_by, fed_by};
-ghost use Rattle.pipe_aggs.specs.Output.{input_type};
-ghost use Rattle.pipe_aggs.specs.QueryTrees.{agg_tree};
+ghost use Rattle.pipe_model.specs.Output.{input_type};
+ghost use Rattle.pipe_model.specs.WrittenTree.{agg_tree};
 ghost use Rattle.pipe_exprs.specs.Trees.{aggregation, tree};
 
 use crate::known::Known;

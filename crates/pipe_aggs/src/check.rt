@@ -5,7 +5,7 @@ ghost use Rattle.pipe_aggs.specs.declared.query_fault.QueryFault.{QueryFault};
 ghost use Rattle.pipe_aggs.specs.CheckedQuery.{HasShape, input_types, IsSound};
 ghost use Rattle.pipe_aggs.specs.Faults.{first_fault, has_nodes, is_negative_slice};
 ghost use Rattle.pipe_aggs.specs.HashAggs.{input_of, IsThere, prototypes};
-ghost use Rattle.pipe_aggs.specs.Output.{key_types};
+ghost use Rattle.pipe_model.specs.Output.{key_types};
 ghost use Rattle.pipe_aggs.specs.QueryTrees.{query_tree};
 
 use crate::checked_query::CheckedQuery;

@@ -1,9 +1,9 @@
 ghost use Rattle.std.specs.Prelude.{◌≡◌, All, None, map};
 ghost use Rattle.pipe_aggs.specs.CheckedQuery.{HasShape, input_types, IsChecked, IsSound};
 ghost use Rattle.pipe_aggs.specs.Faults.{first_fault};
-ghost use Rattle.pipe_aggs.specs.Groupable.{IsGroupable};
+ghost use Rattle.pipe_model.specs.Groupable.{IsGroupable};
 ghost use Rattle.pipe_aggs.specs.HashAggs.{input_of, IsThere, prototypes};
-ghost use Rattle.pipe_aggs.specs.Output.{key_types, output_schema};
+ghost use Rattle.pipe_model.specs.Output.{key_types, output_schema};
 ghost use Rattle.pipe_aggs.specs.QueryTrees.{query_tree};
 
 use crate::hash_agg::AggInput;

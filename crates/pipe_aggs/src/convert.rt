@@ -1,5 +1,5 @@
 ghost use Rattle.std.specs.Prelude.{◌≡◌, ◌<◌, ◌&&◌, length, IfOk, option_copied};
-ghost use Rattle.pipe_aggs.specs.Convertible.{convertible, is_some_integer, keeps};
+ghost use Rattle.pipe_model.specs.Convertible.{convertible, is_some_integer, keeps};
 ghost use Rattle.pipe_aggs.specs.KnownArena.{kept_by};
 ghost use Rattle.pipe_exprs.specs.Trees.{aggregation, tree};
 

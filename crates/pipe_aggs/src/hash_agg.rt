@@ -1,12 +1,12 @@
 ghost use Rattle.std.specs.Prelude.{◌≡◌, ◌<◌, length, option_copied, false, true, IfOk, is_some};
 ghost use Rattle.pipe_running.specs.declared.min_max.Direction.{Direction};
-ghost use Rattle.pipe_aggs.specs.Convertible.{convertible, unaliased};
+ghost use Rattle.pipe_model.specs.Convertible.{convertible, unaliased};
 ghost use Rattle.pipe_aggs.specs.Faults.{adds_dates};
 ghost use Rattle.pipe_aggs.specs.HashAggs.{extreme_function, function_for, input_of, IsThere, mean_function, sum_function};
-ghost use Rattle.pipe_aggs.specs.Output.{input_type};
-ghost use Rattle.pipe_aggs.specs.QueryTrees.{agg_tree, kept_kind};
+ghost use Rattle.pipe_model.specs.Output.{input_type};
+ghost use Rattle.pipe_model.specs.WrittenTree.{agg_tree, kept_kind};
 ghost use Rattle.pipe_exprs.specs.Trees.{aggregation, tree};
-ghost use Rattle.pipe_exprs.specs.Typing.{type_of};
+ghost use Rattle.pipe_model.specs.Typing.{type_of};
 
 use crate::known::Known;
 use pipe_columns::{DataType, Schema};

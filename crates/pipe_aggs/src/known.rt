@@ -1,11 +1,11 @@
 ghost use Rattle.std.specs.Prelude.{◌≡◌, IfOk, option_copied, slice_get};
-ghost use Rattle.pipe_aggs.specs.Convertible.{unaliased};
-ghost use Rattle.pipe_exprs.specs.Expr.{name_of};
+ghost use Rattle.pipe_model.specs.Convertible.{unaliased};
+ghost use Rattle.pipe_model.specs.Expr.{name_of};
 ghost use Rattle.pipe_aggs.specs.KnownArena.{IsKnown};
 ghost use Rattle.pipe_exprs.specs.Nodes.{tree_if};
 ghost use Rattle.pipe_exprs.specs.NodeFacts.{facts_of};
 ghost use Rattle.pipe_exprs.specs.Trees.{IsArena, tree, trees};
-ghost use Rattle.pipe_exprs.specs.Typing.{known_type};
+ghost use Rattle.pipe_model.specs.Typing.{known_type};
 
 use pipe_columns::{DataType, Schema};
 use pipe_exprs::{AExpr, Arena, Node, NodeFacts, alias_input, facts_at, node_facts};

@@ -12,7 +12,6 @@ mod output;
 mod query;
 mod query_fault;
 mod sound;
-mod worked;
 mod worked_aggs;
 
 pub use check::CheckError;

@@ -2,8 +2,9 @@
 
 ghost use Rattle.std.specs.Prelude.{◌≡◌, ◌++◌, ◌∷◌, [], IfOk, OnOk, option_copied, string_bytes};
 ghost use Rattle.pipe_aggs.specs.KnownArena.{agg_columns, key_field, kind_by};
-ghost use Rattle.pipe_aggs.specs.Output.{agg_fields, mean_fields, output_schema};
-ghost use Rattle.pipe_aggs.specs.QueryTrees.{kept_kind, query_tree};
+ghost use Rattle.pipe_model.specs.Output.{agg_fields, mean_fields, output_schema};
+ghost use Rattle.pipe_model.specs.WrittenTree.{kept_kind};
+ghost use Rattle.pipe_aggs.specs.QueryTrees.{query_tree};
 ghost use Rattle.pipe_exprs.specs.Trees.{aggregation, tree};
 
 use crate::known::Known;

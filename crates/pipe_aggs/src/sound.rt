@@ -3,11 +3,12 @@
 ghost use Rattle.std.specs.Prelude.{◌≡◌, IfNone, IfSome, Some, is_some};
 ghost use Rattle.std.specs.List.{list_all, list_any};
 ghost use Rattle.pipe_aggs.specs.CheckedQuery.{HasShape, IsSound};
-ghost use Rattle.pipe_aggs.specs.Convertible.{convertible, unaliased};
+ghost use Rattle.pipe_model.specs.Convertible.{convertible, unaliased};
 ghost use Rattle.pipe_aggs.specs.Faults.{adds_dates, all_exprs, first_fault, is_typed};
 ghost use Rattle.pipe_aggs.specs.QueryTrees.{agg_exprs, key_exprs};
 ghost use Rattle.pipe_exprs.specs.Trees.{tree};
-ghost use Rattle.pipe_exprs.specs.Typing.{is_input, is_row_wise, knows_columns, type_of};
+ghost use Rattle.pipe_columns.specs.DataType.{is_input};
+ghost use Rattle.pipe_model.specs.Typing.{is_row_wise, knows_columns, type_of};
 
 use crate::known::Known;
 use crate::query::Query;

@@ -1,34 +1,18 @@
-//! Worked aggregates, as laws over the definitions: each holds by computation.
+//! A worked aggregate of an arena, as a law over the definitions: it holds by computation.
 
-ghost use Rattle.std.specs.Prelude.{◌≡◌, ◌∷◌, [], true, false, pos, codes};
+ghost use Rattle.std.specs.Prelude.{◌≡◌, ◌∷◌, [], false, codes};
 ghost use Rattle.pipe_columns.specs.declared.data_type.DataType.TheVariants as dt;
+ghost use Rattle.pipe_columns.specs.declared.operator.Operator.TheVariants as op;
 ghost use Rattle.pipe_exprs.specs.declared.expression.AExpr.TheVariants as ax;
 ghost use Rattle.pipe_exprs.specs.declared.expression.IRAggExpr.TheVariants as ir;
-ghost use Rattle.pipe_exprs.specs.declared.operator.Operator.TheVariants as op;
-ghost use Rattle.pipe_aggs.specs.Convertible.{convertible};
-ghost use Rattle.pipe_exprs.specs.Expr.{aggregate, alias, binary, count, len, max, min, sum};
 ghost use Rattle.pipe_exprs.specs.Trees.{tree};
-ghost use Rattle.pipe_exprs.specs.Worked.{field, large, v};
+ghost use Rattle.pipe_model.specs.Convertible.{convertible};
+ghost use Rattle.pipe_model.specs.WorkedExprs.{field};
 
-/// Which expressions are aggregates that a table of groups can keep.
-pub fn kept_aggregates()
-    ensures one_alias { convertible (alias (aggregate sum v) (codes "s"))
-        (field (codes "v") dt.Int8 ∷ []) ≡ true }
-    ensures two_aliases { convertible (alias (alias (aggregate sum v) (codes "s")) (codes "t"))
-        (field (codes "v") dt.Int8 ∷ []) ≡ false }
-    ensures sum_and_one { convertible (binary (aggregate sum v) op.Plus (large (pos 1)))
-        (field (codes "v") dt.Int8 ∷ []) ≡ false }
-    ensures one_sum_twice { convertible
+/// A sum that both sides of an addition use is none that a table of groups can keep.
+pub fn kept_nodes()
+    ensures { convertible
         (tree (ax.Column (codes "v") ∷ ax.Agg (ir.Sum (record { 0 = 0 })) ∷
         ax.BinaryExpr (record { 0 = 1 }) op.Plus (record { 0 = 1 }) ∷ []) (record { 0 = 2 }))
         (field (codes "v") dt.Int8 ∷ []) ≡ false }
-    ensures max_of_date { convertible (aggregate (max false) v)
-        (field (codes "v") dt.Date ∷ []) ≡ false }
-    ensures min_of_boolean { convertible (aggregate (min false) v)
-        (field (codes "v") dt.Boolean ∷ []) ≡ false }
-    ensures count_with_nulls { convertible (aggregate (count true) v)
-        (field (codes "v") dt.Int8 ∷ []) ≡ false }
-    ensures count_without { convertible (aggregate (count false) v)
-        (field (codes "v") dt.Int8 ∷ []) ≡ true }
-    ensures number_of_rows { convertible len [] ≡ true }
 {}

@@ -7,6 +7,7 @@ use Rattle.pipe_columns.specs.declared.data_type.DataType.{DataType}
 use Rattle.pipe_columns.specs.declared.data_type.DataType.TheVariants as dt
 use Rattle.pipe_columns.specs.declared.any_value.AnyValue.{AnyValue}
 use Rattle.pipe_columns.specs.declared.any_value.AnyValue.TheVariants as av
+use Rattle.pipe_columns.specs.DataType.{is_boolean, is_string}
 
 -- from -2^n up to below 2^n
 abbrev pub is_signed : ℕ → ℤ → Bool
@@ -33,34 +34,6 @@ fits_number n dt.Int128 = is_signed 127 n
 fits_number n dt.Date = is_signed 31 n
 fits_number n dt.String = false
 
-abbrev pub is_boolean : DataType → Bool
-is_boolean dt.Boolean = true
-is_boolean dt.Int8 = false
-is_boolean dt.Int16 = false
-is_boolean dt.Int32 = false
-is_boolean dt.Int64 = false
-is_boolean dt.UInt8 = false
-is_boolean dt.UInt16 = false
-is_boolean dt.UInt32 = false
-is_boolean dt.UInt64 = false
-is_boolean dt.Int128 = false
-is_boolean dt.Date = false
-is_boolean dt.String = false
-
-abbrev pub is_string : DataType → Bool
-is_string dt.Boolean = false
-is_string dt.Int8 = false
-is_string dt.Int16 = false
-is_string dt.Int32 = false
-is_string dt.Int64 = false
-is_string dt.UInt8 = false
-is_string dt.UInt16 = false
-is_string dt.UInt32 = false
-is_string dt.UInt64 = false
-is_string dt.Int128 = false
-is_string dt.Date = false
-is_string dt.String = true
-
 -- whether a column of a type may hold a value
 abbrev pub fits : AnyValue → DataType → Bool
 fits av.Null t = true
@@ -68,6 +41,7 @@ fits (av.Boolean b) t = is_boolean t
 fits (av.Int n) t = fits_number n t
 fits (av.Text s) t = is_string t
 
+-- whether a value is the null
 abbrev pub is_null : AnyValue → Bool
 is_null av.Null = true
 is_null (av.Boolean b) = false

@@ -1,6 +1,6 @@
 -- Columns and frames as data.
 use Rattle.std.specs.Prelude.{◌≡◌, ◌==◌, Bool, true, false, List, [], ◌∷◌, ◌++◌, ℕ, ◌+◌, ◌-◌, min, length, map, take, Some, unwrap_or}
-use Rattle.std.specs.List.{list_all, slice_get}
+use Rattle.std.specs.List.{All, list_all, slice_get}
 use Rattle.pipe_columns.specs.declared.data_type.DataType.{DataType}
 use Rattle.pipe_columns.specs.declared.any_value.AnyValue.{AnyValue}
 use Rattle.pipe_columns.specs.declared.any_value.AnyValue.TheVariants as av
@@ -95,3 +95,11 @@ sliced_frame offset len f = record {
   height = min len (f.height - offset);
   columns = map (sliced_column offset len) f.columns;
 }
+
+-- the columns of a frame fit their types
+abbrev pub ColumnsFit : List ColumnData → Type 0
+ColumnsFit columns = All (λ c. AllFit c.dtype c.values) columns
+
+-- each value of a frame fits its column's type, as it does of every frame
+abbrev pub HoldsTypes : FrameData → Type 0
+HoldsTypes frame = ColumnsFit frame.columns

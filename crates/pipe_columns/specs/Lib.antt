@@ -5,3 +5,8 @@ pub mod Slice
 pub mod Row
 pub mod Key
 pub mod Groups
+pub mod DataType
+pub mod StableSort
+pub mod Pieces
+pub mod Causes
+pub mod Calls

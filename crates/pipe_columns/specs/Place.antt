@@ -1,7 +1,8 @@
 -- Places of rows, and the entries at the least and the greatest of them.
-use Rattle.std.specs.Prelude.{List, [], ◌∷◌, Option, Some, None}
+use Rattle.std.specs.Prelude.{List, [], ◌∷◌, map, Option, Some, None}
+use Rattle.std.specs.List.{IsDistinct}
 use Rattle.std.specs.declared.cmp.Ordering.{Ordering}
-use Rattle.std.specs.Ordering.{nat_cmp, ordering_then, match_ordering}
+use Rattle.std.specs.Ordering.{eq_by_cmp, nat_cmp, ordering_then, match_ordering}
 use Rattle.pipe_columns.specs.declared.place.Place.{Place}
 
 -- by chunk, then row
@@ -27,3 +28,7 @@ first_entry (e ∷ es) = Some (earlier e (first_entry es))
 abbrev pub last_entry : {V : Type 0} → List (Place × V) → Option (Place × V)
 last_entry [] = None
 last_entry (e ∷ es) = Some (later e (last_entry es))
+
+-- no place stands twice in a list
+abbrev pub DistinctPlaces : {V : Type 0} → List (Place × V) → Type 0
+DistinctPlaces entries = IsDistinct (eq_by_cmp place_cmp) (map (λ e. e.0) entries)

@@ -8,7 +8,8 @@ use Rattle.pipe_columns.specs.declared.any_value.AnyValue.{AnyValue}
 use Rattle.pipe_columns.specs.declared.schema.Field.{Field}
 use Rattle.pipe_columns.specs.declared.data_chunk.DataChunk.{DataChunk}
 use Rattle.pipe_columns.specs.Frame.{ColumnData, FitsSchema, columns_from, value_at}
-use Rattle.pipe_ends.specs.CsvChunks.{Values, chunks_from, file_chunks, flagged, flagged_frame, pieces, pieces_within}
+use Rattle.pipe_ends.specs.CsvChunks.{Values, chunks_from, file_chunks, flagged, flagged_frame}
+use Rattle.pipe_columns.specs.Pieces.{pieces, pieces_within}
 use Rattle.pipe_ends.specs.Columns.{column_of, columns_of, values_from, with_row}
 
 -- turns past the last piece change nothing

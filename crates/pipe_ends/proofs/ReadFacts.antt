@@ -10,7 +10,8 @@ use Rattle.pipe_columns.specs.Frame.{ColumnData, columns_from, value_at}
 use Rattle.pipe_ends.specs.Fields.{read_field}
 use Rattle.pipe_ends.specs.declared.csv_error.CsvError.{CsvError}
 use Rattle.pipe_ends.specs.declared.csv_error.CsvError.TheVariants as ce
-use Rattle.pipe_ends.specs.CsvChunks.{Misfit, Values, after, chunks_from, field, flagged, flagged_frame, header, in_front, is_header, pieces, read_fields, read_records, read_row, read_rows, width}
+use Rattle.pipe_ends.specs.CsvChunks.{Misfit, Values, after, chunks_from, field, flagged, flagged_frame, header, in_front, is_header, read_fields, read_records, read_row, read_rows, width}
+use Rattle.pipe_columns.specs.Pieces.{pieces}
 use Rattle.pipe_ends.specs.CsvError.{StopsBy}
 use Rattle.pipe_ends.specs.Columns.{DoHold, columns_of, values_from, with_row}
 use Rattle.pipe_ends.proofs.HoldFacts.{RowFits, RowsFit, rows-hold, rows-push, value-fits}

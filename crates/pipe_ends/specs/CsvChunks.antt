@@ -87,16 +87,6 @@ abbrev pub flagged_frame : List Field → List Values → FrameData
 flagged_frame schema rows =
     record { height = length rows; columns = map flagged (frame_of schema rows).columns }
 
--- a list cut into pieces of n, the last perhaps shorter, of which there are at most `most`
-abbrev pub pieces_within : {A : Type 0} → ℕ → ℕ → List A → List (List A)
-pieces_within zero n xs = []
-pieces_within (suc most) n [] = []
-pieces_within (suc most) n (x ∷ xs) = take n (x ∷ xs) ∷ pieces_within most n (drop n (x ∷ xs))
-
--- a list cut into pieces of n, the last perhaps shorter, and none empty
-abbrev pub pieces : {A : Type 0} → ℕ → List A → List (List A)
-pieces n xs = pieces_within (length xs) n xs
-
 -- chunks of rows, counted from a number on
 abbrev pub chunks_from : ℕ → List Field → List (List Values) → List DataChunk
 chunks_from i schema [] = []

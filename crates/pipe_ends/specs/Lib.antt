@@ -6,8 +6,6 @@ pub mod Numbers
 pub mod RecordsLeft
 pub mod RowChunks
 pub mod Texts
-pub mod Causes
-pub mod Calls
 pub mod Files
 pub mod MemoryFiles
 pub mod Output

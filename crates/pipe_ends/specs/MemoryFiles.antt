@@ -1,7 +1,7 @@
 -- Files in memory: what they tell, and their calls.
 use Rattle.std.specs.Prelude.{ℕ, List, Bool, map, drop, Option, Some, is_some, option_map, option_and_then, slice_get, Vec}
 use Rattle.std.specs.declared.alloc.Global.{Global}
-use Rattle.pipe_ends.specs.Calls.{Calls}
+use Rattle.pipe_columns.specs.Calls.{Calls}
 use Rattle.pipe_ends.specs.Files.{Files}
 use Rattle.pipe_ends.specs.declared.memory_files.MemoryFiles.{MemoryFiles}
 

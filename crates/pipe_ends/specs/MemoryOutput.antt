@@ -1,6 +1,6 @@
 -- An output in memory: its bytes, and its calls.
 use Rattle.std.specs.Prelude.{ℕ, List, Option, Some}
-use Rattle.pipe_ends.specs.Calls.{Calls}
+use Rattle.pipe_columns.specs.Calls.{Calls}
 use Rattle.pipe_ends.specs.declared.memory_output.MemoryOutput.{MemoryOutput}
 
 -- the bytes that it was given

@@ -1,5 +1,4 @@
-ghost use Rattle.std.specs.Prelude.{[], ◌+◌, ◌++◌, ◌<◌, ◌≡◌, ◌≤◌, ◌^◌, ◌∷◌, IfErr, IfOk, List, Ok};
-ghost use Rattle.std.specs.Prelude.{length, map, sum_by, vec_len};
+ghost use Rattle.std.specs.Prelude.{[], ◌+◌, ◌++◌, ◌<◌, ◌≡◌, ◌≤◌, ◌^◌, ◌∷◌, IfErr, IfOk, List, Ok, length, map, sum_by, vec_len};
 ghost use Rattle.std.specs.List.{All};
 ghost use Rattle.pipe_columns.specs.declared.schema.Field.{Field};
 ghost use Rattle.pipe_columns.specs.Frame.{FitsSchema};

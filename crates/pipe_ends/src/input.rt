@@ -3,7 +3,7 @@
 ghost use Rattle.std.specs.Prelude.{◌≡◌, ◌<◌, List, ℕ, Bool, Option, true, false, length, OnOk, OnErr, IsErrOf, []};
 ghost use Rattle.std.specs.Io.{ReadsAtMost};
 ghost use Rattle.std.specs.Io.KnownBytes.{ReadConsumes};
-ghost use Rattle.pipe_ends.specs.Causes.{HasCause};
+ghost use Rattle.pipe_columns.specs.Causes.{HasCause};
 ghost use Rattle.pipe_ends.specs.Files.{Files, HasNone, IsRead};
 ghost use Rattle.pipe_ends.specs.declared.input.InputError.TheVariants as input_error;
 

@@ -8,7 +8,6 @@ mod csv_chunks;
 mod csv_error;
 mod csv_record;
 mod csv_text;
-mod failing;
 mod field;
 mod input;
 mod memory_files;

@@ -1,16 +1,15 @@
 // Files in memory, which fail at listed calls.
 
-ghost use Rattle.std.specs.Prelude.{◌≡◌, ◌-◌, min, take, drop, ◌<◌, IfSome, IfNone, length, None, Some, List, ℕ};
-ghost use Rattle.std.specs.Prelude.{◌↔◌, OnOk, OnErr, IsErrOf, IsTrue, true, false, []};
+ghost use Rattle.std.specs.Prelude.{◌≡◌, ◌-◌, min, take, drop, ◌<◌, IfSome, IfNone, length, None, Some, List, ℕ, ◌↔◌, OnOk, OnErr, IsErrOf, IsTrue, true, false, []};
 ghost use Rattle.std.specs.Io.{ReadsAtMost};
 ghost use Rattle.std.specs.Io.KnownBytes.{ReadConsumes};
-ghost use Rattle.pipe_ends.specs.Calls.{after_call, is_listed, no_calls};
-ghost use Rattle.pipe_ends.specs.Causes.{HasCause};
+ghost use Rattle.pipe_columns.specs.Calls.{after_call, is_listed, no_calls};
+ghost use Rattle.pipe_columns.specs.Causes.{HasCause};
 ghost use Rattle.pipe_ends.specs.Files.{file_of, HasNone, IsRead};
 ghost use Rattle.pipe_ends.specs.MemoryFiles.{begun_of, calls_of, entries, faults_of, left_of, rest_of, told_of};
 ghost use Rattle.pipe_ends.specs.declared.input.InputError.TheVariants as input_error;
 
-use crate::failing::FailingCalls;
+use pipe_columns::FailingCalls;
 use crate::input::{InputError, InputFiles};
 use pipe_columns::Text;
 

@@ -2,12 +2,12 @@
 
 ghost use Rattle.std.specs.Prelude.{◌≡◌, ◌<◌, ◌≤◌, ◌↔◌, ℕ, List, [], length, IfOk, IsErrOf, IsTrue};
 ghost use Rattle.std.specs.Io.KnownBytes.{WriteAppends};
-ghost use Rattle.pipe_ends.specs.Calls.{after_call, is_listed, no_calls};
-ghost use Rattle.pipe_ends.specs.Causes.{HasCause};
+ghost use Rattle.pipe_columns.specs.Calls.{after_call, is_listed, no_calls};
+ghost use Rattle.pipe_columns.specs.Causes.{HasCause};
 ghost use Rattle.pipe_ends.specs.MemoryOutput.{bytes_of, calls_of, faults_of, told_of};
 ghost use Rattle.pipe_ends.specs.declared.output.OutputError.TheVariants as output_error;
 
-use crate::failing::FailingCalls;
+use pipe_columns::FailingCalls;
 use crate::output::{Output, OutputError};
 use std::alloc::Global;
 

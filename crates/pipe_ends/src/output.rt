@@ -2,7 +2,7 @@
 
 ghost use Rattle.std.specs.Prelude.{◌≡◌, ◌<◌, ◌≤◌, List, ℕ, Option, [], length, OnOk, OnErr, IfOk, IsErrOf, IsOk};
 ghost use Rattle.std.specs.Io.KnownBytes.{Appends, WriteAppends};
-ghost use Rattle.pipe_ends.specs.Causes.{HasCause};
+ghost use Rattle.pipe_columns.specs.Causes.{HasCause};
 ghost use Rattle.pipe_ends.specs.Output.{WroteFront};
 ghost use Rattle.pipe_ends.specs.declared.output.OutputError.TheVariants as output_error;
 

@@ -1,7 +1,7 @@
 // A file, read whole.
 
 ghost use Rattle.std.specs.Prelude.{◌≡◌, ◌<◌, ◌≤◌, ◌^◌, ◌+◌, List, ℕ, length, IfOk, IsErrOf, Some};
-ghost use Rattle.pipe_ends.specs.Causes.{HasCause};
+ghost use Rattle.pipe_columns.specs.Causes.{HasCause};
 ghost use Rattle.pipe_ends.specs.Files.{HasNone, IsLarger, IsWhole};
 ghost use Rattle.pipe_ends.specs.declared.whole_file.FileEnd.TheVariants as file_end;
 

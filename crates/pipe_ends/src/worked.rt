@@ -1,11 +1,11 @@
 //! Worked texts, as laws over the definitions: each holds by computation.
 
-ghost use Rattle.std.specs.Prelude.{◌≡◌, ◌∷◌, [], false, true, negsuc, pos, codes, Err, Ok, None, Some};
+ghost use Rattle.std.specs.Prelude.{◌≡◌, ◌∷◌, [], false, true, negsuc, pos, codes, Err, Ok, None, Some, ℕ, length};
 ghost use Rattle.pipe_columns.specs.declared.data_type.DataType.TheVariants as dt;
 ghost use Rattle.pipe_columns.specs.declared.any_value.AnyValue.TheVariants as av;
 ghost use Rattle.pipe_columns.specs.Frame.{frame_of};
-ghost use Rattle.pipe_ends.specs.CsvChunks.{csv_chunks, field, flagged_frame, header, missing, pieces, text_rows, width};
-ghost use Rattle.std.specs.Prelude.{ℕ, length};
+ghost use Rattle.pipe_ends.specs.CsvChunks.{csv_chunks, field, flagged_frame, header, missing, text_rows, width};
+ghost use Rattle.pipe_columns.specs.Pieces.{pieces};
 ghost use Rattle.pipe_ends.specs.Fields.{read_field};
 ghost use Rattle.pipe_ends.specs.Texts.{csv_text};
 ghost use Rattle.pipe_ends.specs.Worked.{int, key_value};

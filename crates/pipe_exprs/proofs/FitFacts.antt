@@ -13,16 +13,16 @@ use Rattle.pipe_columns.specs.declared.data_type.DataType.{DataType}
 use Rattle.pipe_columns.specs.declared.data_type.DataType.TheVariants as dt
 use Rattle.pipe_columns.specs.declared.any_value.AnyValue.{AnyValue}
 use Rattle.pipe_columns.specs.declared.any_value.AnyValue.TheVariants as av
-use Rattle.pipe_columns.specs.AnyValue.{fits, fits_number, is_boolean, is_signed, is_unsigned}
-use Rattle.pipe_columns.specs.Frame.{AllFit, ColumnData, FrameData, fields_of, value_at}
-use Rattle.pipe_exprs.specs.declared.operator.Operator.{Operator}
-use Rattle.pipe_exprs.specs.declared.operator.Operator.TheVariants as op
-use Rattle.pipe_exprs.specs.Expr.{Expr}
-use Rattle.pipe_exprs.specs.Expr as expr
-use Rattle.pipe_exprs.specs.Operands.{ColumnsFit}
-use Rattle.pipe_exprs.specs.Operators.{and_values, apply, arithmetic, cast_value, chosen, comparison, exact_result, number_if_any, or_values, wrapped_into}
-use Rattle.pipe_exprs.specs.Typing.{both, field_named, is_castable, is_input, is_integer, known_type, operator_type, same_type, shared_type, truth_type, type_of, where_boolean}
-use Rattle.pipe_exprs.specs.Value.{column_named, value, values_if_any}
+use Rattle.pipe_columns.specs.AnyValue.{fits, fits_number, is_signed, is_unsigned}
+use Rattle.pipe_columns.specs.DataType.{is_boolean, wrapped, is_castable, is_input, is_integer, same_type}
+use Rattle.pipe_columns.specs.Frame.{AllFit, ColumnData, FrameData, fields_of, value_at, ColumnsFit}
+use Rattle.pipe_columns.specs.declared.operator.Operator.{Operator}
+use Rattle.pipe_columns.specs.declared.operator.Operator.TheVariants as op
+use Rattle.pipe_model.specs.Expr.{Expr}
+use Rattle.pipe_model.specs.Expr as expr
+use Rattle.pipe_model.specs.Operators.{and_values, apply, arithmetic, cast_value, chosen, comparison, exact_result, number_if_any, or_values}
+use Rattle.pipe_model.specs.Typing.{both, field_named, known_type, operator_type, shared_type, truth_type, type_of, where_boolean}
+use Rattle.pipe_model.specs.Value.{column_named, value, values_if_any}
 
 pub both_true : (a b : Bool) → (a && b) ≡ true → (a ≡ true) × (b ≡ true)
 both_true true b e = (refl, e)
@@ -52,7 +52,7 @@ left-unsigned n (pos a) h = lt-ltb (a % 2 ^ n) (2 ^ n) (omega arith)
 left-unsigned n (negsuc a) h = lt-ltb _ (2 ^ n) (omega arith)
 
 -- a number wrapped into an integer type fits it
-wrapped-fits : (t : DataType) (z : ℤ) → is_integer t ≡ true → fits_number (wrapped_into t z) t ≡ true
+wrapped-fits : (t : DataType) (z : ℤ) → is_integer t ≡ true → fits_number (wrapped t z) t ≡ true
 wrapped-fits dt.Boolean z i = cc
 wrapped-fits dt.Int8 z i = wrapped-signed8 (int_wrap w8 z) (SFits-int_wrap w8 z)
 wrapped-fits dt.Int16 z i = wrapped-signed16 (int_wrap w16 z) (SFits-int_wrap w16 z)

@@ -5,8 +5,8 @@ use Rattle.std.proofs.lemmas.Option.{same_Some, slice_get_past}
 use Rattle.pipe_exprs.specs.declared.expression.AExpr.{AExpr}
 use Rattle.pipe_exprs.specs.declared.expression.AExpr.TheVariants as ax
 use Rattle.pipe_exprs.specs.declared.expression.Node.{Node}
-use Rattle.pipe_exprs.specs.Expr.{Expr, name_of}
-use Rattle.pipe_exprs.specs.Expr as expr
+use Rattle.pipe_model.specs.Expr.{Expr, name_of}
+use Rattle.pipe_model.specs.Expr as expr
 use Rattle.pipe_exprs.specs.Nodes.{name_giver, own_name, tree_if}
 use Rattle.pipe_exprs.specs.Trees.{agg_input, children_below, IsArena, tree, tree_at, trees}
 use Rattle.pipe_exprs.proofs.PassFacts.{children_at}

@@ -10,8 +10,8 @@ use Rattle.pipe_columns.specs.declared.any_value.AnyValue.TheVariants as av
 use Rattle.pipe_columns.specs.declared.data_type.DataType.{DataType}
 use Rattle.pipe_columns.specs.declared.data_type.DataType.TheVariants as dt
 use Rattle.pipe_columns.specs.AnyValue.{fits_number, is_signed, is_unsigned}
-use Rattle.pipe_exprs.specs.Operators.{floor_quotient, number_if_any, where_divisible, wrapped_into}
-use Rattle.pipe_exprs.specs.Typing.{is_integer, same_type}
+use Rattle.pipe_model.specs.Operators.{floor_quotient, number_if_any, where_divisible}
+use Rattle.pipe_columns.specs.DataType.{wrapped, is_integer, same_type}
 
 -- the bits that are left of a number, read as a signed one
 pub wrapped_is : (w : Width) (n m r : ℤ) → FitsSigned w128 n → FitsSigned w128 m → FitsSigned w r → FitsSigned w128 r
@@ -39,7 +39,7 @@ negated z h = omega (arith, ints)
 pub modulus_is : (t : DataType) (a b r w : ℤ) → unsigned_abs a ≤ 2 ^ 64 → unsigned_abs b ≤ 2 ^ 64 → (of_z w128 b ≡ 0 → ⊥) → lt_z (pos 0) (to_z w128 (of_z w128 b)) ≡ false
     → unsigned_abs r < unsigned_abs (to_z w128 (of_z w128 (pos 0 -ℤ to_z w128 (of_z w128 b))))
     → r ≡ int_rem_euclid (to_z w128 (of_z w128 (pos 0 -ℤ to_z w128 (of_z w128 a)))) (to_z w128 (of_z w128 (pos 0 -ℤ to_z w128 (of_z w128 b))))
-    → FitsSigned w128 w → w ≡ wrapped_into t (to_z w128 (of_z w128 (pos 0 -ℤ to_z w128 (of_z w128 r))))
+    → FitsSigned w128 w → w ≡ wrapped t (to_z w128 (of_z w128 (pos 0 -ℤ to_z w128 (of_z w128 r))))
     → av.Int (to_z w128 (of_z w128 w)) ≡ number_if_any t (where_divisible b (a -ℤ b *ℤ floor_quotient a b))
 modulus_is t a (pos zero) r w ha hb nonzero low less rest fw is = absurd (nonzero refl)
 modulus_is t a (pos (suc k)) r w ha hb nonzero low less rest fw is = absurd (grind (arith, ints))
@@ -47,7 +47,7 @@ modulus_is t a (negsuc k) r w ha hb nonzero low less rest fw is =
     let nb = negated (negsuc k) hb in
     let few : unsigned_abs r < suc k = rw nb at less in
     let left : r ≡ int_rem_euclid (neg_ℤ a) (pos (suc k)) = rest ∙ rw (negated a ha, nb) refl in
-    rw (to_z-of_z w128 w fw) (ap av.Int (is ∙ ap (wrapped_into t) (negated r (omega arith) ∙ ap neg_ℤ left ∙ left_by_negative a k)))
+    rw (to_z-of_z w128 w fw) (ap av.Int (is ∙ ap (wrapped t) (negated r (omega arith) ∙ ap neg_ℤ left ∙ left_by_negative a k)))
 
 -- ---- products
 

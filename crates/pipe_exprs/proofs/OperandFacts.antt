@@ -1,18 +1,17 @@
 -- The operand of a node holds the values of its tree.
 use Rattle.std.proofs.Common.{◌≡◌, ◌∙◌, ◌<◌, ◌&&◌, ℕ, List, [], ◌∷◌, length, map, get_or, Vec, Global, Bor, Option, Some, None, unwrap_or, Bool, true, false, if◌then◌else◌, refl, sym, ap, arith, eq-eqb, inl, inr}
-use Rattle.std.specs.Prelude.{IfOk, is_some, option_map, slice_get, Result, Ok, Err}
+use Rattle.std.specs.Prelude.{IfOk, is_some, option_map, slice_get, Result, Ok, Err, ◌==◌}
 use Rattle.std.specs.Str.{bytes_eq}
-use Rattle.std.specs.Prelude.{◌==◌}
-use Rattle.std.specs.List.{find, list_all, range_with_len}
+use Rattle.std.specs.List.{find, list_all, range_with_len, All}
 use Rattle.std.proofs.lemmas.List.FromFn.{fill_by_all, get_or-map-range_with_len, length-map-range_with_len}
 use Rattle.std.proofs.lemmas.Option.{slice_get-map, slice_get_read, unwrap_or-slice_get}
 use Rattle.pipe_columns.specs.declared.any_value.AnyValue.{AnyValue}
 use Rattle.pipe_columns.specs.declared.any_value.AnyValue.TheVariants as av
 use Rattle.pipe_columns.specs.declared.data_type.DataType.{DataType}
 use Rattle.pipe_columns.specs.declared.data_type.DataType.TheVariants as dt
-use Rattle.pipe_columns.specs.AnyValue.{fits, is_boolean}
+use Rattle.pipe_columns.specs.AnyValue.{fits}
+use Rattle.pipe_columns.specs.DataType.{is_boolean}
 use Rattle.pipe_columns.specs.Frame.{all_fit, all_have_height, ColumnData, FrameData, fields_of, value_at}
-use Rattle.std.specs.List.{All}
 use Rattle.std.proofs.lemmas.List.Elements.{All-head, All-tail}
 use mathlib.Core.Logic.{◌⊎◌}
 use Rattle.pipe_exprs.specs.declared.expression.AExpr.{AExpr}
@@ -23,18 +22,20 @@ use Rattle.pipe_exprs.specs.Trees.{children, IsArena, tree, tree_of, trees}
 use Rattle.pipe_exprs.proofs.TreeFacts.{tree_is}
 use Rattle.pipe_exprs.specs.declared.operand.Operand.{Operand}
 use Rattle.pipe_exprs.specs.declared.operand.Operand.TheVariants as operand
-use Rattle.pipe_exprs.specs.declared.operator.Operator.{Operator}
-use Rattle.pipe_exprs.specs.declared.operator.Operator.TheVariants as op
+use Rattle.pipe_columns.specs.declared.operator.Operator.{Operator}
+use Rattle.pipe_columns.specs.declared.operator.Operator.TheVariants as op
 use Rattle.pipe_columns.specs.declared.schema.Field.{Field}
 use Rattle.pipe_exprs.specs.declared.facts.NodeFacts.{NodeFacts}
 use Rattle.pipe_exprs.specs.NodeFacts.{facts_at, facts_of, len_facts}
 use Rattle.pipe_exprs.specs.Evaluated.{evaluated, keeps_sorted, row_values}
-use Rattle.pipe_exprs.specs.Expr.{Expr, name_of}
-use Rattle.pipe_exprs.specs.Expr as expr
-use Rattle.pipe_exprs.specs.Operands.{AreHeld, ColumnsFit, has_height, HoldsValues, IsHeld, IsSameOperand, node_types, operand_at, OperandFits, slot_at, type_at}
-use Rattle.pipe_exprs.specs.Operators.{apply, cast_value, chosen}
-use Rattle.pipe_exprs.specs.Typing.{is_input, is_integer, is_row_wise, known_type, operator_type, shared_type, truth_type, type_of}
-use Rattle.pipe_exprs.specs.Value.{column_named, value}
+use Rattle.pipe_model.specs.Expr.{Expr, name_of}
+use Rattle.pipe_model.specs.Expr as expr
+use Rattle.pipe_exprs.specs.Operands.{AreHeld, has_height, HoldsValues, IsHeld, IsSameOperand, node_types, operand_at, OperandFits, slot_at, type_at}
+use Rattle.pipe_columns.specs.Frame.{ColumnsFit}
+use Rattle.pipe_model.specs.Operators.{apply, cast_value, chosen}
+use Rattle.pipe_columns.specs.DataType.{is_input, is_integer}
+use Rattle.pipe_model.specs.Typing.{is_row_wise, known_type, operator_type, shared_type, truth_type, type_of}
+use Rattle.pipe_model.specs.Value.{column_named, value}
 use Rattle.pipe_exprs.proofs.RowFacts.{list_all-range}
 use Rattle.pipe_exprs.proofs.FitFacts.{both-some, shared-both, value-fits}
 

@@ -6,9 +6,9 @@ use Rattle.pipe_exprs.specs.declared.expression.AExpr.{AExpr}
 use Rattle.pipe_exprs.specs.declared.expression.AExpr.TheVariants as ax
 use Rattle.pipe_exprs.specs.declared.expression.Node.{Node}
 use Rattle.pipe_exprs.specs.declared.facts.NodeFacts.{NodeFacts}
-use Rattle.pipe_exprs.specs.Expr.{Expr}
+use Rattle.pipe_model.specs.Expr.{Expr}
 use Rattle.pipe_exprs.specs.NodeFacts.{expr_facts, facts_at, facts_of}
-use Rattle.pipe_exprs.specs.Typing.{type_of}
+use Rattle.pipe_model.specs.Typing.{type_of}
 use Rattle.pipe_exprs.specs.Trees.{agg_input, arena_from, children_below, tree_at, tree_of, trees}
 use Rattle.pipe_exprs.proofs.TreeFacts.{and_split, mapped_at, trees_push}
 

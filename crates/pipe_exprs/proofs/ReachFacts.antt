@@ -10,18 +10,18 @@ use Rattle.std.proofs.lemmas.Option.{unwrap_or-slice_get}
 use Rattle.pipe_columns.specs.declared.any_value.AnyValue.TheVariants as av
 use Rattle.pipe_columns.specs.declared.data_type.DataType.{DataType}
 use Rattle.pipe_columns.specs.declared.schema.Field.{Field}
-use Rattle.pipe_columns.specs.AnyValue.{is_boolean}
+use Rattle.pipe_columns.specs.DataType.{is_boolean}
 use Rattle.pipe_columns.specs.Frame.{FrameData}
 use Rattle.pipe_exprs.specs.declared.expression.AExpr.{AExpr}
 use Rattle.pipe_exprs.specs.declared.expression.AExpr.TheVariants as ax
 use Rattle.pipe_exprs.specs.declared.expression.Node.{Node}
 use Rattle.pipe_exprs.specs.declared.operand.Operand.{Operand}
 use Rattle.pipe_exprs.specs.declared.operand.Operand.TheVariants as operand
-use Rattle.pipe_exprs.specs.Expr.{Expr}
-use Rattle.pipe_exprs.specs.Expr as expr
+use Rattle.pipe_model.specs.Expr.{Expr}
+use Rattle.pipe_model.specs.Expr as expr
 use Rattle.pipe_exprs.specs.Operands.{AreHeld, AreReady, HoldsValues, KeepsUsed, released, released_all, slot_at}
 use Rattle.pipe_exprs.specs.Trees.{agg_input, children, IsArena, tree, tree_at, tree_of, trees}
-use Rattle.pipe_exprs.specs.Typing.{both, operator_type, shared_type, type_of, where_boolean}
+use Rattle.pipe_model.specs.Typing.{both, operator_type, shared_type, type_of, where_boolean}
 use Rattle.pipe_exprs.specs.Uses.{AreLastUses}
 use Rattle.pipe_exprs.proofs.TreeFacts.{tree_is}
 use Rattle.pipe_exprs.proofs.UseFacts.{AreBelow, children_are_below}

@@ -6,7 +6,7 @@ use Rattle.pipe_exprs.specs.declared.expression.AExpr.{AExpr}
 use Rattle.pipe_exprs.specs.declared.expression.AExpr.TheVariants as ax
 use Rattle.pipe_exprs.specs.declared.expression.Node.{Node}
 use Rattle.pipe_exprs.specs.Evaluated.{keeps_sorted, own_flag}
-use Rattle.pipe_exprs.specs.Expr.{Expr}
+use Rattle.pipe_model.specs.Expr.{Expr}
 use Rattle.pipe_exprs.specs.Nodes.{alias_input, tree_if}
 use Rattle.pipe_exprs.specs.Trees.{IsArena, tree, trees}
 use Rattle.pipe_exprs.proofs.NameFacts.{tree_found}

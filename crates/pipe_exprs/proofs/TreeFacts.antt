@@ -6,8 +6,8 @@ use Rattle.std.proofs.lemmas.Option.{slice_get-map}
 use Rattle.pipe_exprs.specs.declared.expression.AExpr.{AExpr}
 use Rattle.pipe_exprs.specs.declared.expression.AExpr.TheVariants as ax
 use Rattle.pipe_exprs.specs.declared.expression.Node.{Node}
-use Rattle.pipe_exprs.specs.Expr.{Expr}
-use Rattle.pipe_exprs.specs.Expr as expr
+use Rattle.pipe_model.specs.Expr.{Expr}
+use Rattle.pipe_model.specs.Expr as expr
 use Rattle.pipe_exprs.specs.Trees.{IsArena, aggregation, agg_input, arena_from, children_below, tree, tree_at, tree_of, trees}
 
 -- one more expression is one more tree

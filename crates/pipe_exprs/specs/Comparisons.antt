@@ -2,8 +2,8 @@
 use Rattle.std.specs.Prelude.{Bool, false}
 use Rattle.std.specs.declared.cmp.Ordering.{Ordering}
 use Rattle.std.specs.Ordering.{is_eq, is_ne, is_lt, is_le, is_gt, is_ge}
-use Rattle.pipe_exprs.specs.declared.operator.Operator.{Operator}
-use Rattle.pipe_exprs.specs.declared.operator.Operator.TheVariants as op
+use Rattle.pipe_columns.specs.declared.operator.Operator.{Operator}
+use Rattle.pipe_columns.specs.declared.operator.Operator.TheVariants as op
 
 -- whether a comparison holds of an order: what is no comparison holds of none
 abbrev pub compares : Operator → Ordering → Bool

@@ -9,10 +9,10 @@ use Rattle.pipe_exprs.specs.declared.expression.AExpr.{AExpr}
 use Rattle.pipe_exprs.specs.declared.expression.AExpr.TheVariants as ax
 use Rattle.pipe_exprs.specs.declared.values.Values.{Values}
 use Rattle.pipe_exprs.specs.declared.values.Values.TheVariants as values
-use Rattle.pipe_exprs.specs.Expr.{Expr, name_of}
-use Rattle.pipe_exprs.specs.Expr as expr
-use Rattle.pipe_exprs.specs.Typing.{known_type}
-use Rattle.pipe_exprs.specs.Value.{column_named, value}
+use Rattle.pipe_model.specs.Expr.{Expr, name_of}
+use Rattle.pipe_model.specs.Expr as expr
+use Rattle.pipe_model.specs.Typing.{known_type}
+use Rattle.pipe_model.specs.Value.{column_named, value}
 
 -- the flag of a column, false where there is none
 abbrev pub sorted_if_any : Option ColumnData → Bool

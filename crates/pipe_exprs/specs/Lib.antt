@@ -1,12 +1,7 @@
-pub mod Expr
 pub mod Trees
-pub mod Typing
-pub mod Operators
 pub mod Comparisons
-pub mod Value
 pub mod Evaluated
 pub mod Operands
 pub mod Uses
 pub mod NodeFacts
 pub mod Nodes
-pub mod Worked

@@ -8,9 +8,10 @@ use Rattle.pipe_exprs.specs.declared.expression.AExpr.{AExpr}
 use Rattle.pipe_exprs.specs.declared.expression.AExpr.TheVariants as ax
 use Rattle.pipe_exprs.specs.declared.expression.Node.{Node}
 use Rattle.pipe_exprs.specs.declared.facts.NodeFacts.{NodeFacts}
-use Rattle.pipe_exprs.specs.Expr.{Expr}
+use Rattle.pipe_model.specs.Expr.{Expr}
 use Rattle.pipe_exprs.specs.Trees.{aggregation, agg_input}
-use Rattle.pipe_exprs.specs.Typing.{aggregate_type, both, field_named, is_castable, is_input, is_row_wise, knows_columns, operator_type, shared_type, type_of, where_boolean}
+use Rattle.pipe_model.specs.Typing.{aggregate_type, both, field_named, is_row_wise, knows_columns, operator_type, shared_type, type_of, where_boolean}
+use Rattle.pipe_columns.specs.DataType.{is_castable, is_input}
 
 -- the type of an expression, whether it knows its columns, and whether it has a value in each row
 abbrev pub facts_of : List Field → Expr → NodeFacts

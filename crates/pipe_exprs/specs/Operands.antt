@@ -11,10 +11,10 @@ use Rattle.pipe_exprs.specs.declared.expression.AExpr.{AExpr}
 use Rattle.pipe_exprs.specs.declared.expression.Node.{Node}
 use Rattle.pipe_exprs.specs.declared.operand.Operand.{Operand}
 use Rattle.pipe_exprs.specs.declared.operand.Operand.TheVariants as operand
-use Rattle.pipe_exprs.specs.Expr.{Expr}
+use Rattle.pipe_model.specs.Expr.{Expr}
 use Rattle.pipe_exprs.specs.Trees.{children, tree, trees}
-use Rattle.pipe_exprs.specs.Typing.{type_of}
-use Rattle.pipe_exprs.specs.Value.{value}
+use Rattle.pipe_model.specs.Typing.{type_of}
+use Rattle.pipe_model.specs.Value.{value}
 
 -- the value in a row: one of a list that is lent or held, or one for all rows
 abbrev pub operand_at : Operand → ℕ → AnyValue
@@ -61,10 +61,6 @@ pub record IsHeld (frame : FrameData) (exprs : List AExpr) (slots : List Operand
 abbrev pub AreHeld : FrameData → List AExpr → List Operand → Node → Type 0
 AreHeld frame exprs slots n = (e : AExpr) → slice_get exprs n.0 ≡ Some e
     → All (λ c. IsHeld frame exprs slots c) (children e)
-
--- the columns of a frame fit their types
-abbrev pub ColumnsFit : List ColumnData → Type 0
-ColumnsFit columns = All (λ c. AllFit c.dtype c.values) columns
 
 -- the types of the nodes of an arena over some columns
 abbrev pub node_types : List AExpr → List ColumnData → List (Option DataType)

@@ -1,11 +1,11 @@
 ghost use Rattle.std.specs.Prelude.{◌≡◌, ◌≤◌, ◌^◌, ◌*ℤ◌, true};
 ghost use Rattle.std.specs.Int.RustNames.{unsigned_abs};
 ghost use Rattle.pipe_columns.specs.AnyValue.{fits, fits_number};
-ghost use Rattle.pipe_exprs.specs.declared.operator.Operator.TheVariants as op;
-ghost use Rattle.pipe_exprs.specs.Operators.{arithmetic as arithmetic_of, exact_result, number_if_any, wrapped_into as wrap};
-ghost use Rattle.pipe_exprs.specs.Typing.{is_integer};
+ghost use Rattle.pipe_columns.specs.declared.operator.Operator.TheVariants as op;
+ghost use Rattle.pipe_model.specs.Operators.{arithmetic as arithmetic_of, exact_result, number_if_any};
+ghost use Rattle.pipe_columns.specs.DataType.{wrapped as wrap, is_integer};
 
-use crate::operator::Operator;
+use pipe_columns::Operator;
 use pipe_columns::{AnyValue, DataType};
 
 /// A number wrapped into a type.

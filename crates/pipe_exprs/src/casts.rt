@@ -1,5 +1,5 @@
 ghost use Rattle.std.specs.Prelude.{◌≡◌};
-ghost use Rattle.pipe_exprs.specs.Operators.{cast_value};
+ghost use Rattle.pipe_model.specs.Operators.{cast_value};
 
 use pipe_columns::{AnyValue, DataType};
 

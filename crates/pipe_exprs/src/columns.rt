@@ -1,9 +1,10 @@
 ghost use Rattle.std.specs.Prelude.{◌≡◌, option_copied};
 ghost use Rattle.pipe_exprs.specs.Evaluated.{keeps_sorted, own_flag as flag_of};
-ghost use Rattle.pipe_exprs.specs.Expr.{column};
-ghost use Rattle.pipe_exprs.specs.Operands.{ColumnsFit, HoldsValues};
+ghost use Rattle.pipe_model.specs.Expr.{column};
+ghost use Rattle.pipe_columns.specs.Frame.{ColumnsFit};
+ghost use Rattle.pipe_exprs.specs.Operands.{HoldsValues};
 ghost use Rattle.pipe_exprs.specs.Trees.{tree};
-ghost use Rattle.pipe_exprs.specs.Value.{column_named as named};
+ghost use Rattle.pipe_model.specs.Value.{column_named as named};
 
 use crate::arena::Arena;
 use crate::expression::{AExpr, Node};

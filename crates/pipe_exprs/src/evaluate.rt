@@ -1,8 +1,8 @@
 ghost use Rattle.std.specs.Prelude.{◌≡◌, ◌<◌, ◌≤◌, IfOk, OnOk, is_some, length, slice_index, true};
-ghost use Rattle.pipe_columns.specs.Frame.{fields_of};
-ghost use Rattle.pipe_exprs.specs.Operands.{AreHeld, ColumnsFit, HoldsValues, KeepsUsed, node_types as types_of, released, released_all};
+ghost use Rattle.pipe_columns.specs.Frame.{fields_of, ColumnsFit};
+ghost use Rattle.pipe_exprs.specs.Operands.{AreHeld, HoldsValues, KeepsUsed, node_types as types_of, released, released_all};
 ghost use Rattle.pipe_exprs.specs.Trees.{children, children_below, tree};
-ghost use Rattle.pipe_exprs.specs.Typing.{type_of};
+ghost use Rattle.pipe_model.specs.Typing.{type_of};
 
 use crate::arena::Arena;
 use crate::expression::{AExpr, Node};

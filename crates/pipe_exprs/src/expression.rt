@@ -1,4 +1,4 @@
-use crate::operator::Operator;
+use pipe_columns::Operator;
 use pipe_columns::{AnyValue, DataType, Text};
 
 /// The position of an expression in an arena.

@@ -2,10 +2,11 @@ ghost use Rattle.std.specs.Prelude.{◌≡◌, option_and_then, option_map, is_s
 ghost use Rattle.pipe_columns.specs.AnyValue.{fits};
 ghost use Rattle.pipe_exprs.specs.NodeFacts.{expr_facts, facts_at};
 ghost use Rattle.pipe_exprs.specs.Trees.{aggregation};
-ghost use Rattle.pipe_exprs.specs.Typing.{aggregate_type, both, field_named, is_input, operator_type, shared_type, where_boolean};
+ghost use Rattle.pipe_model.specs.Typing.{aggregate_type, both, field_named, operator_type, shared_type, where_boolean};
+ghost use Rattle.pipe_columns.specs.DataType.{is_input};
 
 use crate::expression::{AExpr, IRAggExpr, Node};
-use crate::operator::Operator;
+use pipe_columns::Operator;
 use crate::typing::{agg_type, binary_type, branch_type, cast_type, is_input, type_after};
 use pipe_columns::{AnyValue, DataType, Field, Text};
 

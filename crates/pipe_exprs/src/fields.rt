@@ -1,8 +1,8 @@
 ghost use Rattle.std.specs.Prelude.{◌≡◌, ◌<◌, length, IfOk, OnOk, IsErrOf, Some, None, true, false};
 ghost use Rattle.pipe_exprs.specs.declared.fields.TypeFault.TheVariants as fault;
-ghost use Rattle.pipe_exprs.specs.Expr.{name_of};
+ghost use Rattle.pipe_model.specs.Expr.{name_of};
 ghost use Rattle.pipe_exprs.specs.Trees.{tree};
-ghost use Rattle.pipe_exprs.specs.Typing.{knows_columns, type_of};
+ghost use Rattle.pipe_model.specs.Typing.{knows_columns, type_of};
 
 use crate::arena::Arena;
 use crate::expression::Node;

@@ -1,5 +1,5 @@
 ghost use Rattle.std.specs.Prelude.{◌≡◌};
-ghost use Rattle.pipe_exprs.specs.Operators.{and_values, chosen as choice, or_values};
+ghost use Rattle.pipe_model.specs.Operators.{and_values, chosen as choice, or_values};
 
 use pipe_columns::AnyValue;
 

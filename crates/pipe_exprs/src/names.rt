@@ -1,7 +1,7 @@
 //! The names of expressions, and what stands under an alias.
 
 ghost use Rattle.std.specs.Prelude.{◌≡◌, option_copied};
-ghost use Rattle.pipe_exprs.specs.Expr.{name_of};
+ghost use Rattle.pipe_model.specs.Expr.{name_of};
 ghost use Rattle.pipe_exprs.specs.Nodes.{alias_input, name_giver, own_name};
 ghost use Rattle.pipe_exprs.specs.Trees.{tree};
 

@@ -1,8 +1,8 @@
 ghost use Rattle.std.specs.Prelude.{◌≡◌, ◌<◌, IfOk, is_some, length, true};
-ghost use Rattle.pipe_columns.specs.Frame.{fields_of};
-ghost use Rattle.pipe_exprs.specs.Operands.{AreHeld, ColumnsFit, HoldsValues, node_types, slot_at, type_at as type_of_node};
+ghost use Rattle.pipe_columns.specs.Frame.{fields_of, ColumnsFit};
+ghost use Rattle.pipe_exprs.specs.Operands.{AreHeld, HoldsValues, node_types, slot_at, type_at as type_of_node};
 ghost use Rattle.pipe_exprs.specs.Trees.{tree};
-ghost use Rattle.pipe_exprs.specs.Typing.{type_of};
+ghost use Rattle.pipe_model.specs.Typing.{type_of};
 
 use crate::arena::Arena;
 use crate::columns::column_operand;

@@ -2,12 +2,12 @@ ghost use Rattle.std.specs.Prelude.{◌≡◌, Bool, is_some, true};
 ghost use Rattle.std.specs.declared.cmp.Ordering.{Ordering as Order};
 ghost use Rattle.pipe_columns.specs.AnyValue.{fits};
 ghost use Rattle.pipe_exprs.specs.Comparisons.{compares};
-ghost use Rattle.pipe_exprs.specs.Operators.{apply as apply_of, comparison as comparison_of};
-ghost use Rattle.pipe_exprs.specs.Typing.{operator_type};
+ghost use Rattle.pipe_model.specs.Operators.{apply as apply_of, comparison as comparison_of};
+ghost use Rattle.pipe_model.specs.Typing.{operator_type};
 
 use crate::arithmetic::arithmetic;
 use crate::logic::{and, or};
-use crate::operator::Operator;
+use pipe_columns::Operator;
 use pipe_columns::{AnyValue, DataType};
 use std::cmp::Ordering;
 

@@ -2,7 +2,7 @@ ghost use Rattle.std.specs.Prelude.{◌≡◌, ◌<◌, length, IfOk, is_some, t
 ghost use Rattle.pipe_columns.specs.Frame.{all_fit, fields_of};
 ghost use Rattle.pipe_exprs.specs.Evaluated.{evaluated, items_of, row_values};
 ghost use Rattle.pipe_exprs.specs.Trees.{tree};
-ghost use Rattle.pipe_exprs.specs.Typing.{is_row_wise, known_type, type_of};
+ghost use Rattle.pipe_model.specs.Typing.{is_row_wise, known_type, type_of};
 
 use crate::arena::Arena;
 use crate::columns::{is_sorted, recall_types};

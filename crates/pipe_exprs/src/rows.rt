@@ -1,13 +1,13 @@
 ghost use Rattle.std.specs.Prelude.{◌≡◌, IfOk, is_some, map, true};
 ghost use Rattle.std.specs.List.{range_with_len};
 ghost use Rattle.pipe_exprs.specs.Operands.{has_height, operand_at, OperandFits};
-ghost use Rattle.pipe_exprs.specs.Operators.{apply as apply_of, cast_value, chosen as choice};
-ghost use Rattle.pipe_exprs.specs.Typing.{operator_type};
+ghost use Rattle.pipe_model.specs.Operators.{apply as apply_of, cast_value, chosen as choice};
+ghost use Rattle.pipe_model.specs.Typing.{operator_type};
 
 use crate::casts::cast;
 use crate::logic::chosen;
 use crate::operand::Operand;
-use crate::operator::Operator;
+use pipe_columns::Operator;
 use crate::operators::apply;
 use pipe_columns::{AnyValue, DataType};
 use std::alloc::{AllocError, Global};

@@ -2,7 +2,7 @@ ghost use Rattle.std.specs.Prelude.{◌≡◌, IfOk, map};
 ghost use Rattle.pipe_columns.specs.Frame.{fields_of};
 ghost use Rattle.pipe_exprs.specs.NodeFacts.{facts_of};
 ghost use Rattle.pipe_exprs.specs.Trees.{trees};
-ghost use Rattle.pipe_exprs.specs.Typing.{type_of};
+ghost use Rattle.pipe_model.specs.Typing.{type_of};
 
 use crate::arena::Arena;
 use crate::expression::Node;

@@ -1,13 +1,13 @@
 //! The types of operators, casts and aggregates.
 
 ghost use Rattle.std.specs.Prelude.{◌≡◌, ◌&&◌, true, None, Some, option_and_then, if◌then◌else◌};
-ghost use Rattle.pipe_running.specs.Aggregate.{sum_type};
+ghost use Rattle.pipe_columns.specs.DataType.{sum_type, is_castable, is_input, is_integer, same_type};
 ghost use Rattle.pipe_exprs.specs.NodeFacts.{cast_type};
 ghost use Rattle.pipe_exprs.specs.Trees.{aggregation};
-ghost use Rattle.pipe_exprs.specs.Typing.{aggregate_type, both, is_castable, is_input, is_integer, mean_type, operator_type, same_type, shared_type, where_boolean};
+ghost use Rattle.pipe_model.specs.Typing.{aggregate_type, both, mean_type, operator_type, shared_type, where_boolean};
 
 use crate::expression::IRAggExpr;
-use crate::operator::Operator;
+use pipe_columns::Operator;
 use pipe_columns::DataType;
 
 /// Whether two types are the same.

@@ -16,9 +16,9 @@ use Rattle.pipe_columns.specs.Row.{Row}
 use Rattle.pipe_columns.specs.Key.{partition}
 use Rattle.pipe_columns.specs.Groups.{sorted_keys, values_of}
 use Rattle.pipe_columns.specs.Slice.{sliced}
-use Rattle.pipe_running.specs.Aggregate.{agg}
-use Rattle.pipe_aggs.specs.Query.{AggTree, QueryTree}
-use Rattle.pipe_aggs.specs.Output.{input_type, key_types, output_schema}
+use Rattle.pipe_model.specs.Aggregate.{agg}
+use Rattle.pipe_model.specs.Query.{AggTree, QueryTree}
+use Rattle.pipe_model.specs.Output.{input_type, key_types, output_schema}
 use Rattle.pipe_model.specs.Rows.{rows}
 
 -- the order of tuples

@@ -1,3 +1,15 @@
+pub mod Expr
+pub mod Operators
+pub mod Typing
+pub mod Value
+pub mod Kind
+pub mod Aggregate
+pub mod Query
+pub mod WrittenTree
+pub mod Output
+pub mod Convertible
+pub mod Groupable
 pub mod Rows
 pub mod Answer
 pub mod Worked
+pub mod WorkedExprs

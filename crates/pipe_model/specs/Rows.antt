@@ -6,8 +6,8 @@ use Rattle.pipe_columns.specs.declared.any_value.AnyValue.TheVariants as av
 use Rattle.pipe_columns.specs.declared.data_chunk.DataChunk.{DataChunk}
 use Rattle.pipe_columns.specs.Frame.{FitsSchema, FrameData}
 use Rattle.pipe_columns.specs.Row.{Row}
-use Rattle.pipe_exprs.specs.Value.{value}
-use Rattle.pipe_aggs.specs.Query.{Input, each, rows_alone, QueryTree}
+use Rattle.pipe_model.specs.Value.{value}
+use Rattle.pipe_model.specs.Query.{Input, each, rows_alone, QueryTree}
 
 -- what an aggregate is fed in a row
 abbrev pub input_value : Input → FrameData → ℕ → AnyValue

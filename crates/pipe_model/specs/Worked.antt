@@ -6,10 +6,10 @@ use Rattle.pipe_columns.specs.declared.any_value.AnyValue.TheVariants as av
 use Rattle.pipe_columns.specs.declared.schema.Field.{Field}
 use Rattle.pipe_columns.specs.declared.data_chunk.DataChunk.{DataChunk}
 use Rattle.pipe_columns.specs.Frame.{frame_of, FrameData}
-use Rattle.pipe_running.specs.Kind.{Kind}
-use Rattle.pipe_running.specs.Kind as kind
-use Rattle.pipe_exprs.specs.Expr.{column}
-use Rattle.pipe_aggs.specs.Query.{AggTree, each, rows_alone, QueryTree}
+use Rattle.pipe_model.specs.Kind.{Kind}
+use Rattle.pipe_model.specs.Kind as kind
+use Rattle.pipe_model.specs.Expr.{column}
+use Rattle.pipe_model.specs.Query.{AggTree, each, rows_alone, QueryTree}
 
 abbrev pub int : ℕ → AnyValue
 int n = av.Int (pos n)

@@ -2,3 +2,6 @@
 #![tactic(auto)]
 
 mod worked;
+mod worked_aggs;
+mod worked_exprs;
+mod worked_output;

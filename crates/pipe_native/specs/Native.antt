@@ -4,22 +4,8 @@ use Rattle.std.specs.Int.{int_rem_euclid, int_wrap, w8, w16, w32, w64, w128}
 use Rattle.std.specs.Int.RustNames.{unsigned_abs}
 use Rattle.pipe_columns.specs.declared.data_type.DataType.{DataType}
 use Rattle.pipe_columns.specs.declared.data_type.DataType.TheVariants as dt
-use Rattle.pipe_columns.specs.AnyValue.{fits_number, is_boolean, is_string}
-
--- a number wrapped into a number type
-abbrev pub wrapped : DataType → ℤ → ℤ
-wrapped dt.Boolean n = n
-wrapped dt.Int8 n = int_wrap w8 n
-wrapped dt.Int16 n = int_wrap w16 n
-wrapped dt.Int32 n = int_wrap w32 n
-wrapped dt.Int64 n = int_wrap w64 n
-wrapped dt.UInt8 n = int_rem_euclid n (pos (2 ^ 8))
-wrapped dt.UInt16 n = int_rem_euclid n (pos (2 ^ 16))
-wrapped dt.UInt32 n = int_rem_euclid n (pos (2 ^ 32))
-wrapped dt.UInt64 n = int_rem_euclid n (pos (2 ^ 64))
-wrapped dt.Int128 n = int_wrap w128 n
-wrapped dt.Date n = int_wrap w32 n
-wrapped dt.String n = n
+use Rattle.pipe_columns.specs.AnyValue.{fits_number}
+use Rattle.pipe_columns.specs.DataType.{is_boolean, is_string}
 
 -- a number type: the number that a value of it is, a number wrapped into it, and its name
 pub record Native (K : Type 0) : Type 0 where

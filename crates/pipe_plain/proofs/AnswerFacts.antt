@@ -22,18 +22,18 @@ use Rattle.pipe_columns.specs.Row.{Row}
 use Rattle.pipe_columns.specs.Slice.{sliced}
 use Rattle.pipe_columns.proofs.ValueOrder.{tuples_tie, tuples_total}
 use Rattle.pipe_running.specs.declared.function.AggregateFunction.{AggregateFunction}
-use Rattle.pipe_running.specs.Aggregate.{agg}
+use Rattle.pipe_model.specs.Aggregate.{agg}
 use Rattle.pipe_running.specs.States.{after_entries, fresh, given, output_values}
-use Rattle.pipe_aggs.specs.Groupable.{IsGroupable, is_suited}
+use Rattle.pipe_model.specs.Groupable.{IsGroupable, is_suited}
 use Rattle.pipe_aggs.specs.HashAggs.{function_for, prototypes}
-use Rattle.pipe_aggs.specs.Output.{input_type, key_types}
-use Rattle.pipe_aggs.specs.Query.{AggTree, QueryTree}
+use Rattle.pipe_model.specs.Output.{input_type, key_types}
+use Rattle.pipe_model.specs.Query.{AggTree, QueryTree}
 use Rattle.pipe_exprs.proofs.FitFacts.{both_true}
 use Rattle.pipe_model.specs.Answer.{aggs_from, answer_row, entry_of, first_place_cmp, groups, partition_cmp, rows_at, tuple_cmp}
 use Rattle.pipe_model.specs.Rows.{AreChunksOf, rows}
 use Rattle.pipe_plain.specs.declared.groups.Group.{Group}
-use Rattle.pipe_plain.specs.Fits.{HoldsTypes}
-use Rattle.pipe_plain.specs.Order.{IsSortedStably}
+use Rattle.pipe_columns.specs.Frame.{HoldsTypes}
+use Rattle.pipe_columns.specs.StableSort.{IsSortedStably}
 use Rattle.pipe_plain.specs.Running.{fed, fed_from, group_seen, keyed_line, Line, line_of, output_row, starts, with_rows}
 use Rattle.pipe_plain.proofs.AscendingFacts.{all_has, Ascending, Has, sorted-same}
 use Rattle.pipe_plain.proofs.BuiltFacts.{all_of_type, built-gives}

@@ -8,13 +8,15 @@ use Rattle.pipe_columns.specs.declared.place.Place.{Place}
 use Rattle.pipe_columns.specs.declared.schema.Field.{Field}
 use Rattle.pipe_columns.specs.AnyValue.{fits}
 use Rattle.pipe_running.specs.declared.function.AggregateFunction.{AggregateFunction}
-use Rattle.pipe_running.specs.Aggregate.{agg, values_in}
-use Rattle.pipe_running.specs.Kind.{Kind}
-use Rattle.pipe_running.specs.Stands.{DistinctPlaces, FitTypes, given_types}
+use Rattle.pipe_model.specs.Aggregate.{agg, values_in}
+use Rattle.pipe_model.specs.Kind.{Kind}
+use Rattle.pipe_columns.specs.Place.{DistinctPlaces}
+use Rattle.pipe_running.specs.Stands.{FitTypes, given_types}
 use Rattle.pipe_running.specs.States.{after_entries, fresh, given, output_values}
 use Rattle.pipe_running.proofs.EntryFacts.{all_taken, fits-given, given-after_entries}
-use Rattle.pipe_aggs.specs.HashAggs.{function_for, suited}
-use Rattle.pipe_aggs.specs.Output.{agg_fields}
+use Rattle.pipe_aggs.specs.HashAggs.{function_for}
+use Rattle.pipe_model.specs.Groupable.{suited}
+use Rattle.pipe_model.specs.Output.{agg_fields}
 use Rattle.pipe_exprs.proofs.FitFacts.{both_true}
 use Rattle.pipe_aggs.proofs.HashAggFacts.{agg-for, suits-for, takes-for, types-for}
 use Rattle.pipe_plain.specs.Fits.{RowFits}

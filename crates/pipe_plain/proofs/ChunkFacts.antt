@@ -13,9 +13,9 @@ use Rattle.pipe_columns.specs.Frame.{FrameData, value_at}
 use Rattle.pipe_columns.specs.Row.{Row}
 use Rattle.pipe_exprs.specs.declared.values.Values.{Values}
 use Rattle.pipe_exprs.specs.Evaluated.{items_of, row_values}
-use Rattle.pipe_exprs.specs.Expr.{Expr}
-use Rattle.pipe_aggs.specs.Query.{each, Input, QueryTree, rows_alone}
-use Rattle.pipe_exprs.specs.Value.{value}
+use Rattle.pipe_model.specs.Expr.{Expr}
+use Rattle.pipe_model.specs.Query.{each, Input, QueryTree, rows_alone}
+use Rattle.pipe_model.specs.Value.{value}
 use Rattle.pipe_model.specs.Rows.{chunk_rows, input_value, row_of, rows, rows_from, total_height}
 use Rattle.pipe_plain.specs.declared.lists.ValueLists.{ValueLists}
 use Rattle.pipe_plain.specs.Cells.{cells, input_values, row_read}

@@ -8,9 +8,8 @@ use Rattle.std.proofs.lemmas.List.Sums.{count_by-le-length, length-filter}
 use Rattle.pipe_columns.specs.declared.any_value.AnyValue.{AnyValue}
 use Rattle.pipe_columns.specs.declared.place.Place.{Place}
 use Rattle.pipe_columns.specs.Frame.{value_at}
-use Rattle.pipe_columns.specs.Place.{place_cmp}
+use Rattle.pipe_columns.specs.Place.{place_cmp, DistinctPlaces}
 use Rattle.pipe_columns.specs.Row.{Row}
-use Rattle.pipe_running.specs.Stands.{DistinctPlaces}
 use Rattle.pipe_model.specs.Answer.{entry_of, rows_at, tuple_cmp}
 use Rattle.pipe_plain.proofs.AscendingFacts.{Ascending, Below}
 

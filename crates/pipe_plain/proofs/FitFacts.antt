@@ -9,23 +9,23 @@ use Rattle.pipe_columns.specs.declared.data_chunk.DataChunk.{DataChunk}
 use Rattle.pipe_columns.specs.declared.place.Place.{Place}
 use Rattle.pipe_columns.specs.declared.schema.Field.{Field}
 use Rattle.pipe_columns.specs.AnyValue.{fits}
-use Rattle.pipe_columns.specs.Frame.{all_fit, FitsSchema, FrameData, value_at}
+use Rattle.pipe_columns.specs.Frame.{all_fit, FitsSchema, FrameData, value_at, HoldsTypes}
 use Rattle.pipe_columns.specs.Groups.{sorted_keys}
 use Rattle.pipe_columns.specs.Place.{place_cmp}
 use Rattle.pipe_columns.specs.Row.{Row}
 use Rattle.pipe_columns.specs.Slice.{sliced}
-use Rattle.pipe_exprs.specs.Expr.{Expr, name_of}
-use Rattle.pipe_aggs.specs.Groupable.{IsGroupable, is_suited, is_valued}
+use Rattle.pipe_model.specs.Expr.{Expr, name_of}
+use Rattle.pipe_model.specs.Groupable.{IsGroupable, is_suited, is_valued}
 use Rattle.pipe_aggs.specs.HashAggs.{prototypes}
-use Rattle.pipe_aggs.specs.Output.{agg_fields, input_type, key_types, output_schema}
-use Rattle.pipe_aggs.specs.Query.{AggTree, QueryTree}
-use Rattle.pipe_exprs.specs.Typing.{known_type}
-use Rattle.pipe_exprs.specs.Value.{value}
+use Rattle.pipe_model.specs.Output.{agg_fields, input_type, key_types, output_schema}
+use Rattle.pipe_model.specs.Query.{AggTree, QueryTree}
+use Rattle.pipe_model.specs.Typing.{known_type}
+use Rattle.pipe_model.specs.Value.{value}
 use Rattle.pipe_exprs.proofs.FitFacts.{both_true}
 use Rattle.pipe_model.specs.Answer.{aggs_from, answer_row, groups, rows_at, tuple_cmp}
 use Rattle.pipe_model.specs.Rows.{AreChunksOf, chunk_rows, row_of, rows, rows_from}
 use Rattle.pipe_plain.specs.declared.groups.Group.{Group}
-use Rattle.pipe_plain.specs.Fits.{HoldsTypes, RowFits, RowsFit}
+use Rattle.pipe_plain.specs.Fits.{RowFits, RowsFit}
 use Rattle.pipe_plain.specs.Running.{group_seen, starts, with_rows}
 use Rattle.pipe_spill.specs.KeyTypes.{AreOfTypes}
 use Rattle.pipe_plain.proofs.AnswerFacts.{EntriesFit, entries-fit, key-entries-fit, key-places-ascend, others-fit, table_is}

@@ -10,19 +10,18 @@ use Rattle.pipe_columns.specs.declared.data_type.DataType.{DataType}
 use Rattle.pipe_columns.specs.declared.data_type.DataType.TheVariants as dt
 use Rattle.pipe_columns.specs.declared.schema.Field.{Field}
 use Rattle.pipe_columns.specs.AnyValue.{fits}
-use Rattle.pipe_columns.specs.Frame.{FitsSchema, FrameData, value_at}
+use Rattle.pipe_columns.specs.Frame.{FitsSchema, FrameData, value_at, HoldsTypes}
 use Rattle.pipe_columns.specs.Row.{Row}
-use Rattle.pipe_exprs.specs.Expr.{Expr}
-use Rattle.pipe_aggs.specs.Groupable.{is_fed, IsGroupable, is_valued}
+use Rattle.pipe_model.specs.Expr.{Expr}
+use Rattle.pipe_model.specs.Groupable.{is_fed, IsGroupable, is_valued}
 use Rattle.pipe_aggs.specs.HashAggs.{function_for, prototypes}
-use Rattle.pipe_aggs.specs.Output.{input_type}
-use Rattle.pipe_aggs.specs.Query.{AggTree, each, Input, QueryTree, rows_alone}
-use Rattle.pipe_exprs.specs.Typing.{is_row_wise, known_type, type_of}
-use Rattle.pipe_exprs.specs.Value.{value}
+use Rattle.pipe_model.specs.Output.{input_type}
+use Rattle.pipe_model.specs.Query.{AggTree, each, Input, QueryTree, rows_alone}
+use Rattle.pipe_model.specs.Typing.{is_row_wise, known_type, type_of}
+use Rattle.pipe_model.specs.Value.{value}
 use Rattle.pipe_exprs.proofs.FitFacts.{both_true, value-fits}
 use Rattle.pipe_aggs.proofs.HashAggFacts.{takes-for}
 use Rattle.pipe_model.specs.Rows.{chunk_rows, input_value, row_of, rows_from}
-use Rattle.pipe_plain.specs.Fits.{HoldsTypes}
 use Rattle.pipe_plain.specs.Running.{TakesFrom}
 
 -- ---- one value

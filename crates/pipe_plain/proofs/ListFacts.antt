@@ -10,9 +10,9 @@ use Rattle.pipe_exprs.specs.Evaluated.{row_values}
 use Rattle.pipe_exprs.specs.Trees.{tree}
 use Rattle.pipe_aggs.specs.declared.hash_agg.AggInput.{AggInput}
 use Rattle.pipe_aggs.specs.declared.query.Query.{Query}
-use Rattle.pipe_aggs.specs.Groupable.{is_fed, IsGroupable, is_valued}
+use Rattle.pipe_model.specs.Groupable.{is_fed, IsGroupable, is_valued}
 use Rattle.pipe_aggs.specs.HashAggs.{input_of}
-use Rattle.pipe_aggs.specs.Query.{AggTree}
+use Rattle.pipe_model.specs.Query.{AggTree}
 use Rattle.pipe_aggs.specs.QueryTrees.{query_tree}
 use Rattle.pipe_exprs.proofs.FitFacts.{both_true}
 use Rattle.pipe_plain.specs.Cells.{input_values}

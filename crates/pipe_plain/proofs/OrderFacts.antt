@@ -15,7 +15,7 @@ use Rattle.pipe_columns.proofs.ValueOrder.{tuples_tie, tuples_total}
 use Rattle.pipe_running.specs.declared.function.AggregateFunction.{AggregateFunction}
 use Rattle.pipe_model.specs.Answer.{tuple_cmp}
 use Rattle.pipe_plain.specs.declared.groups.Group.{Group}
-use Rattle.pipe_plain.specs.Order.{IsSortedStably}
+use Rattle.pipe_columns.specs.StableSort.{IsSortedStably}
 use Rattle.pipe_plain.specs.Running.{group_seen, keyed_line, Line, Table}
 use Rattle.pipe_plain.proofs.AscendingFacts.{Ascending, Below, sorted-ascending, sorted_anew}
 use Rattle.pipe_plain.proofs.StableFacts.{keys-ascend, sorted-ascend}

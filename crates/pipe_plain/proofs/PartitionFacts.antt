@@ -8,7 +8,7 @@ use Rattle.std.proofs.lemmas.List.Elements.{All-head, All-tail}
 use Rattle.std.proofs.lemmas.List.Sorted.{All-permutation, IsPermutation-map}
 use Rattle.pipe_plain.specs.declared.groups.Group.{Group}
 use Rattle.pipe_plain.specs.declared.order.Placed.{Placed}
-use Rattle.pipe_plain.specs.Order.{IsSortedStably}
+use Rattle.pipe_columns.specs.StableSort.{IsSortedStably}
 
 abbrev group_of : Placed → Group
 group_of p = p.group

@@ -13,7 +13,7 @@ use Rattle.pipe_columns.specs.Frame.{FrameData}
 use Rattle.pipe_columns.specs.Place.{earlier, first_entry, place_cmp}
 use Rattle.pipe_columns.specs.Row.{Row}
 use Rattle.pipe_columns.proofs.ValueOrder.{tuples_tie, tuples_total}
-use Rattle.pipe_aggs.specs.Query.{QueryTree}
+use Rattle.pipe_model.specs.Query.{QueryTree}
 use Rattle.pipe_model.specs.Answer.{first_place_cmp, rows_at, tuple_cmp}
 use Rattle.pipe_model.specs.Rows.{row_of, rows, rows_from}
 use Rattle.pipe_plain.proofs.AscendingFacts.{Ascending, Below, Has}

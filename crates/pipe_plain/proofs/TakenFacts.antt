@@ -4,13 +4,12 @@ use Rattle.std.proofs.lemmas.List.{length-append}
 use Rattle.std.proofs.lemmas.List.Elements.{All-append, All-cons, All-nil}
 use Rattle.std.proofs.lemmas.List.Sums.{sum_by_push}
 use Rattle.pipe_columns.specs.declared.data_chunk.DataChunk.{DataChunk}
-use Rattle.pipe_columns.specs.Frame.{FitsSchema}
+use Rattle.pipe_columns.specs.Frame.{FitsSchema, HoldsTypes}
 use Rattle.pipe_running.specs.declared.function.AggregateFunction.{AggregateFunction}
 use Rattle.pipe_aggs.specs.HashAggs.{prototypes}
-use Rattle.pipe_aggs.specs.Query.{QueryTree}
+use Rattle.pipe_model.specs.Query.{QueryTree}
 use Rattle.pipe_aggs.specs.QueryTrees.{query_tree}
 use Rattle.pipe_model.specs.Rows.{AreChunksOf, chunk_rows, rows, total_height}
-use Rattle.pipe_plain.specs.Fits.{HoldsTypes}
 use Rattle.pipe_plain.specs.Running.{IsAscending, Line, starts, Table, TableHolds, with_rows}
 use Rattle.pipe_plain.specs.Taken.{HasTaken, PlainRun}
 use Rattle.pipe_plain.proofs.ChunkFacts.{length-rows_from, with_chunk_more}

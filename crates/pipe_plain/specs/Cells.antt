@@ -6,7 +6,7 @@ use Rattle.pipe_columns.specs.Frame.{FrameData, value_at}
 use Rattle.pipe_columns.specs.Row.{Row}
 use Rattle.pipe_exprs.specs.declared.values.Values.{Values}
 use Rattle.pipe_exprs.specs.Evaluated.{items_of, row_values}
-use Rattle.pipe_aggs.specs.Query.{each, Input, rows_alone}
+use Rattle.pipe_model.specs.Query.{each, Input, rows_alone}
 use Rattle.pipe_plain.specs.declared.lists.ValueLists.{ValueLists}
 
 -- what an aggregate is fed in the rows of a frame: no value where only rows count

@@ -4,12 +4,7 @@ use Rattle.std.specs.List.{All, AllZip}
 use Rattle.pipe_columns.specs.declared.any_value.AnyValue.{AnyValue}
 use Rattle.pipe_columns.specs.declared.schema.Field.{Field}
 use Rattle.pipe_columns.specs.AnyValue.{fits}
-use Rattle.pipe_columns.specs.Frame.{FrameData}
-use Rattle.pipe_exprs.specs.Operands.{ColumnsFit}
-
--- each value of a frame fits its column's type, as it does of every frame
-abbrev pub HoldsTypes : FrameData → Type 0
-HoldsTypes frame = ColumnsFit frame.columns
+use Rattle.pipe_columns.specs.Frame.{FrameData, ColumnsFit}
 
 -- a row has a value for each field, which fits the field's type
 abbrev pub RowFits : List Field → List AnyValue → Type 0

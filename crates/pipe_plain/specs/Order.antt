@@ -8,12 +8,6 @@ use Rattle.pipe_columns.specs.Key.{partition}
 use Rattle.pipe_plain.specs.declared.groups.Group.{Group}
 use Rattle.pipe_plain.specs.declared.order.Placed.{Placed}
 
--- sorted by rank, where those of one rank stay in the order that they had
-pub record IsSortedStably {X Y : Type 0} (rank : X → Y) (order : Y → Y → Ordering) (before after : List X) : Type 0 where
-  pub moved : IsPermutation before after
-  pub sorted : IsSortedByKey rank order after
-  pub stable : IsStableByKey rank order before after
-
 -- the groups of a table, each with the partition of its key
 pub record ArePlaced (partitions : ℕ) (types : List DataType) (table : List Group) (placed : List Placed) : Type 0 where
   pub same : map (λ p. p.group) placed ≡ table

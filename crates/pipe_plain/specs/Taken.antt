@@ -4,9 +4,9 @@ use Rattle.std.specs.List.{All}
 use Rattle.pipe_columns.specs.declared.data_chunk.DataChunk.{DataChunk}
 use Rattle.pipe_aggs.specs.declared.query.Query.{Query}
 use Rattle.pipe_aggs.specs.HashAggs.{prototypes}
-use Rattle.pipe_aggs.specs.Query.{QueryTree}
+use Rattle.pipe_model.specs.Query.{QueryTree}
 use Rattle.pipe_model.specs.Rows.{AreChunksOf, rows}
-use Rattle.pipe_plain.specs.Fits.{HoldsTypes}
+use Rattle.pipe_columns.specs.Frame.{HoldsTypes}
 use Rattle.pipe_plain.specs.Running.{starts, Table, with_rows}
 
 -- a query, and the chunks that were taken for it, in order

@@ -1,7 +1,7 @@
 ghost use Rattle.std.specs.Prelude.{◌≡◌, ◌∷◌, ◌++◌, IfOk, OnOk, map, true, false};
-ghost use Rattle.pipe_columns.specs.Frame.{all_fit, frame_of, value_at};
+ghost use Rattle.pipe_columns.specs.Frame.{all_fit, frame_of, value_at, HoldsTypes};
 ghost use Rattle.pipe_running.specs.States.{output_values};
-ghost use Rattle.pipe_plain.specs.Fits.{HoldsTypes, RowsFit};
+ghost use Rattle.pipe_plain.specs.Fits.{RowsFit};
 ghost use Rattle.pipe_plain.specs.Running.{group_seen, output_row as row_given};
 
 use crate::groups::Group;

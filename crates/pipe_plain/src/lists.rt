@@ -3,7 +3,7 @@
 ghost use Rattle.std.specs.Prelude.{◌≡◌, IfOk, map, true};
 ghost use Rattle.pipe_columns.specs.Frame.{fields_of, FitsSchema};
 ghost use Rattle.pipe_exprs.specs.Evaluated.{items_of, row_values};
-ghost use Rattle.pipe_aggs.specs.Groupable.{is_fed};
+ghost use Rattle.pipe_model.specs.Groupable.{is_fed};
 ghost use Rattle.pipe_aggs.specs.HashAggs.{input_of, IsThere};
 ghost use Rattle.pipe_aggs.specs.QueryTrees.{query_tree};
 ghost use Rattle.pipe_plain.specs.Cells.{input_values};

@@ -4,7 +4,7 @@ ghost use Rattle.pipe_columns.specs.Key.{partition as partition_due};
 ghost use Rattle.pipe_columns.specs.Place.{place_cmp};
 ghost use Rattle.pipe_columns.specs.Slice.{sliced as kept};
 ghost use Rattle.pipe_spill.specs.KeyTypes.{AreOfTypes};
-ghost use Rattle.pipe_plain.specs.Order.{IsSortedStably};
+ghost use Rattle.pipe_columns.specs.StableSort.{IsSortedStably};
 
 use crate::groups::Group;
 use pipe_columns::DataType;

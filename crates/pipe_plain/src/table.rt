@@ -1,12 +1,11 @@
 //! The groups of chunks that come one by one.
 
 ghost use Rattle.std.specs.Prelude.{◌≡◌, ◌+◌, ◌^◌, ◌-◌, ◌<◌, ◌∷◌, ◌++◌, IfOk, OnOk, length, map, []};
-ghost use Rattle.pipe_columns.specs.Frame.{FitsSchema};
+ghost use Rattle.pipe_columns.specs.Frame.{FitsSchema, HoldsTypes};
 ghost use Rattle.pipe_aggs.specs.HashAggs.{prototypes};
 ghost use Rattle.pipe_aggs.specs.QueryTrees.{query_tree};
 ghost use Rattle.pipe_model.specs.Rows.{chunk_rows, rows, total_height};
 ghost use Rattle.pipe_model.specs.Answer.{answer, groups};
-ghost use Rattle.pipe_plain.specs.Fits.{HoldsTypes};
 ghost use Rattle.pipe_plain.specs.Running.{group_seen, IsAscending, keyed_line, starts, TableHolds, with_rows};
 
 use crate::frame::{output_frame, output_rows, recall_types};

@@ -4,8 +4,8 @@ use Rattle.std.proofs.lemmas.List.{append_assoc, length-append}
 use Rattle.pipe_exprs.specs.declared.expression.Node.{Node}
 use Rattle.pipe_exprs.specs.declared.expression.AExpr.{AExpr}
 use Rattle.pipe_exprs.specs.Trees.{children_below}
-use Rattle.pipe_exprs.specs.Expr.{Expr}
-use Rattle.pipe_exprs.specs.Expr as expr
+use Rattle.pipe_model.specs.Expr.{Expr}
+use Rattle.pipe_model.specs.Expr as expr
 use Rattle.pipe_query.specs.declared.json_names.Over.{Over}
 use Rattle.pipe_query.specs.declared.json_names.Over.TheVariants as over
 use Rattle.pipe_query.specs.ExprJson.{over_expr}

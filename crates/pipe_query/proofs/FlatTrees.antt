@@ -6,8 +6,8 @@ use Rattle.std.proofs.lemmas.List.Sums.{fold-append}
 use Rattle.pipe_exprs.specs.declared.expression.AExpr.{AExpr}
 use Rattle.pipe_exprs.specs.declared.expression.AExpr.TheVariants as ax
 use Rattle.pipe_exprs.specs.declared.expression.Node.{Node}
-use Rattle.pipe_exprs.specs.Expr.{Aggregation, Expr}
-use Rattle.pipe_exprs.specs.Expr as expr
+use Rattle.pipe_model.specs.Expr.{Aggregation, Expr}
+use Rattle.pipe_model.specs.Expr as expr
 use Rattle.pipe_exprs.specs.Trees.{agg_input, aggregation, tree, tree_of, trees}
 use Rattle.pipe_exprs.proofs.TreeFacts.{length-trees, slice_get-push, trees_keep, trees_push}
 use Rattle.pipe_query.specs.Flat.{agg_node, flat, flat_all, node, root, root_node, roots}

@@ -8,7 +8,7 @@ use Rattle.serde_json.specs.View.{items_view, view}
 use Rattle.serde_json.specs.declared.value.Value.{Value}
 use Rattle.pipe_exprs.specs.declared.expression.AExpr.{AExpr}
 use Rattle.pipe_exprs.specs.declared.expression.Node.{Node}
-use Rattle.pipe_exprs.specs.Expr.{Expr}
+use Rattle.pipe_model.specs.Expr.{Expr}
 use Rattle.pipe_query.specs.ExprJson.{expr_of, exprs_of}
 use Rattle.pipe_query.specs.Flat.{AreAdded, IsAdded, root}
 use Rattle.pipe_query.proofs.FlatFacts.{length_with}

@@ -5,9 +5,9 @@ use Rattle.serde_json.specs.Find.{as_integer, as_null, as_str}
 use Rattle.pipe_columns.specs.declared.any_value.AnyValue.{AnyValue}
 use Rattle.pipe_columns.specs.declared.any_value.AnyValue.TheVariants as av
 use Rattle.pipe_columns.specs.declared.data_type.DataType.{DataType}
-use Rattle.pipe_exprs.specs.declared.operator.Operator.{Operator}
-use Rattle.pipe_exprs.specs.Expr.{Expr}
-use Rattle.pipe_exprs.specs.Expr as expr
+use Rattle.pipe_columns.specs.declared.operator.Operator.{Operator}
+use Rattle.pipe_model.specs.Expr.{Expr}
+use Rattle.pipe_model.specs.Expr as expr
 use Rattle.pipe_query.specs.declared.json_names.Form.{Form}
 use Rattle.pipe_query.specs.declared.json_names.Form.TheVariants as form
 use Rattle.pipe_query.specs.declared.json_names.Over.{Over}

@@ -7,8 +7,8 @@ use Rattle.pipe_exprs.specs.declared.expression.AExpr.{AExpr}
 use Rattle.pipe_exprs.specs.declared.expression.AExpr.TheVariants as ax
 use Rattle.pipe_exprs.specs.declared.expression.IRAggExpr.{IRAggExpr}
 use Rattle.pipe_exprs.specs.declared.expression.IRAggExpr.TheVariants as ir
-use Rattle.pipe_exprs.specs.Expr.{Aggregation, Expr}
-use Rattle.pipe_exprs.specs.Expr as expr
+use Rattle.pipe_model.specs.Expr.{Aggregation, Expr}
+use Rattle.pipe_model.specs.Expr as expr
 use Rattle.pipe_aggs.specs.declared.query.Query.{Query}
 use Rattle.pipe_aggs.specs.QueryTrees.{agg_exprs, key_exprs}
 

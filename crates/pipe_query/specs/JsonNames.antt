@@ -2,8 +2,8 @@
 use Rattle.std.specs.Prelude.{ℕ, List, [], ◌∷◌, codes, bytes_eq, if◌then◌else◌, Option, Some, None}
 use Rattle.pipe_columns.specs.declared.data_type.DataType.{DataType}
 use Rattle.pipe_columns.specs.declared.data_type.DataType.TheVariants as dt
-use Rattle.pipe_exprs.specs.declared.operator.Operator.{Operator}
-use Rattle.pipe_exprs.specs.declared.operator.Operator.TheVariants as op
+use Rattle.pipe_columns.specs.declared.operator.Operator.{Operator}
+use Rattle.pipe_columns.specs.declared.operator.Operator.TheVariants as op
 use Rattle.pipe_query.specs.declared.json_names.Form.{Form}
 use Rattle.pipe_query.specs.declared.json_names.Form.TheVariants as form
 use Rattle.pipe_query.specs.declared.json_names.Over.TheVariants as over

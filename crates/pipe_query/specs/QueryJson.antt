@@ -3,8 +3,8 @@ use Rattle.std.specs.Prelude.{◌==◌, ◌+◌, ℕ, ℤ, Bool, false, List, []
 use Rattle.serde_json.specs.Data.{Data, Items, no_items, item}
 use Rattle.serde_json.specs.Find.{as_array, as_bool, as_i64, as_null, as_number, as_str, as_u64, get}
 use Rattle.pipe_columns.specs.declared.schema.Field.{Field}
-use Rattle.pipe_exprs.specs.Expr.{Expr}
-use Rattle.pipe_aggs.specs.Query.{WrittenQuery}
+use Rattle.pipe_model.specs.Expr.{Expr}
+use Rattle.pipe_model.specs.Query.{WrittenQuery}
 use Rattle.pipe_query.specs.ExprJson.{exprs_of, type_of_name}
 use Rattle.pipe_query.specs.JsonShapes.{has_members, pair_of}
 

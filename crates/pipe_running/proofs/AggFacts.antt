@@ -13,17 +13,18 @@ use Rattle.pipe_columns.specs.declared.any_value.AnyValue.TheVariants as av
 use Rattle.pipe_columns.specs.declared.data_type.DataType.{DataType}
 use Rattle.pipe_columns.specs.declared.data_type.DataType.TheVariants as dt
 use Rattle.pipe_columns.specs.declared.place.Place.{Place}
-use Rattle.pipe_columns.specs.AnyValue.{is_string, value_cmp}
-use Rattle.pipe_columns.specs.Place.{earlier, first_entry, last_entry, later, place_cmp}
+use Rattle.pipe_columns.specs.DataType.{is_string, wrapped, sum_type, has_mean}
+use Rattle.pipe_columns.specs.AnyValue.{value_cmp}
+use Rattle.pipe_columns.specs.Place.{earlier, first_entry, last_entry, later, place_cmp, DistinctPlaces}
 use Rattle.pipe_columns.proofs.ValueOrder.{value_cmp-IsAntisymmetric, value_cmp_total}
-use Rattle.pipe_native.specs.Native.{IsNative, Native, wrapped}
+use Rattle.pipe_native.specs.Native.{IsNative, Native}
 use Rattle.pipe_running.specs.declared.min_max.Direction.{Direction}
 use Rattle.pipe_running.specs.declared.min_max.Direction.TheVariants as direction
-use Rattle.pipe_running.specs.Aggregate.{addend, agg, counted, entry_value, exact_sum, extreme, greater, halves, lesser as lesser_value, present, sum_if_any, sum_type, total, values_in}
+use Rattle.pipe_model.specs.Aggregate.{addend, agg, counted, entry_value, exact_sum, extreme, greater, halves, lesser as lesser_value, present, sum_if_any, total, values_in}
 use Rattle.pipe_running.specs.Least.{HoldsLeast, IsLeast}
 use Rattle.pipe_running.specs.Mean.{MeanState}
 use Rattle.pipe_running.specs.Pick.{earlier_place, later_place, lesser}
-use Rattle.pipe_running.specs.Stands.{DistinctPlaces, has_mean, held_value, MeanStands, value_order}
+use Rattle.pipe_running.specs.Stands.{held_value, MeanStands, value_order}
 use Rattle.pipe_running.specs.States.{kind_of_direction, output_values}
 use Rattle.pipe_running.specs.Transitions.{extreme_value, mean_given}
 use Rattle.pipe_running.proofs.KindFacts.{earlier-total, later-total, place_cmp-total, value_order-total}

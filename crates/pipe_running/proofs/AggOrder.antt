@@ -8,15 +8,15 @@ use Rattle.pipe_columns.specs.declared.any_value.AnyValue.TheVariants as av
 use Rattle.pipe_columns.specs.declared.data_type.DataType.{DataType}
 use Rattle.pipe_columns.specs.declared.data_type.DataType.TheVariants as dt
 use Rattle.pipe_columns.specs.declared.place.Place.{Place}
-use Rattle.pipe_columns.specs.Place.{first_entry, last_entry}
-use Rattle.pipe_native.specs.Native.{wrapped}
+use Rattle.pipe_columns.specs.Place.{first_entry, last_entry, DistinctPlaces}
+use Rattle.pipe_columns.specs.DataType.{wrapped, sum_type}
 use Rattle.pipe_running.specs.declared.min_max.Direction.{Direction}
 use Rattle.pipe_running.specs.declared.min_max.Direction.TheVariants as direction
-use Rattle.pipe_running.specs.Aggregate.{agg, counted, entry_value, exact_sum, halves, present, sum_if_any, sum_type, total, values_in}
-use Rattle.pipe_running.specs.Kind.{Kind}
-use Rattle.pipe_running.specs.Kind as kind
+use Rattle.pipe_model.specs.Aggregate.{agg, counted, entry_value, exact_sum, halves, present, sum_if_any, total, values_in}
+use Rattle.pipe_model.specs.Kind.{Kind}
+use Rattle.pipe_model.specs.Kind as kind
 use Rattle.pipe_running.specs.Pick.{earlier_place, later_place}
-use Rattle.pipe_running.specs.Stands.{DistinctPlaces, value_order}
+use Rattle.pipe_running.specs.Stands.{value_order}
 use Rattle.pipe_running.proofs.AggFacts.{first-holds, folded, folded-holds, half_is, last-holds, max_is, min_is, one_at_a_place, present-sum, value_or_null, value_ties}
 use Rattle.pipe_running.proofs.KindFacts.{earlier-total, later-total, place_cmp-total, value_order-total}
 use Rattle.pipe_running.proofs.LeastFacts.{holds-same, holds-unique}

@@ -7,8 +7,9 @@ use Rattle.pipe_columns.specs.declared.data_type.DataType.{DataType}
 use Rattle.pipe_columns.specs.declared.place.Place.{Place}
 use Rattle.pipe_columns.specs.AnyValue.{fits}
 use Rattle.pipe_running.specs.declared.function.AggregateFunction.{AggregateFunction}
-use Rattle.pipe_running.specs.Aggregate.{agg, values_in}
-use Rattle.pipe_running.specs.Stands.{DistinctPlaces, FitTypes, given_types, looks_at_places, Stands, Suits}
+use Rattle.pipe_model.specs.Aggregate.{agg, values_in}
+use Rattle.pipe_columns.specs.Place.{DistinctPlaces}
+use Rattle.pipe_running.specs.Stands.{FitTypes, given_types, looks_at_places, Stands, Suits}
 use Rattle.pipe_running.specs.SameKind.{SameKind}
 use Rattle.pipe_running.specs.StateLaws.{function_takes_alike}
 use Rattle.pipe_running.specs.States.{after_entries, after_value, fresh, given, kind_of, output_values, takes}

@@ -18,11 +18,12 @@ use Rattle.pipe_native.specs.NativeLaws.{is_native_i32, is_native_i64, is_native
 use Rattle.pipe_running.specs.declared.min_max.Direction.{Direction}
 use Rattle.pipe_running.specs.declared.function.AggregateFunction.{AggregateFunction}
 use Rattle.pipe_running.specs.declared.function.AggregateFunction.TheVariants as function
-use Rattle.pipe_running.specs.Aggregate.{addend, counted, entry_value, exact_sum, present, values_in}
+use Rattle.pipe_model.specs.Aggregate.{addend, counted, entry_value, exact_sum, present, values_in}
 use Rattle.pipe_running.specs.Least.{HoldsLeast}
 use Rattle.pipe_running.specs.Mean.{MeanState}
 use Rattle.pipe_running.specs.Pick.{earlier_place, later_place}
-use Rattle.pipe_running.specs.Stands.{FitTypes, given_types, has_mean, held_value, MeanStands, Stands, Suits, tally, value_order}
+use Rattle.pipe_running.specs.Stands.{FitTypes, given_types, held_value, MeanStands, Stands, Suits, tally, value_order}
+use Rattle.pipe_columns.specs.DataType.{has_mean}
 use Rattle.pipe_running.specs.States.{given, output_values}
 use Rattle.pipe_running.specs.Transitions.{extreme_value, mean_given}
 use Rattle.pipe_running.proofs.OrderFacts.{kept}

@@ -18,7 +18,7 @@ use Rattle.pipe_running.specs.declared.min_max.Direction.{Direction}
 use Rattle.pipe_running.specs.declared.min_max.Direction.TheVariants as direction
 use Rattle.pipe_running.specs.declared.min_max.MinMaxAgg.{MinMaxAgg}
 use Rattle.pipe_running.specs.declared.sum.SumAgg.{SumAgg}
-use Rattle.pipe_running.specs.Aggregate.{addend, exact_sum, present, values_in}
+use Rattle.pipe_model.specs.Aggregate.{addend, exact_sum, present, values_in}
 use Rattle.pipe_running.specs.Least.{HoldsLeast}
 use Rattle.pipe_running.specs.Mean.{MeanState}
 use Rattle.pipe_running.specs.Pick.{earlier_place, later_place, least}

@@ -8,7 +8,8 @@ use Rattle.pipe_running.specs.declared.min_max.Direction.{Direction}
 use Rattle.pipe_running.specs.declared.min_max.Direction.TheVariants as direction
 use Rattle.pipe_running.specs.declared.function.AggregateFunction.{AggregateFunction}
 use Rattle.pipe_running.specs.declared.function.AggregateFunction.TheVariants as function
-use Rattle.pipe_running.specs.Stands.{DistinctPlaces, Stands}
+use Rattle.pipe_columns.specs.Place.{DistinctPlaces}
+use Rattle.pipe_running.specs.Stands.{Stands}
 use Rattle.pipe_running.specs.States.{alike, fresh, given, joined}
 use Rattle.pipe_running.specs.Transitions.{same_direction}
 use Rattle.pipe_running.proofs.StandFacts.{directions-same, given-same, stands-fresh, stands-joined, stands-permutation}

@@ -8,7 +8,7 @@ use mathlib.Core.Logic.{⊎_elim}
 use Rattle.pipe_columns.specs.declared.any_value.AnyValue.{AnyValue}
 use Rattle.pipe_columns.specs.declared.place.Place.{Place}
 use Rattle.pipe_columns.specs.AnyValue.{is_null}
-use Rattle.pipe_running.specs.Aggregate.{present, values_in}
+use Rattle.pipe_model.specs.Aggregate.{present, values_in}
 
 -- what a filter keeps is in the list and passes, and what is in the list and passes is kept
 pub kept : {X : Type 0} (p : X → Bool) (xs : List X) (x : X) → Contains (filter p xs) x → Contains xs x × (p x ≡ true)

@@ -12,17 +12,17 @@ use Rattle.pipe_native.specs.Native.{Native, native_i8, native_i16, native_i32, 
 use Rattle.pipe_native.specs.NativeLaws.{is_native_i8, is_native_i16, is_native_i32, is_native_i64, is_native_u8, is_native_u16, is_native_u32, is_native_u64}
 use Rattle.pipe_running.specs.declared.function.AggregateFunction.{AggregateFunction}
 use Rattle.pipe_running.specs.declared.function.AggregateFunction.TheVariants as function
-use Rattle.pipe_running.specs.Aggregate.{agg, counted, values_in}
+use Rattle.pipe_model.specs.Aggregate.{agg, counted, values_in, entry_value, present}
 use Rattle.pipe_running.specs.declared.interface.Finalized.TheVariants as finalized
 use Rattle.std.proofs.lemmas.Cmp.{tied_back}
 use Rattle.pipe_running.specs.Transitions.{extreme_value, mean_given, same_direction}
-use Rattle.pipe_running.specs.Aggregate.{entry_value, present}
 use Rattle.pipe_running.specs.declared.min_max.Direction.{Direction}
 use Rattle.pipe_running.specs.declared.min_max.Direction.TheVariants as direction
 use Rattle.pipe_running.specs.Runs.{after_run, placed}
 use Rattle.pipe_running.specs.Least.{HoldsLeast}
 use Rattle.pipe_running.specs.Pick.{earlier_place, later_place}
-use Rattle.pipe_running.specs.Stands.{DistinctPlaces, held_value, is_mean, is_pair, looks_at_places, Stands, value_order, Suits}
+use Rattle.pipe_columns.specs.Place.{DistinctPlaces}
+use Rattle.pipe_running.specs.Stands.{held_value, is_mean, is_pair, looks_at_places, Stands, value_order, Suits}
 use Rattle.pipe_running.specs.StateLaws.{function_takes_alike}
 use Rattle.pipe_running.specs.States.{after_value, alike, fresh, given, joined, kind_of, output_values, seen, takes}
 use Rattle.pipe_running.proofs.AggFacts.{extreme-gives, first-gives, held_is, one_at_a_place, value_or_null, value_ties, last-gives, mean-gives, sum-gives}

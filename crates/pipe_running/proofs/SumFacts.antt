@@ -11,7 +11,7 @@ use Rattle.pipe_columns.specs.declared.any_value.AnyValue.{AnyValue}
 use Rattle.pipe_columns.specs.declared.any_value.AnyValue.TheVariants as av
 use Rattle.pipe_columns.specs.declared.place.Place.{Place}
 use Rattle.pipe_columns.specs.AnyValue.{is_null}
-use Rattle.pipe_running.specs.Aggregate.{addend, exact_sum, present, values_in}
+use Rattle.pipe_model.specs.Aggregate.{addend, exact_sum, present, values_in}
 use Rattle.pipe_running.specs.Stands.{tally}
 use borrow.Author.Differences.{up, down}
 

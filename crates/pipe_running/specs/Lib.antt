@@ -1,5 +1,3 @@
-pub mod Kind
-pub mod Aggregate
 pub mod Pick
 pub mod Mean
 pub mod Runs

@@ -19,7 +19,8 @@ use Rattle.pipe_running.specs.declared.min_max.MinMaxAgg.{MinMaxAgg}
 use Rattle.pipe_running.specs.declared.sum.SumAgg.{SumAgg}
 use Rattle.pipe_running.specs.declared.function.AggregateFunction.{AggregateFunction}
 use Rattle.pipe_running.specs.declared.function.AggregateFunction.TheVariants as function
-use Rattle.pipe_running.specs.Aggregate.{exact_sum, present, sum_type, values_in}
+use Rattle.pipe_model.specs.Aggregate.{exact_sum, present, values_in}
+use Rattle.pipe_columns.specs.DataType.{sum_type}
 use Rattle.pipe_running.specs.Least.{HoldsLeast}
 use Rattle.pipe_running.specs.Mean.{MeanState}
 use Rattle.pipe_running.specs.Pick.{earlier_place, later_place}
@@ -76,25 +77,6 @@ Stands (function.MinMaxI8 a) entries = ExtremeStands native_i8 a entries
 Stands (function.MinMaxI16 a) entries = ExtremeStands native_i16 a entries
 Stands (function.MinMaxI32 a) entries = ExtremeStands native_i32 a entries
 Stands (function.MinMaxI64 a) entries = ExtremeStands native_i64 a entries
-
--- no place stands twice in a list
-abbrev pub DistinctPlaces : List (Place × AnyValue) → Type 0
-DistinctPlaces entries = IsDistinct (eq_by_cmp place_cmp) (map (λ e. e.0) entries)
-
--- the types whose values have a mean
-abbrev pub has_mean : DataType → Bool
-has_mean dt.Boolean = true
-has_mean dt.Int8 = true
-has_mean dt.Int16 = true
-has_mean dt.Int32 = true
-has_mean dt.Int64 = true
-has_mean dt.UInt8 = true
-has_mean dt.UInt16 = true
-has_mean dt.UInt32 = true
-has_mean dt.UInt64 = true
-has_mean dt.Int128 = false
-has_mean dt.Date = false
-has_mean dt.String = false
 
 -- whether a running aggregate is one of values of a type
 abbrev pub Suits : AggregateFunction → DataType → Type 0

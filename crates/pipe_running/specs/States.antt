@@ -13,9 +13,9 @@ use Rattle.pipe_running.specs.declared.min_max.Direction.{Direction}
 use Rattle.pipe_running.specs.declared.min_max.Direction.TheVariants as direction
 use Rattle.pipe_running.specs.declared.function.AggregateFunction.{AggregateFunction}
 use Rattle.pipe_running.specs.declared.function.AggregateFunction.TheVariants as function
-use Rattle.pipe_running.specs.Aggregate.{counted, entry_value}
-use Rattle.pipe_running.specs.Kind.{Kind}
-use Rattle.pipe_running.specs.Kind as kind
+use Rattle.pipe_model.specs.Aggregate.{counted, entry_value}
+use Rattle.pipe_model.specs.Kind.{Kind}
+use Rattle.pipe_model.specs.Kind as kind
 use Rattle.pipe_running.specs.Mean.{is_short}
 use Rattle.pipe_running.specs.Transitions.{count_after, empty_count, empty_extreme, empty_first, empty_last, empty_mean, empty_sum, extreme_after, extreme_value, extremes_joined, first_after, firsts_joined, last_after, lasts_joined, mean_after, mean_given, means_joined, same_direction, sum_state_after, sums_joined}
 

@@ -1,7 +1,7 @@
 ghost use Rattle.std.specs.Prelude.{◌≡◌, ◌+◌, true, false, refl};
 ghost use Rattle.pipe_columns.specs.declared.data_type.DataType.TheVariants as dt;
 ghost use Rattle.pipe_running.specs.declared.interface.Finalized.TheVariants as finalized;
-ghost use Rattle.pipe_running.specs.Aggregate.{counted};
+ghost use Rattle.pipe_model.specs.Aggregate.{counted};
 ghost use Rattle.pipe_running.specs.Transitions.{count_after, empty_count};
 ghost use Rattle.pipe_running.specs.TransitionLaws.{count_by_one};
 

@@ -1,6 +1,6 @@
 ghost use Rattle.std.specs.Prelude.{◌≡◌, true, false, refl};
 ghost use Rattle.pipe_running.specs.declared.interface.Finalized.TheVariants as finalized;
-ghost use Rattle.pipe_running.specs.Aggregate.{entry_value};
+ghost use Rattle.pipe_model.specs.Aggregate.{entry_value};
 ghost use Rattle.pipe_running.specs.Transitions.{empty_last, last_after, lasts_joined};
 ghost use Rattle.pipe_running.specs.TransitionLaws.{none_by_one};
 

@@ -9,12 +9,13 @@ ghost use Rattle.pipe_columns.specs.declared.data_type.DataType.TheVariants as d
 ghost use Rattle.pipe_columns.specs.declared.place.Place.{Place};
 ghost use Rattle.pipe_columns.specs.AnyValue.{fits};
 ghost use Rattle.pipe_running.specs.declared.function.AggregateFunction.{AggregateFunction};
-ghost use Rattle.pipe_running.specs.Aggregate.{agg, values_in};
-ghost use Rattle.pipe_running.specs.Kind.{Kind};
-ghost use Rattle.pipe_running.specs.Kind as kind;
+ghost use Rattle.pipe_model.specs.Aggregate.{agg, values_in};
+ghost use Rattle.pipe_model.specs.Kind.{Kind};
+ghost use Rattle.pipe_model.specs.Kind as kind;
 ghost use Rattle.pipe_running.specs.Runs.{after_run, placed};
 ghost use Rattle.pipe_running.specs.SameKind.{SameKind};
-ghost use Rattle.pipe_running.specs.Stands.{DistinctPlaces, FitTypes, Stands, Suits, given_types, is_mean, is_pair, looks_at_places};
+ghost use Rattle.pipe_columns.specs.Place.{DistinctPlaces};
+ghost use Rattle.pipe_running.specs.Stands.{FitTypes, Stands, Suits, given_types, is_mean, is_pair, looks_at_places};
 ghost use Rattle.pipe_running.specs.States.{after_entries, after_value, alike, fresh, given, joined, kind_of, output_values, seen, takes};
 
 /// Each call keeps what a running aggregate stands for, whatever the order of places, and of the

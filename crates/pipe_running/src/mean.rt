@@ -1,5 +1,5 @@
 ghost use Rattle.std.specs.Prelude.{◌≡◌, true, false, refl};
-ghost use Rattle.pipe_running.specs.Aggregate.{addend};
+ghost use Rattle.pipe_model.specs.Aggregate.{addend};
 
 use crate::interface::{AggregateFn, Finalized};
 use pipe_columns::{AnyValue, DataType, Place};

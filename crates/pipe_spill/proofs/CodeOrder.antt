@@ -13,7 +13,8 @@ use Rattle.pipe_columns.specs.declared.data_type.DataType.{DataType}
 use Rattle.pipe_columns.specs.declared.data_type.DataType.TheVariants as dt
 use Rattle.pipe_columns.specs.declared.any_value.AnyValue.{AnyValue}
 use Rattle.pipe_columns.specs.declared.any_value.AnyValue.TheVariants as av
-use Rattle.pipe_columns.specs.AnyValue.{fits, fits_number, is_boolean, is_signed, is_string, is_unsigned, value_cmp}
+use Rattle.pipe_columns.specs.AnyValue.{fits, fits_number, is_signed, is_unsigned, value_cmp}
+use Rattle.pipe_columns.specs.DataType.{is_boolean, is_string}
 use Rattle.pipe_columns.specs.Key.{code, number_code, text_code, unsigned_code, value_code}
 use Rattle.pipe_columns.proofs.ValueOrder.{tuples_tie, value_cmp-IsAntisymmetric}
 use Rattle.pipe_spill.specs.KeyTypes.{AreOfTypes}

@@ -1,6 +1,4 @@
 pub mod KeyTypes
-pub mod Calls
-pub mod Causes
 pub mod FileStore
 pub mod FrameBytes
 pub mod MemoryStore

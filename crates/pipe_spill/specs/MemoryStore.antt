@@ -1,7 +1,7 @@
 -- A store in memory: its frames, and its calls.
 use Rattle.std.specs.Prelude.{◌≡◌, refl, ℕ, List, Bool, true, false, ◌&&◌, ◌==◌, IsTrue, length, Option, Some}
 use Rattle.std.proofs.lemmas.Bool.{eqb-true}
-use Rattle.pipe_spill.specs.Calls.{Calls}
+use Rattle.pipe_columns.specs.Calls.{Calls}
 
 -- the frames in the order of their puts, and the calls of put and get, numbered together
 pub record MemoryFrames : Type 0 where

@@ -1,7 +1,7 @@
 // Frames one after another in an open file.
 
 ghost use Rattle.std.specs.Prelude.{◌≡◌, ◌<◌, ◌≤◌, [], length, IfOk, OnOk, OnErr, IsErrOf};
-ghost use Rattle.pipe_spill.specs.Causes.{HasCause};
+ghost use Rattle.pipe_columns.specs.Causes.{HasCause};
 ghost use Rattle.pipe_spill.specs.FileStore.{faults_of, held_of, next_start, ReadAt, size_of, start_of, with_end, WroteAt};
 ghost use Rattle.pipe_spill.specs.declared.store.StoreError.TheVariants as store_error;
 

@@ -1,7 +1,7 @@
 // A store in a file, which is opened by name at each call.
 
 ghost use Rattle.std.specs.Prelude.{◌≡◌, ◌<◌, ◌+◌, ◌-◌, ◌^◌, [], length, IfOk, OnOk, OnErr, IsErrOf};
-ghost use Rattle.pipe_spill.specs.Causes.{HasCause};
+ghost use Rattle.pipe_columns.specs.Causes.{HasCause};
 ghost use Rattle.pipe_spill.specs.FileStore.{faults_of, held_of, size_of, with_end};
 ghost use Rattle.pipe_spill.specs.declared.store.StoreError.TheVariants as store_error;
 

@@ -4,7 +4,6 @@
 
 mod decode;
 mod encode;
-mod failing;
 mod file_frames;
 mod file_store;
 mod frame_laws;

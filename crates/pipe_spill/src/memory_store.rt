@@ -1,13 +1,13 @@
 // A store in memory, which fails at listed calls.
 
 ghost use Rattle.std.specs.Prelude.{◌≡◌, ◌<◌, ◌+◌, ◌-◌, ◌^◌, ◌↔◌, ◌==◌, ◌∷◌, ◌++◌, [], length, IfOk, OnOk, OnErr, IsErrOf, IsTrue};
-ghost use Rattle.pipe_spill.specs.Calls.{after_call, is_listed, no_calls};
-ghost use Rattle.pipe_spill.specs.Causes.{HasCause};
+ghost use Rattle.pipe_columns.specs.Calls.{after_call, is_listed, no_calls};
+ghost use Rattle.pipe_columns.specs.Causes.{HasCause};
 ghost use Rattle.pipe_spill.specs.MemoryStore.{faults_of, held_of, is_sure, told_of};
 ghost use Rattle.pipe_spill.specs.Store.{contents, IsFrameAt, with_frame};
 ghost use Rattle.pipe_spill.specs.declared.store.StoreError.TheVariants as store_error;
 
-use crate::failing::FailingCalls;
+use pipe_columns::FailingCalls;
 use crate::store::{SpillStore, StoreError};
 use std::alloc::{AllocError, Global};
 use std::marker::Model;

@@ -1,7 +1,7 @@
 // Where frames are put, and fetched from by number.
 
 ghost use Rattle.std.specs.Prelude.{◌≡◌, ◌<◌, ◌+◌, ◌-◌, ◌^◌, ℕ, List, [], Bool, Option, IfOk, OnOk, OnErr, IsErrOf, IsTrue};
-ghost use Rattle.pipe_spill.specs.Causes.{HasCause};
+ghost use Rattle.pipe_columns.specs.Causes.{HasCause};
 ghost use Rattle.pipe_spill.specs.Store.{HasHeld, IsFrameAt, with_frame};
 ghost use Rattle.pipe_spill.specs.declared.store.StoreError.TheVariants as store_error;
 

@@ -1,6 +1,6 @@
 use Rattle.std.proofs.Common.{◌≡◌, take, map}
-use Rattle.pipe_aggs.specs.Output.{input_type}
-use Rattle.pipe_aggs.specs.QueryTrees.{agg_tree}
+use Rattle.pipe_model.specs.Output.{input_type}
+use Rattle.pipe_model.specs.WrittenTree.{agg_tree}
 use Rattle.pipe_exprs.specs.Trees.{tree}
 use Rattle.pipe_aggs.proofs.check.input_types_of.Given as goal
 

@@ -1,7 +1,7 @@
 use Rattle.std.proofs.Common.{◌≡◌, take, map}
 use Rattle.std.specs.List.{All}
 use Rattle.pipe_aggs.specs.HashAggs.{input_of, IsThere}
-use Rattle.pipe_aggs.specs.QueryTrees.{agg_tree}
+use Rattle.pipe_model.specs.WrittenTree.{agg_tree}
 use Rattle.pipe_exprs.specs.Trees.{tree}
 use Rattle.pipe_aggs.proofs.check.inputs_of.Given as goal
 

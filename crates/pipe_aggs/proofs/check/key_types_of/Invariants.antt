@@ -1,6 +1,6 @@
 use Rattle.std.proofs.Common.{◌≡◌, take, map}
 use Rattle.pipe_exprs.specs.Trees.{tree}
-use Rattle.pipe_exprs.specs.Typing.{known_type}
+use Rattle.pipe_model.specs.Typing.{known_type}
 use Rattle.pipe_aggs.proofs.check.key_types_of.Given as goal
 
 -- the types of the keys so far

@@ -1,6 +1,6 @@
 use Rattle.std.proofs.Common.{◌∙◌, refl}
 use Rattle.std.specs.Prelude.{is_some}
-use Rattle.pipe_exprs.specs.Typing.{type_of}
+use Rattle.pipe_model.specs.Typing.{type_of}
 use Rattle.pipe_aggs.proofs.QueryFacts.{both_hold}
 use Rattle.pipe_aggs.proofs.sound.all_have_types.Goals as goal
 

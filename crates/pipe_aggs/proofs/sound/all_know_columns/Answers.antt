@@ -1,5 +1,5 @@
 use Rattle.std.proofs.Common.{◌∙◌, refl}
-use Rattle.pipe_exprs.specs.Typing.{knows_columns}
+use Rattle.pipe_model.specs.Typing.{knows_columns}
 use Rattle.pipe_aggs.proofs.QueryFacts.{both_hold}
 use Rattle.pipe_aggs.proofs.sound.all_know_columns.Goals as goal
 

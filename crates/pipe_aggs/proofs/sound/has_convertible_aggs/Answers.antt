@@ -1,5 +1,5 @@
 use Rattle.std.proofs.Common.{◌∙◌, sym}
-use Rattle.pipe_aggs.specs.Convertible.{convertible}
+use Rattle.pipe_model.specs.Convertible.{convertible}
 use Rattle.pipe_aggs.proofs.QueryFacts.{agg_exprs_are}
 use Rattle.pipe_aggs.proofs.sound.has_convertible_aggs.Goals as goal
 

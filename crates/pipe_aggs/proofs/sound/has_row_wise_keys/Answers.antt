@@ -1,5 +1,5 @@
 use Rattle.std.proofs.Common.{◌∙◌, sym}
-use Rattle.pipe_exprs.specs.Typing.{is_row_wise}
+use Rattle.pipe_model.specs.Typing.{is_row_wise}
 use Rattle.pipe_aggs.proofs.QueryFacts.{key_exprs_are}
 use Rattle.pipe_aggs.proofs.sound.has_row_wise_keys.Goals as goal
 

@@ -1,5 +1,5 @@
 use Rattle.std.proofs.Common.{◌∙◌, sym}
-use Rattle.pipe_aggs.specs.Convertible.{unaliased}
+use Rattle.pipe_model.specs.Convertible.{unaliased}
 use Rattle.pipe_aggs.specs.Faults.{adds_dates}
 use Rattle.pipe_aggs.proofs.QueryFacts.{any_agg_is}
 use Rattle.pipe_aggs.proofs.sound.has_sum_of_dates.Goals as goal

@@ -2,8 +2,7 @@ use Rattle.std.proofs.Common.{rules, ◌≡◌, ◌∙◌, false, ap}
 use Rattle.std.specs.Int.{w128}
 use Rattle.std.proofs.lemmas.Int.{to_z-of_z}
 use Rattle.pipe_columns.specs.declared.data_type.DataType.TheVariants as dt
-use Rattle.pipe_exprs.specs.Operators.{wrapped_into as wrap}
-use Rattle.pipe_exprs.specs.Typing.{same_type}
+use Rattle.pipe_columns.specs.DataType.{wrapped as wrap, same_type}
 use Rattle.pipe_exprs.proofs.NumberFacts.{product_is}
 use Rattle.pipe_exprs.proofs.arithmetic.product.Goals as goal
 

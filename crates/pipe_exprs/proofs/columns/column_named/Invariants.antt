@@ -1,5 +1,5 @@
 use Rattle.std.proofs.Common.{◌≡◌, drop}
-use Rattle.pipe_exprs.specs.Value.{column_named}
+use Rattle.pipe_model.specs.Value.{column_named}
 use Rattle.pipe_exprs.proofs.columns.column_named.Given as goal
 
 -- the columns so far have other names

@@ -1,6 +1,6 @@
 use Rattle.std.proofs.Common.{◌∙◌, ◌≡◌, ap, sym, Some}
 use Rattle.std.specs.Prelude.{option_copied}
-use Rattle.pipe_exprs.specs.Value.{column_named}
+use Rattle.pipe_model.specs.Value.{column_named}
 use Rattle.pipe_exprs.proofs.OperandFacts.{lent-holds}
 use Rattle.pipe_exprs.proofs.columns.column_operand.Goals as goal
 

@@ -1,5 +1,5 @@
 use Rattle.std.proofs.Common.{take}
-use Rattle.pipe_exprs.specs.Operands.{ColumnsFit}
+use Rattle.pipe_columns.specs.Frame.{ColumnsFit}
 use Rattle.pipe_exprs.proofs.columns.recall_types.Given as goal
 
 -- the values of the columns so far fit

@@ -1,5 +1,5 @@
 use Rattle.std.proofs.Common.{◌≡◌, drop}
-use Rattle.pipe_exprs.specs.Typing.{field_named}
+use Rattle.pipe_model.specs.Typing.{field_named}
 use Rattle.pipe_exprs.proofs.facts.dtype_named.Given as goal
 
 -- the fields so far have other names

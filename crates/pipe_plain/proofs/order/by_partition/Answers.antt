@@ -5,7 +5,7 @@ use Rattle.std.specs.Ordering.{nat_cmp}
 use Rattle.pipe_columns.specs.Key.{partition}
 use Rattle.pipe_plain.specs.declared.groups.Group.{Group}
 use Rattle.pipe_plain.specs.declared.order.Placed.{Placed}
-use Rattle.pipe_plain.specs.Order.{IsSortedStably}
+use Rattle.pipe_columns.specs.StableSort.{IsSortedStably}
 use Rattle.pipe_plain.proofs.PartitionFacts.{sorted_groups}
 use Rattle.pipe_plain.proofs.order.by_partition.Goals as goal
 

@@ -2,7 +2,7 @@ use Rattle.std.proofs.Common.{◌≡◌, rules, refl, Some, option_map}
 use Rattle.serde_json.specs.Find.{as_str}
 use Rattle.serde_json.specs.View.{view}
 use Rattle.pipe_exprs.specs.declared.expression.AExpr.TheVariants as ax
-use Rattle.pipe_exprs.specs.Expr as expr
+use Rattle.pipe_model.specs.Expr as expr
 use Rattle.pipe_query.specs.declared.json_names.Form.TheVariants as form
 use Rattle.pipe_query.specs.ExprJson.{expr_of, over_expr, part_of, parts_of, three_parts, two_parts, operator_of, type_of_name}
 use Rattle.pipe_query.specs.Flat.{IsAdded, over_ax}

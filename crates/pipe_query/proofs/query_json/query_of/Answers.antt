@@ -1,7 +1,7 @@
 use Rattle.std.proofs.Common.{rules, ◌≡◌, refl, Some, true, codes, map, [], List}
 use Rattle.serde_json.specs.Find.{get}
 use Rattle.serde_json.specs.View.{view}
-use Rattle.pipe_exprs.specs.Expr.{Expr}
+use Rattle.pipe_model.specs.Expr.{Expr}
 use Rattle.pipe_exprs.specs.Trees.{tree}
 use Rattle.pipe_query.specs.Flat.{AreAdded}
 use Rattle.pipe_query.specs.QueryJson.{has_query_members, list_of, order_of, schema_of, slice_of}

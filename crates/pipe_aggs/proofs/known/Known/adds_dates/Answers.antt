@@ -1,6 +1,6 @@
 use Rattle.std.proofs.Common.{◌≡◌, ◌∙◌, ap}
 use Rattle.std.specs.Prelude.{option_copied}
-use Rattle.pipe_aggs.specs.Convertible.{unaliased}
+use Rattle.pipe_model.specs.Convertible.{unaliased}
 use Rattle.pipe_aggs.specs.Faults.{adds_dates}
 use Rattle.pipe_aggs.specs.KnownArena.{adds_dates_by}
 use Rattle.pipe_exprs.specs.Nodes.{tree_if}

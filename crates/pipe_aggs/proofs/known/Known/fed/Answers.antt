@@ -1,11 +1,11 @@
 use Rattle.std.proofs.Common.{◌≡◌, ◌∙◌, ap}
 use Rattle.std.specs.Prelude.{option_copied}
-use Rattle.pipe_aggs.specs.Convertible.{unaliased}
-use Rattle.pipe_exprs.specs.Expr.{name_of}
+use Rattle.pipe_model.specs.Convertible.{unaliased}
+use Rattle.pipe_model.specs.Expr.{name_of}
 use Rattle.pipe_aggs.specs.KnownArena.{fed_by}
 use Rattle.pipe_exprs.specs.Nodes.{tree_if}
-use Rattle.pipe_aggs.specs.Output.{input_type}
-use Rattle.pipe_aggs.specs.QueryTrees.{agg_named}
+use Rattle.pipe_model.specs.Output.{input_type}
+use Rattle.pipe_model.specs.WrittenTree.{agg_named}
 use Rattle.pipe_exprs.specs.Trees.{tree, trees}
 use Rattle.pipe_aggs.proofs.KnownFacts.{fed_is}
 use Rattle.pipe_aggs.proofs.known.Known.fed.Goals as goal

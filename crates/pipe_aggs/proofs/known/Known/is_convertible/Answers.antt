@@ -1,6 +1,6 @@
 use Rattle.std.proofs.Common.{◌≡◌, ◌∙◌, ap}
 use Rattle.std.specs.Prelude.{option_copied}
-use Rattle.pipe_aggs.specs.Convertible.{is_kept, unaliased}
+use Rattle.pipe_model.specs.Convertible.{is_kept, unaliased}
 use Rattle.pipe_aggs.specs.KnownArena.{kept_by}
 use Rattle.pipe_exprs.specs.Nodes.{tree_if}
 use Rattle.pipe_exprs.specs.Trees.{tree, trees}

@@ -1,5 +1,5 @@
 use Rattle.std.proofs.Common.{◌≡◌}
-use Rattle.pipe_exprs.specs.Expr.{name_of}
+use Rattle.pipe_model.specs.Expr.{name_of}
 use Rattle.pipe_exprs.specs.Trees.{tree}
 use Rattle.pipe_exprs.proofs.arena.Arena.name.Given as goal
 

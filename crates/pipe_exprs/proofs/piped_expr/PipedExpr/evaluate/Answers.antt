@@ -1,11 +1,11 @@
 use Rattle.std.proofs.Common.{◌≡◌, ◌∙◌, true, ap, subst}
 use Rattle.pipe_columns.specs.declared.data_type.DataType.{DataType}
-use Rattle.pipe_columns.specs.Frame.{all_fit, fields_of, FrameData}
+use Rattle.pipe_columns.specs.Frame.{all_fit, fields_of, FrameData, ColumnsFit}
 use Rattle.pipe_exprs.specs.Evaluated.{keeps_sorted, row_values}
-use Rattle.pipe_exprs.specs.Expr.{Expr, name_of}
-use Rattle.pipe_exprs.specs.Operands.{ColumnsFit, node_types}
+use Rattle.pipe_model.specs.Expr.{Expr, name_of}
+use Rattle.pipe_exprs.specs.Operands.{node_types}
 use Rattle.pipe_exprs.specs.Trees.{tree}
-use Rattle.pipe_exprs.specs.Typing.{known_type}
+use Rattle.pipe_model.specs.Typing.{known_type}
 use Rattle.pipe_exprs.proofs.OperandFacts.{column-is, into-rows, rows-fit, sized, type-read}
 use Rattle.pipe_exprs.proofs.RowFacts.{is_there}
 use Rattle.pipe_exprs.proofs.piped_expr.PipedExpr.evaluate.Goals as goal

@@ -1,10 +1,10 @@
 use Rattle.std.proofs.Common.{◌≡◌, ◌∙◌, ap, subst}
-use Rattle.pipe_columns.specs.Frame.{all_fit, fields_of, FrameData}
+use Rattle.pipe_columns.specs.Frame.{all_fit, fields_of, FrameData, ColumnsFit}
 use Rattle.pipe_exprs.specs.declared.operand.Operand.TheVariants as operand
 use Rattle.pipe_exprs.specs.Evaluated.{row_values}
-use Rattle.pipe_exprs.specs.Expr.{Expr}
-use Rattle.pipe_exprs.specs.Operands.{ColumnsFit, HoldsValues, node_types}
-use Rattle.pipe_exprs.specs.Typing.{known_type}
+use Rattle.pipe_model.specs.Expr.{Expr}
+use Rattle.pipe_exprs.specs.Operands.{HoldsValues, node_types}
+use Rattle.pipe_model.specs.Typing.{known_type}
 use Rattle.pipe_exprs.specs.Trees.{tree}
 use Rattle.pipe_exprs.proofs.OperandFacts.{into-rows, lent-rows, rows-fit, sized}
 use Rattle.pipe_exprs.proofs.piped_expr.PipedExpr.values.Goals as goal

@@ -4,7 +4,7 @@ use Rattle.std.specs.declared.snapshot.Snapshot.{Snapshot}
 use Rattle.pipe_columns.specs.declared.data_chunk.DataChunk.{DataChunk}
 use Rattle.pipe_columns.specs.Frame.{FitsSchema}
 use Rattle.pipe_aggs.specs.HashAggs.{prototypes}
-use Rattle.pipe_aggs.specs.Query.{QueryTree}
+use Rattle.pipe_model.specs.Query.{QueryTree}
 use Rattle.pipe_aggs.specs.QueryTrees.{query_tree}
 use Rattle.pipe_model.specs.Rows.{chunk_rows, total_height}
 use Rattle.pipe_plain.specs.Running.{group_seen, starts, Table, with_rows}

@@ -5,9 +5,9 @@ use Rattle.pipe_columns.specs.declared.schema.Field.{Field}
 use Rattle.pipe_columns.specs.Frame.{FrameData, frame_of}
 use Rattle.pipe_columns.specs.Slice.{sliced}
 use Rattle.pipe_aggs.specs.declared.query.Query.{Query}
-use Rattle.pipe_aggs.specs.Groupable.{IsGroupable}
-use Rattle.pipe_aggs.specs.Output.{output_schema}
-use Rattle.pipe_aggs.specs.Query.{QueryTree}
+use Rattle.pipe_model.specs.Groupable.{IsGroupable}
+use Rattle.pipe_model.specs.Output.{output_schema}
+use Rattle.pipe_model.specs.Query.{QueryTree}
 use Rattle.pipe_aggs.specs.QueryTrees.{query_tree}
 use Rattle.pipe_model.specs.Answer.{answer}
 use Rattle.pipe_plain.specs.declared.groups.Group.{Group}

@@ -6,11 +6,11 @@ use Rattle.pipe_columns.specs.Key.{partition}
 use Rattle.pipe_columns.specs.declared.data_type.DataType.{DataType}
 use Rattle.pipe_spill.specs.KeyTypes.{AreOfTypes}
 use Rattle.pipe_aggs.specs.declared.query.Query.{Query}
-use Rattle.pipe_aggs.specs.Output.{key_types}
-use Rattle.pipe_aggs.specs.Query.{QueryTree}
+use Rattle.pipe_model.specs.Output.{key_types}
+use Rattle.pipe_model.specs.Query.{QueryTree}
 use Rattle.pipe_aggs.specs.QueryTrees.{query_tree}
 use Rattle.pipe_plain.specs.declared.groups.Group.{Group}
-use Rattle.pipe_plain.specs.Order.{IsSortedStably}
+use Rattle.pipe_columns.specs.StableSort.{IsSortedStably}
 use Rattle.pipe_plain.specs.Running.{group_seen}
 use Rattle.pipe_plain.specs.Taken.{PlainRun}
 use Rattle.pipe_plain.proofs.AnswerFacts.{table_by_key, table_by_place, table_by_partition}

@@ -5,10 +5,10 @@ use Rattle.std.specs.Str.{bytes_eq}
 use Rattle.pipe_columns.specs.declared.any_value.AnyValue.{AnyValue}
 use Rattle.pipe_columns.specs.declared.any_value.AnyValue.TheVariants as av
 use Rattle.pipe_columns.specs.Frame.{ColumnData, FrameData, fields_of, value_at}
-use Rattle.pipe_exprs.specs.Expr.{Expr}
-use Rattle.pipe_exprs.specs.Expr as expr
-use Rattle.pipe_exprs.specs.Operators.{apply, cast_value, chosen}
-use Rattle.pipe_exprs.specs.Typing.{known_type}
+use Rattle.pipe_model.specs.Expr.{Expr}
+use Rattle.pipe_model.specs.Expr as expr
+use Rattle.pipe_model.specs.Operators.{apply, cast_value, chosen}
+use Rattle.pipe_model.specs.Typing.{known_type}
 
 -- the first column of a name
 abbrev pub column_named : List ℕ → List ColumnData → Option ColumnData

@@ -1,6 +1,6 @@
 use Rattle.std.proofs.Common.{refl}
 use Rattle.std.specs.Int.{int_wrap}
-use Rattle.pipe_native.proofs.worked.past_signed_edges.Goals as goal
+use Rattle.pipe_columns.proofs.worked_types.past_signed_edges.Goals as goal
 
 pub returns-clause-above : goal.returns-clause-above
 unfolding int_wrap

@@ -4,12 +4,12 @@ use Rattle.std.specs.List.{flat_map}
 use Rattle.pipe_columns.specs.declared.data_type.DataType.{DataType}
 use Rattle.pipe_columns.specs.declared.data_type.DataType.TheVariants as dt
 use Rattle.pipe_columns.specs.declared.schema.Field.{Field}
-use Rattle.pipe_running.specs.Kind.{Kind}
-use Rattle.pipe_running.specs.Kind as kind
-use Rattle.pipe_running.specs.Aggregate.{sum_type}
-use Rattle.pipe_exprs.specs.Expr.{name_of}
-use Rattle.pipe_exprs.specs.Typing.{known_type}
-use Rattle.pipe_aggs.specs.Query.{Input, each, rows_alone, QueryTree}
+use Rattle.pipe_model.specs.Kind.{Kind}
+use Rattle.pipe_model.specs.Kind as kind
+use Rattle.pipe_columns.specs.DataType.{sum_type}
+use Rattle.pipe_model.specs.Expr.{name_of}
+use Rattle.pipe_model.specs.Typing.{known_type}
+use Rattle.pipe_model.specs.Query.{Input, each, rows_alone, QueryTree}
 
 -- the type of what an aggregate is fed: a null that stands for a row is one of UInt32
 abbrev pub input_type : List Field → Input → DataType

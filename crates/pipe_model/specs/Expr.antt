@@ -2,7 +2,7 @@
 use Rattle.std.specs.Prelude.{ℕ, Bool, List, codes}
 use Rattle.pipe_columns.specs.declared.data_type.DataType.{DataType}
 use Rattle.pipe_columns.specs.declared.any_value.AnyValue.{AnyValue}
-use Rattle.pipe_exprs.specs.declared.operator.Operator.{Operator}
+use Rattle.pipe_columns.specs.declared.operator.Operator.{Operator}
 
 -- how an aggregate sums up the values of its input; a count tells whether nulls count, and a least or
 -- greatest value whether it propagates numbers that are none

@@ -6,9 +6,9 @@ use Rattle.pipe_columns.specs.declared.data_type.DataType.{DataType}
 use Rattle.pipe_columns.specs.declared.data_type.DataType.TheVariants as dt
 use Rattle.pipe_columns.specs.declared.schema.Field.{Field}
 use Rattle.pipe_columns.specs.Frame.{frame_of}
-use Rattle.pipe_exprs.specs.Expr.{Expr}
-use Rattle.pipe_exprs.specs.Expr as expr
-use Rattle.pipe_exprs.specs.Value.{value}
+use Rattle.pipe_model.specs.Expr.{Expr}
+use Rattle.pipe_model.specs.Expr as expr
+use Rattle.pipe_model.specs.Value.{value}
 
 -- a field of a name and a type
 abbrev pub field : List ℕ → DataType → Field

@@ -2,9 +2,10 @@
 use Rattle.std.specs.Prelude.{Bool, true, false, not, ◌&&◌, List, Option, Some, None}
 use Rattle.pipe_columns.specs.declared.data_type.DataType.{DataType}
 use Rattle.pipe_columns.specs.declared.schema.Field.{Field}
-use Rattle.pipe_exprs.specs.Expr.{Aggregation, Expr}
-use Rattle.pipe_exprs.specs.Expr as expr
-use Rattle.pipe_exprs.specs.Typing.{is_integer, is_row_wise, type_of}
+use Rattle.pipe_model.specs.Expr.{Aggregation, Expr}
+use Rattle.pipe_model.specs.Expr as expr
+use Rattle.pipe_columns.specs.DataType.{is_integer}
+use Rattle.pipe_model.specs.Typing.{is_row_wise, type_of}
 
 -- an expression without its outermost alias
 abbrev pub unaliased : Expr → Expr

@@ -1,7 +1,7 @@
 -- Calls that are numbered, of which listed ones fail.
 use Rattle.std.specs.Prelude.{◌==◌, ℕ, List, Bool, if◌then◌else◌}
 use Rattle.std.specs.List.{list_any}
-use Rattle.pipe_spill.specs.Causes.{one_more}
+use Rattle.pipe_columns.specs.Causes.{one_more}
 
 -- the numbers of the calls that fail, the number of the next call, and how many failed
 pub record Calls : Type 0 where

@@ -5,60 +5,16 @@ use Rattle.std.specs.Str.{bytes_eq}
 use Rattle.pipe_columns.specs.declared.data_type.DataType.{DataType}
 use Rattle.pipe_columns.specs.declared.data_type.DataType.TheVariants as dt
 use Rattle.pipe_columns.specs.declared.schema.Field.{Field}
-use Rattle.pipe_columns.specs.AnyValue.{fits, is_boolean}
-use Rattle.pipe_running.specs.Aggregate.{sum_type}
-use Rattle.pipe_exprs.specs.declared.operator.Operator.{Operator}
-use Rattle.pipe_exprs.specs.declared.operator.Operator.TheVariants as op
-use Rattle.pipe_exprs.specs.Expr.{Aggregation, Expr}
-use Rattle.pipe_exprs.specs.Expr as expr
+use Rattle.pipe_columns.specs.AnyValue.{fits}
+use Rattle.pipe_columns.specs.DataType.{is_boolean, sum_type}
+use Rattle.pipe_columns.specs.declared.operator.Operator.{Operator}
+use Rattle.pipe_columns.specs.declared.operator.Operator.TheVariants as op
+use Rattle.pipe_model.specs.Expr.{Aggregation, Expr}
+use Rattle.pipe_model.specs.Expr as expr
 
 -- the first field of a name
 abbrev pub field_named : List ℕ → List Field → Option Field
 field_named name fields = find (λ f. bytes_eq f.name name) fields
-
--- the types in their order
-abbrev pub type_number : DataType → ℕ
-type_number dt.Boolean = 0
-type_number dt.Int8 = 1
-type_number dt.Int16 = 2
-type_number dt.Int32 = 3
-type_number dt.Int64 = 4
-type_number dt.UInt8 = 5
-type_number dt.UInt16 = 6
-type_number dt.UInt32 = 7
-type_number dt.UInt64 = 8
-type_number dt.Int128 = 9
-type_number dt.Date = 10
-type_number dt.String = 11
-
-abbrev pub same_type : DataType → DataType → Bool
-same_type a b = type_number a == type_number b
-
--- the types whose values are whole numbers of up to 64 bits
-abbrev pub is_integer : DataType → Bool
-is_integer dt.Boolean = false
-is_integer dt.Int8 = true
-is_integer dt.Int16 = true
-is_integer dt.Int32 = true
-is_integer dt.Int64 = true
-is_integer dt.UInt8 = true
-is_integer dt.UInt16 = true
-is_integer dt.UInt32 = true
-is_integer dt.UInt64 = true
-is_integer dt.Int128 = false
-is_integer dt.Date = false
-is_integer dt.String = false
-
-abbrev pub is_date : DataType → Bool
-is_date t = same_type t dt.Date
-
--- the types of inputs: all but Int128
-abbrev pub is_input : DataType → Bool
-is_input t = not (same_type t dt.Int128)
-
--- the types that a cast takes and gives
-abbrev pub is_castable : DataType → Bool
-is_castable t = is_integer t || is_boolean t || is_date t
 
 -- a type that meets a test
 abbrev pub type_if : (DataType → Bool) → DataType → Option DataType

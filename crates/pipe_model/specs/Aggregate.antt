@@ -8,24 +8,9 @@ use Rattle.pipe_columns.specs.declared.any_value.AnyValue.TheVariants as av
 use Rattle.pipe_columns.specs.declared.place.Place.{Place}
 use Rattle.pipe_columns.specs.AnyValue.{is_null, value_cmp}
 use Rattle.pipe_columns.specs.Place.{first_entry, last_entry}
-use Rattle.pipe_native.specs.Native.{wrapped}
-use Rattle.pipe_running.specs.Kind.{Kind}
-use Rattle.pipe_running.specs.Kind as kind
-
--- the type of the sum of values of a type
-abbrev pub sum_type : DataType → DataType
-sum_type dt.Boolean = dt.UInt32
-sum_type dt.Int8 = dt.Int64
-sum_type dt.Int16 = dt.Int64
-sum_type dt.Int32 = dt.Int32
-sum_type dt.Int64 = dt.Int64
-sum_type dt.UInt8 = dt.Int64
-sum_type dt.UInt16 = dt.Int64
-sum_type dt.UInt32 = dt.UInt32
-sum_type dt.UInt64 = dt.UInt64
-sum_type dt.Int128 = dt.Int128
-sum_type dt.Date = dt.Date
-sum_type dt.String = dt.String
+use Rattle.pipe_columns.specs.DataType.{wrapped}
+use Rattle.pipe_model.specs.Kind.{Kind}
+use Rattle.pipe_model.specs.Kind as kind
 
 -- the number that a value adds to a sum: true adds 1
 abbrev pub addend : AnyValue → ℤ

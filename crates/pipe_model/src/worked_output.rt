@@ -2,11 +2,11 @@
 
 ghost use Rattle.std.specs.Prelude.{◌≡◌, ◌∷◌, [], false, codes, None};
 ghost use Rattle.pipe_columns.specs.declared.data_type.DataType.TheVariants as dt;
-ghost use Rattle.pipe_running.specs.Kind as kind;
-ghost use Rattle.pipe_exprs.specs.Expr.{column};
-ghost use Rattle.pipe_aggs.specs.Output.{output_schema};
-ghost use Rattle.pipe_aggs.specs.Query.{each, rows_alone};
-ghost use Rattle.pipe_exprs.specs.Worked.{field, v};
+ghost use Rattle.pipe_model.specs.Kind as kind;
+ghost use Rattle.pipe_model.specs.Expr.{column};
+ghost use Rattle.pipe_model.specs.Output.{output_schema};
+ghost use Rattle.pipe_model.specs.Query.{each, rows_alone};
+ghost use Rattle.pipe_model.specs.WorkedExprs.{field, v};
 
 /// The output has the keys' columns, then those of the aggregates: the two halves of a mean stand
 /// under names of their own, a small sum is wide, and counts are unsigned.

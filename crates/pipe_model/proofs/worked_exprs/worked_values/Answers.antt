@@ -1,6 +1,6 @@
 use Rattle.std.proofs.Common.{refl}
 use Rattle.std.specs.Int.{int_wrap}
-use Rattle.pipe_exprs.proofs.worked.worked_values.Goals as goal
+use Rattle.pipe_model.proofs.worked_exprs.worked_values.Goals as goal
 
 pub returns-clause-wraps : goal.returns-clause-wraps
 unfolding int_wrap

@@ -2,11 +2,11 @@
 use Rattle.std.specs.Prelude.{◌≡◌, ◌&&◌, Bool, true, List, is_some}
 use Rattle.std.specs.List.{list_all}
 use Rattle.pipe_columns.specs.declared.schema.Field.{Field}
-use Rattle.pipe_exprs.specs.Expr.{Expr}
-use Rattle.pipe_aggs.specs.HashAggs.{suited}
-use Rattle.pipe_aggs.specs.Output.{input_type}
-use Rattle.pipe_aggs.specs.Query.{AggTree, each, Input, QueryTree, rows_alone}
-use Rattle.pipe_exprs.specs.Typing.{is_row_wise, type_of}
+use Rattle.pipe_model.specs.Expr.{Expr}
+use Rattle.pipe_model.specs.Groupable.{suited}
+use Rattle.pipe_model.specs.Output.{input_type}
+use Rattle.pipe_model.specs.Query.{AggTree, each, Input, QueryTree, rows_alone}
+use Rattle.pipe_model.specs.Typing.{is_row_wise, type_of}
 
 -- whether an expression has a value in each row, of a type
 abbrev pub is_valued : List Field → Expr → Bool
@@ -16,6 +16,18 @@ is_valued schema e = is_row_wise e && is_some (type_of e schema)
 abbrev pub is_fed : List Field → Input → Bool
 is_fed schema (each e) = is_valued schema e
 is_fed schema rows_alone = true
+
+-- whether a table of groups can keep an aggregate of a kind over values of a type: sums and means of
+-- dates are refused, and a least or greatest value is one of integers
+abbrev pub suited : Kind → DataType → Bool
+suited kind.sum t = is_input t && not (is_date t)
+suited kind.mean t = is_input t && not (is_date t)
+suited kind.min t = is_integer t
+suited kind.max t = is_integer t
+suited kind.first t = true
+suited kind.last t = true
+suited kind.count t = true
+suited kind.len t = true
 
 -- whether a table of groups can keep an aggregate
 abbrev pub is_suited : List Field → AggTree → Bool

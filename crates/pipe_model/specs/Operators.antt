@@ -7,24 +7,10 @@ use Rattle.pipe_columns.specs.declared.data_type.DataType.{DataType}
 use Rattle.pipe_columns.specs.declared.data_type.DataType.TheVariants as dt
 use Rattle.pipe_columns.specs.declared.any_value.AnyValue.{AnyValue}
 use Rattle.pipe_columns.specs.declared.any_value.AnyValue.TheVariants as av
-use Rattle.pipe_columns.specs.AnyValue.{fits_number, is_boolean, value_cmp}
-use Rattle.pipe_exprs.specs.declared.operator.Operator.{Operator}
-use Rattle.pipe_exprs.specs.declared.operator.Operator.TheVariants as op
-
--- a number wrapped into a type
-abbrev pub wrapped_into : DataType → ℤ → ℤ
-wrapped_into dt.Boolean n = n
-wrapped_into dt.Int8 n = int_wrap w8 n
-wrapped_into dt.Int16 n = int_wrap w16 n
-wrapped_into dt.Int32 n = int_wrap w32 n
-wrapped_into dt.Int64 n = int_wrap w64 n
-wrapped_into dt.UInt8 n = int_rem_euclid n (pos (2 ^ 8))
-wrapped_into dt.UInt16 n = int_rem_euclid n (pos (2 ^ 16))
-wrapped_into dt.UInt32 n = int_rem_euclid n (pos (2 ^ 32))
-wrapped_into dt.UInt64 n = int_rem_euclid n (pos (2 ^ 64))
-wrapped_into dt.Int128 n = int_wrap w128 n
-wrapped_into dt.Date n = int_wrap w32 n
-wrapped_into dt.String n = n
+use Rattle.pipe_columns.specs.AnyValue.{fits_number, value_cmp}
+use Rattle.pipe_columns.specs.DataType.{is_boolean}
+use Rattle.pipe_columns.specs.declared.operator.Operator.{Operator}
+use Rattle.pipe_columns.specs.declared.operator.Operator.TheVariants as op
 
 -- the quotient rounded down
 abbrev pub floor_quotient : ℤ → ℤ → ℤ

@@ -1,8 +1,8 @@
 -- A query, with its expressions as trees.
 use Rattle.std.specs.Prelude.{ℕ, ℤ, Bool, List, Option}
 use Rattle.pipe_columns.specs.declared.schema.Field.{Field}
-use Rattle.pipe_running.specs.Kind.{Kind}
-use Rattle.pipe_exprs.specs.Expr.{Expr}
+use Rattle.pipe_model.specs.Kind.{Kind}
+use Rattle.pipe_model.specs.Expr.{Expr}
 
 -- what an aggregate is fed in each row: the value of an expression, or null where only rows count
 pub data Input : Type 0 where

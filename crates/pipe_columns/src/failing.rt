@@ -1,8 +1,8 @@
-// Calls that are counted, of which listed ones fail.
+//! Calls that are counted, of which listed ones fail.
 
 ghost use Rattle.std.specs.Prelude.{◌≡◌, ◌≤◌, IsTrue};
-ghost use Rattle.pipe_ends.specs.Calls.{after_call, is_listed, no_calls};
-ghost use Rattle.pipe_ends.specs.Causes.{Rose};
+ghost use Rattle.pipe_columns.specs.Calls.{after_call, is_listed, no_calls};
+ghost use Rattle.pipe_columns.specs.Causes.{Rose};
 
 use std::marker::Model;
 
@@ -15,7 +15,7 @@ pub struct FailingCalls {
 }
 
 impl Model for FailingCalls {
-    ghost use Rattle.pipe_ends.specs.Calls.{Calls};
+    ghost use Rattle.pipe_columns.specs.Calls.{Calls};
 
     ghost Value = { Calls };
 
