@@ -8,7 +8,7 @@ use Rattle.pipe_columns.specs.declared.any_value.AnyValue.TheVariants as av
 use Rattle.pipe_columns.specs.declared.place.Place.{Place}
 use Rattle.pipe_columns.specs.AnyValue.{is_null, value_cmp}
 use Rattle.pipe_columns.specs.Place.{first_entry, last_entry}
-use Rattle.pipe_columns.specs.DataType.{wrapped}
+use Rattle.pipe_columns.specs.DataType.{sum_type, wrapped}
 use Rattle.pipe_model.specs.Kind.{Kind}
 use Rattle.pipe_model.specs.Kind as kind
 

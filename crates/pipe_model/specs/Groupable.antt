@@ -1,9 +1,12 @@
 -- What a query without fault has: values in each row, of types that its aggregates take.
-use Rattle.std.specs.Prelude.{◌≡◌, ◌&&◌, Bool, true, List, is_some}
+use Rattle.std.specs.Prelude.{◌≡◌, ◌&&◌, Bool, true, not, List, is_some}
 use Rattle.std.specs.List.{list_all}
 use Rattle.pipe_columns.specs.declared.schema.Field.{Field}
+use Rattle.pipe_columns.specs.declared.data_type.DataType.{DataType}
+use Rattle.pipe_columns.specs.DataType.{is_date, is_input, is_integer}
+use Rattle.pipe_model.specs.Kind.{Kind}
+use Rattle.pipe_model.specs.Kind as kind
 use Rattle.pipe_model.specs.Expr.{Expr}
-use Rattle.pipe_model.specs.Groupable.{suited}
 use Rattle.pipe_model.specs.Output.{input_type}
 use Rattle.pipe_model.specs.Query.{AggTree, each, Input, QueryTree, rows_alone}
 use Rattle.pipe_model.specs.Typing.{is_row_wise, type_of}

@@ -8,7 +8,7 @@ use Rattle.pipe_columns.specs.declared.data_type.DataType.TheVariants as dt
 use Rattle.pipe_columns.specs.declared.any_value.AnyValue.{AnyValue}
 use Rattle.pipe_columns.specs.declared.any_value.AnyValue.TheVariants as av
 use Rattle.pipe_columns.specs.AnyValue.{fits_number, value_cmp}
-use Rattle.pipe_columns.specs.DataType.{is_boolean}
+use Rattle.pipe_columns.specs.DataType.{is_boolean, wrapped}
 use Rattle.pipe_columns.specs.declared.operator.Operator.{Operator}
 use Rattle.pipe_columns.specs.declared.operator.Operator.TheVariants as op
 
@@ -32,7 +32,7 @@ exact_result o a b = None
 
 abbrev pub number_if_any : DataType → Option ℤ → AnyValue
 number_if_any t None = av.Null
-number_if_any t (Some n) = av.Int (wrapped_into t n)
+number_if_any t (Some n) = av.Int (wrapped t n)
 
 -- arithmetic of numbers of a type: the exact result, wrapped once; null where an operand is
 abbrev pub arithmetic : Operator → DataType → AnyValue → AnyValue → AnyValue

@@ -6,7 +6,7 @@ use Rattle.pipe_columns.specs.declared.data_type.DataType.{DataType}
 use Rattle.pipe_columns.specs.declared.data_type.DataType.TheVariants as dt
 use Rattle.pipe_columns.specs.declared.schema.Field.{Field}
 use Rattle.pipe_columns.specs.AnyValue.{fits}
-use Rattle.pipe_columns.specs.DataType.{is_boolean, sum_type}
+use Rattle.pipe_columns.specs.DataType.{is_boolean, is_castable, is_input, is_integer, same_type, sum_type}
 use Rattle.pipe_columns.specs.declared.operator.Operator.{Operator}
 use Rattle.pipe_columns.specs.declared.operator.Operator.TheVariants as op
 use Rattle.pipe_model.specs.Expr.{Aggregation, Expr}
