@@ -5,7 +5,7 @@ use Rattle.std.specs.Int.RustNames.{unsigned_abs}
 use Rattle.pipe_columns.specs.declared.data_type.DataType.{DataType}
 use Rattle.pipe_columns.specs.declared.data_type.DataType.TheVariants as dt
 use Rattle.pipe_columns.specs.AnyValue.{fits_number}
-use Rattle.pipe_columns.specs.DataType.{is_boolean, is_string}
+use Rattle.pipe_columns.specs.DataType.{is_boolean, is_string, wrapped}
 
 -- a number type: the number that a value of it is, a number wrapped into it, and its name
 pub record Native (K : Type 0) : Type 0 where
