@@ -20,7 +20,7 @@ use Rattle.pipe_running.specs.declared.sum.SumAgg.{SumAgg}
 use Rattle.pipe_running.specs.declared.function.AggregateFunction.{AggregateFunction}
 use Rattle.pipe_running.specs.declared.function.AggregateFunction.TheVariants as function
 use Rattle.pipe_model.specs.Aggregate.{exact_sum, present, values_in}
-use Rattle.pipe_columns.specs.DataType.{sum_type}
+use Rattle.pipe_columns.specs.DataType.{has_mean, sum_type}
 use Rattle.pipe_running.specs.Least.{HoldsLeast}
 use Rattle.pipe_running.specs.Mean.{MeanState}
 use Rattle.pipe_running.specs.Pick.{earlier_place, later_place}
