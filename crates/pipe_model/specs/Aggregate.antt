@@ -1,5 +1,5 @@
 -- What an aggregate makes of placed values.
-use Rattle.std.specs.Prelude.{ℕ, ℤ, pos, ◌+ℤ◌, List, [], ◌∷◌, length, map, filter, fold, not, Option, Some, None, if◌then◌else◌}
+use Rattle.std.specs.Prelude.{ℕ, ℤ, pos, ◌+ℤ◌, Bool, true, false, List, [], ◌∷◌, length, map, filter, fold, not, Option, Some, None, if◌then◌else◌}
 use Rattle.std.specs.Ordering.{match_ordering}
 use Rattle.pipe_columns.specs.declared.data_type.DataType.{DataType}
 use Rattle.pipe_columns.specs.declared.data_type.DataType.TheVariants as dt
@@ -64,6 +64,17 @@ halves t values = sum_if_any (present values) ∷ counted (length (present value
 
 abbrev pub values_in : List (Place × AnyValue) → List AnyValue
 values_in entries = map (λ e. e.1) entries
+
+-- whether an aggregate looks at places: the others look at values alone
+abbrev pub reads_places : Kind → Bool
+reads_places kind.sum = false
+reads_places kind.mean = false
+reads_places kind.min = false
+reads_places kind.max = false
+reads_places kind.first = true
+reads_places kind.last = true
+reads_places kind.count = false
+reads_places kind.len = false
 
 -- what an aggregate over values of a type gives, a value for each of its output columns
 abbrev pub agg : Kind → DataType → List (Place × AnyValue) → List AnyValue

@@ -4,6 +4,8 @@ pub mod Typing
 pub mod Value
 pub mod Kind
 pub mod Aggregate
+pub mod Counts
+pub mod Least
 pub mod Query
 pub mod WrittenTree
 pub mod Output

@@ -1,0 +1,6 @@
+pub mod CountFacts
+pub mod LeastFacts
+pub mod PlaceFacts
+pub mod SumFacts
+pub mod MovedFacts
+pub mod AggFacts

@@ -1,0 +1,117 @@
+-- The first and the last entry of a list, and of the same list in another order.
+use Rattle.std.proofs.Common.{◌≡◌, ◌∙◌, false, List, [], ◌∷◌, ◌++◌, map, Option, Some, None, option_map, ◌⊎◌, refl, sym, ap, subst, arith}
+use Rattle.std.specs.declared.cmp.Ordering.{Ordering}
+use Rattle.std.specs.declared.cmp.Ordering.TheVariants.{Less, Equal, Greater}
+use Rattle.std.specs.Cmp.{back_total, IsTotalOrder, nat_cmp_total, on_total, then_total}
+use Rattle.std.specs.FinMap.{nat_cmp-IsAntisymmetric}
+use Rattle.std.specs.List.{All, AllByRecursion, Contains, IsDistinct}
+use Rattle.std.specs.List.Sorted.{IsPermutation}
+use Rattle.std.specs.Ordering.{eq_by_cmp, is_eq, nat_cmp, ordering_then}
+use Rattle.std.proofs.lemmas.Cmp.{tied_back}
+use Rattle.std.proofs.lemmas.List.Elements.{All-cons, All-contains, All-nil, Contains-append_cases, Contains-push_cases}
+use Rattle.std.proofs.lemmas.List.Sorted.{IsPermutation-sym}
+use mathlib.Core.Logic.{inl, inr, ⊎_elim}
+use Rattle.pipe_columns.specs.declared.place.Place.{Place}
+use Rattle.pipe_columns.specs.Place.{DistinctPlaces, earlier, first_entry, last_entry, later, place_cmp}
+use Rattle.pipe_model.specs.Least.{HoldsLeast, IsLeast}
+use Rattle.pipe_model.proofs.LeastFacts.{first_on_ties, holds-moved, holds-unique, least-both, least-one, least-tie, second_on_ties, swapped}
+
+-- ---- the order of places
+
+-- places are in a total order
+pub place_total : IsTotalOrder place_cmp
+place_total = then_total (on_total (λ (p : Place). p.chunk) nat_cmp_total) (on_total (λ (p : Place). p.row) nat_cmp_total)
+
+-- where one order and then another tie, each ties
+pub then_both : (r s : Ordering) → ordering_then r s ≡ Equal → (r ≡ Equal) × (s ≡ Equal)
+then_both Less s e = cc
+then_both Equal s e = (refl, e)
+then_both Greater s e = cc
+
+-- places that tie are the same
+pub place_tie : (p q : Place) → place_cmp p q ≡ Equal → p ≡ q
+place_tie p q e =
+    let parts = then_both (nat_cmp p.chunk q.chunk) (nat_cmp p.row q.row) e in
+    rw (nat_cmp-IsAntisymmetric p.chunk q.chunk parts.0, nat_cmp-IsAntisymmetric p.row q.row parts.1) refl
+
+module _ {V : Type 0} where
+  -- entries by their places, and from the last place on
+  abbrev pub by_place : Place × V → Place × V → Ordering
+  by_place e f = place_cmp e.0 f.0
+
+  abbrev pub from_last : Place × V → Place × V → Ordering
+  from_last e f = place_cmp f.0 e.0
+
+  by_place-total : IsTotalOrder by_place
+  by_place-total = on_total (λ (e : Place × V). e.0) place_total
+
+  from_last-total : IsTotalOrder from_last
+  from_last-total = back_total by_place-total
+
+  -- ---- entries whose places differ
+
+  apart : (p : Place) (xs : List (Place × V)) → AllByRecursion (λ q. eq_by_cmp place_cmp p q ≡ false) (map (λ e. e.0) xs) → All (λ e. eq_by_cmp place_cmp p e.0 ≡ false) xs
+  apart p [] h = All-nil (λ (e : Place × V). eq_by_cmp place_cmp p e.0 ≡ false)
+  apart p (x ∷ xs) h = All-cons (λ (e : Place × V). eq_by_cmp place_cmp p e.0 ≡ false) x xs h.0 (apart p xs h.1)
+
+  head_or_tail : (x : Place × V) (xs : List (Place × V)) (e : Place × V) → Contains (x ∷ xs) e → (x ≡ e) ⊎ Contains xs e
+  head_or_tail x xs e c = ⊎_elim (λ h. ⊎_elim (λ n. absurd (omega (arith, n.1))) inl (Contains-push_cases [] x e h)) inr (Contains-append_cases (x ∷ []) xs e c)
+
+  -- entries at one place are one entry, where no place stands twice
+  pub one_at_a_place : (xs : List (Place × V)) → DistinctPlaces xs → (e f : Place × V) → Contains xs e → Contains xs f → place_cmp e.0 f.0 ≡ Equal → e ≡ f
+  unfolding IsDistinct
+  one_at_a_place [] d e f c g tie = absurd (omega (arith, c.1))
+  one_at_a_place (x ∷ xs) d e f c g tie = both (head_or_tail x xs e c) (head_or_tail x xs f g) (one_at_a_place xs d.1 e f) where
+    far : (z : Place × V) → Contains xs z → place_cmp x.0 z.0 ≡ Equal → e ≡ f
+    far z h t = let not_same = All-contains (λ (w : Place × V). eq_by_cmp place_cmp x.0 w.0 ≡ false) xs z (apart x.0 xs d.0) h in let same = ap is_eq t in cc
+
+    both : (x ≡ e) ⊎ Contains xs e → (x ≡ f) ⊎ Contains xs f → (Contains xs e → Contains xs f → place_cmp e.0 f.0 ≡ Equal → e ≡ f) → e ≡ f
+    both (inl a) (inl b) more = sym a ∙ b
+    both (inl a) (inr b) more = far f b (ap (λ (w : Place × V). place_cmp w.0 f.0) a ∙ tie)
+    both (inr a) (inl b) more = far e a (ap (λ (w : Place × V). place_cmp w.0 e.0) b ∙ tied_back place_total e.0 f.0 tie)
+    both (inr a) (inr b) more = more a b tie
+
+  -- ---- the first entry and the last
+
+  -- the first entry is the one at the least place
+  pub first-holds : (es : List (Place × V)) → HoldsLeast by_place (first_entry es) es
+  first-holds [] = refl
+  first-holds (e ∷ es) = by (first_entry es) (first-holds es) where
+    by : (o : Option (Place × V)) → HoldsLeast by_place o es → IsLeast by_place (earlier e o) (e ∷ es)
+    by None h = subst (λ (l : List (Place × V)). IsLeast by_place e (e ∷ l)) (sym h) (least-one by_place-total e)
+    by (Some f) h = least-both by_place-total (earlier e (Some f)) e f (e ∷ []) es (first_on_ties by_place-total e f) (least-one by_place-total e) h
+
+  -- the last entry is the one at the greatest place
+  pub last-holds : (es : List (Place × V)) → HoldsLeast from_last (last_entry es) es
+  last-holds [] = refl
+  last-holds (e ∷ es) = by (last_entry es) (last-holds es) where
+    by : (o : Option (Place × V)) → HoldsLeast from_last o es → IsLeast from_last (later e o) (e ∷ es)
+    by None h = subst (λ (l : List (Place × V)). IsLeast from_last e (e ∷ l)) (sym h) (least-one from_last-total e)
+    by (Some f) h = least-both from_last-total (later e (Some f)) e f (e ∷ []) es (swapped from_last-total (later e (Some f)) f e (second_on_ties from_last-total f e)) (least-one from_last-total e) h
+
+  -- ---- in another order
+
+  -- where no place stands twice, another order has the same first entry
+  pub first-moved : (xs ys : List (Place × V)) → IsPermutation xs ys → DistinctPlaces xs → first_entry xs ≡ first_entry ys
+  first-moved xs ys moved d =
+      holds-unique by_place-total xs (one_at_a_place xs d) (first_entry xs) (first_entry ys) (first-holds xs)
+      (holds-moved by_place (first_entry ys) ys xs (IsPermutation-sym xs ys moved) (first-holds ys))
+
+  -- and the same last one
+  pub last-moved : (xs ys : List (Place × V)) → IsPermutation xs ys → DistinctPlaces xs → last_entry xs ≡ last_entry ys
+  last-moved xs ys moved d =
+      holds-unique from_last-total xs (λ e f c g t. one_at_a_place xs d e f c g (tied_back place_total f.0 e.0 t)) (last_entry xs) (last_entry ys) (last-holds xs)
+      (holds-moved from_last (last_entry ys) ys xs (IsPermutation-sym xs ys moved) (last-holds ys))
+
+  nothing_there : (xs : List (Place × V)) (x : Place × V) → xs ≡ [] → Contains xs x → ⊥
+  nothing_there xs x e c = let n : Contains [] x = subst (λ (l : List (Place × V)). Contains l x) e c in omega (arith, n.1)
+
+  same_least : (xs : List (Place × V)) (a b : Option (Place × V)) → HoldsLeast by_place a xs → HoldsLeast by_place b xs → option_map (λ e. e.0) a ≡ option_map (λ e. e.0) b
+  same_least xs None None h k = refl
+  same_least xs None (Some f) h k = absurd (nothing_there xs f h k.within)
+  same_least xs (Some e) None h k = absurd (nothing_there xs e k h.within)
+  same_least xs (Some e) (Some f) h k = ap Some (place_tie e.0 f.0 (least-tie by_place-total e f xs h k))
+
+  -- where places may repeat, the place of the first entry is the same
+  pub least_place-moved : (xs ys : List (Place × V)) → IsPermutation xs ys → option_map (λ e. e.0) (first_entry xs) ≡ option_map (λ e. e.0) (first_entry ys)
+  least_place-moved xs ys moved = same_least xs (first_entry xs) (first_entry ys) (first-holds xs) (holds-moved by_place (first_entry ys) ys xs (IsPermutation-sym xs ys moved) (first-holds ys))
