@@ -1,9 +1,9 @@
 -- An aggregate does not depend on the order of its list.
-use Rattle.std.proofs.Common.{◌≡◌, ◌∙◌, ℕ, ℤ, false, true, List, [], ◌∷◌, ◌++◌, length, Some, refl, sym, ap, arith}
+use Rattle.std.proofs.Common.{◌≡◌, ℕ, ℤ, false, true, List, [], ◌∷◌, length, Some, refl, sym, ap, arith}
 use Rattle.std.specs.declared.cmp.Ordering.{Ordering}
 use Rattle.std.specs.declared.cmp.Ordering.TheVariants.{Equal}
 use Rattle.std.specs.Cmp.{back_total, IsTotalOrder}
-use Rattle.std.specs.List.{Contains, fold}
+use Rattle.std.specs.List.{fold}
 use Rattle.std.specs.List.Sorted.{IsPermutation}
 use Rattle.std.specs.Ordering.{flip_args}
 use Rattle.std.proofs.lemmas.List.Sorted.{IsPermutation-map, IsPermutation-sym, length_permutation}

@@ -4,3 +4,5 @@ pub mod PlaceFacts
 pub mod SumFacts
 pub mod MovedFacts
 pub mod AggFacts
+pub mod RowFacts
+pub mod FlagFacts

@@ -1,7 +1,7 @@
 -- Values, entries and rows in which every test counts alike are one list in two orders.
-use Rattle.std.proofs.Common.{◌≡◌, Bool, true, not, List, refl, ap}
+use Rattle.std.proofs.Common.{◌≡◌, not, List, ap}
 use Rattle.std.specs.declared.cmp.Ordering.{Ordering}
-use Rattle.std.specs.declared.cmp.Ordering.TheVariants.{Less, Equal, Greater}
+use Rattle.std.specs.declared.cmp.Ordering.TheVariants.{Equal}
 use Rattle.std.specs.Cmp.{Equal-is, IsTotalOrder, on_total, then_total, tied_itself}
 use Rattle.std.specs.List.Sorted.{IsPermutation}
 use Rattle.std.specs.Ordering.{eq_by_cmp, is_eq, on, then_cmp}

@@ -1,5 +1,5 @@
 -- The first and the last entry of a list, and of the same list in another order.
-use Rattle.std.proofs.Common.{◌≡◌, ◌∙◌, false, List, [], ◌∷◌, ◌++◌, map, Option, Some, None, option_map, ◌⊎◌, refl, sym, ap, subst, arith}
+use Rattle.std.proofs.Common.{◌≡◌, ◌∙◌, false, List, [], ◌∷◌, map, Option, Some, None, option_map, ◌⊎◌, refl, sym, ap, subst, arith}
 use Rattle.std.specs.declared.cmp.Ordering.{Ordering}
 use Rattle.std.specs.declared.cmp.Ordering.TheVariants.{Less, Equal, Greater}
 use Rattle.std.specs.Cmp.{back_total, IsTotalOrder, nat_cmp_total, on_total, then_total}
@@ -13,7 +13,7 @@ use Rattle.std.proofs.lemmas.List.Sorted.{IsPermutation-sym}
 use mathlib.Core.Logic.{inl, inr, ⊎_elim}
 use Rattle.pipe_columns.specs.declared.place.Place.{Place}
 use Rattle.pipe_columns.specs.Place.{DistinctPlaces, earlier, first_entry, last_entry, later, place_cmp}
-use Rattle.pipe_model.specs.Least.{HoldsLeast, IsLeast}
+use Rattle.pipe_model.specs.Least.{by_place, from_last, HoldsLeast, IsLeast}
 use Rattle.pipe_model.proofs.LeastFacts.{first_on_ties, holds-moved, holds-unique, least-both, least-one, least-tie, second_on_ties, swapped}
 
 -- ---- the order of places
@@ -35,17 +35,10 @@ place_tie p q e =
     rw (nat_cmp-IsAntisymmetric p.chunk q.chunk parts.0, nat_cmp-IsAntisymmetric p.row q.row parts.1) refl
 
 module _ {V : Type 0} where
-  -- entries by their places, and from the last place on
-  abbrev pub by_place : Place × V → Place × V → Ordering
-  by_place e f = place_cmp e.0 f.0
-
-  abbrev pub from_last : Place × V → Place × V → Ordering
-  from_last e f = place_cmp f.0 e.0
-
-  by_place-total : IsTotalOrder by_place
+  by_place-total : IsTotalOrder (by_place {V = V})
   by_place-total = on_total (λ (e : Place × V). e.0) place_total
 
-  from_last-total : IsTotalOrder from_last
+  from_last-total : IsTotalOrder (from_last {V = V})
   from_last-total = back_total by_place-total
 
   -- ---- entries whose places differ

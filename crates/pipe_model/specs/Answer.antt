@@ -1,5 +1,6 @@
 -- The groups of rows, and the answer of a query.
-use Rattle.std.specs.Prelude.{ℕ, ◌+◌, List, [], ◌∷◌, ◌++◌, map, Option, Some, None, if◌then◌else◌}
+use Rattle.std.specs.Prelude.{ℕ, ◌+◌, Bool, ◌||◌, List, [], ◌∷◌, ◌++◌, map, Option, Some, None, if◌then◌else◌}
+use Rattle.std.specs.List.{list_any}
 use Rattle.std.specs.declared.cmp.Ordering.{Ordering}
 use Rattle.std.specs.declared.cmp.Ordering.TheVariants.{Less, Equal, Greater}
 use Rattle.std.specs.Ordering.{nat_cmp, ordering_then}
@@ -16,7 +17,7 @@ use Rattle.pipe_columns.specs.Row.{Row}
 use Rattle.pipe_columns.specs.Key.{partition}
 use Rattle.pipe_columns.specs.Groups.{sorted_keys, values_of}
 use Rattle.pipe_columns.specs.Slice.{sliced}
-use Rattle.pipe_model.specs.Aggregate.{agg}
+use Rattle.pipe_model.specs.Aggregate.{agg, reads_places}
 use Rattle.pipe_model.specs.Query.{AggTree, QueryTree}
 use Rattle.pipe_model.specs.Output.{input_type, key_types, output_schema}
 use Rattle.pipe_model.specs.Rows.{rows}
@@ -29,6 +30,7 @@ tuple_cmp a b = slice_cmp value_cmp a b
 abbrev pub Entry : Type 0
 Entry = List AnyValue × (Place × List AnyValue)
 
+-- a row as an entry
 abbrev pub entry_of : Row → Entry
 entry_of r = (r.key, (r.place, r.inputs))
 
@@ -58,19 +60,30 @@ group_cmp q partitions rs a b =
 abbrev pub groups : List Row → QueryTree → ℕ → List (List AnyValue)
 groups rs q partitions = sorted_keys (group_cmp q partitions rs) (map (λ r. r.key) rs)
 
--- the aggregates of some rows, whose inputs begin at place j
+-- what the aggregate at position j is fed by some rows
+abbrev pub inputs_at : ℕ → List (Place × List AnyValue) → List (Place × AnyValue)
+inputs_at j entries = map (λ e. (e.0, value_at e.1 j)) entries
+
+-- the aggregates of some rows, whose inputs begin at position j
 abbrev pub aggs_from : ℕ → List Field → List AggTree → List (Place × List AnyValue) → List AnyValue
 aggs_from j schema [] entries = []
 aggs_from j schema (a ∷ others) entries =
-    agg a.kind (input_type schema a.input) (map (λ e. (e.0, value_at e.1 j)) entries)
+    agg a.kind (input_type schema a.input) (inputs_at j entries)
     ++ aggs_from (j + 1) schema others entries
 
 -- the row of a group: its key, then the aggregates of its rows
 abbrev pub answer_row : QueryTree → List Row → List AnyValue → List AnyValue
 answer_row q rs key = key ++ aggs_from 0 q.schema q.aggs (rows_at rs key)
 
--- the answer of a query over chunks, with so many partitions
-abbrev pub answer : List DataChunk → QueryTree → ℕ → FrameData
-answer chunks q partitions =
-    let rs : List Row = rows chunks q in
+-- the answer of a query over rows, with so many partitions
+abbrev pub answer_of : List Row → QueryTree → ℕ → FrameData
+answer_of rs q partitions =
     frame_of (output_schema q) (map (answer_row q rs) (sliced q.slice (groups rs q partitions)))
+
+-- the answer over chunks is that over their rows
+abbrev pub answer : List DataChunk → QueryTree → ℕ → FrameData
+answer chunks q partitions = answer_of (rows chunks q) q partitions
+
+-- whether an answer looks at places: groups come in order, or an aggregate looks at them
+abbrev pub answer_reads_places : QueryTree → Bool
+answer_reads_places q = q.keeps_order || list_any (λ a. reads_places a.kind) q.aggs

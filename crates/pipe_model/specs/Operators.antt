@@ -1,10 +1,9 @@
 -- What operators and casts make of values.
-use Rattle.std.specs.Prelude.{◌^◌, suc, ℤ, pos, negsuc, neg_ℤ, ◌+ℤ◌, ◌*ℤ◌, ◌-ℤ◌, Bool, true, false, not, Option, Some, None, if◌then◌else◌}
+use Rattle.std.specs.Prelude.{suc, ℤ, pos, negsuc, neg_ℤ, ◌+ℤ◌, ◌*ℤ◌, ◌-ℤ◌, Bool, true, false, not, Option, Some, None, if◌then◌else◌}
 use Rattle.std.specs.declared.cmp.Ordering.{Ordering}
 use Rattle.std.specs.Ordering.{is_eq, is_ne, is_lt, is_le, is_gt, is_ge, int_eq}
-use Rattle.std.specs.Int.{int_div_euclid, int_rem_euclid, int_wrap, w8, w16, w32, w64, w128}
+use Rattle.std.specs.Int.{int_div_euclid}
 use Rattle.pipe_columns.specs.declared.data_type.DataType.{DataType}
-use Rattle.pipe_columns.specs.declared.data_type.DataType.TheVariants as dt
 use Rattle.pipe_columns.specs.declared.any_value.AnyValue.{AnyValue}
 use Rattle.pipe_columns.specs.declared.any_value.AnyValue.TheVariants as av
 use Rattle.pipe_columns.specs.AnyValue.{fits_number, value_cmp}

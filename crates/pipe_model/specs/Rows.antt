@@ -1,10 +1,12 @@
 -- The rows of chunks, as a query sees them.
 use Rattle.std.specs.Prelude.{ℕ, ◌+◌, ◌<◌, ◌^◌, List, [], ◌∷◌, ◌++◌, length, map, sum_by, All}
-use Rattle.std.specs.List.{range_with_len}
+use Rattle.std.specs.List.{IsDistinct, range_with_len}
+use Rattle.std.specs.Ordering.{eq_by_cmp}
 use Rattle.pipe_columns.specs.declared.any_value.AnyValue.{AnyValue}
 use Rattle.pipe_columns.specs.declared.any_value.AnyValue.TheVariants as av
 use Rattle.pipe_columns.specs.declared.data_chunk.DataChunk.{DataChunk}
 use Rattle.pipe_columns.specs.Frame.{FitsSchema, FrameData}
+use Rattle.pipe_columns.specs.Place.{place_cmp}
 use Rattle.pipe_columns.specs.Row.{Row}
 use Rattle.pipe_model.specs.Value.{value}
 use Rattle.pipe_model.specs.Query.{Input, each, rows_alone, QueryTree}
@@ -34,6 +36,10 @@ rows_from q i (c ∷ cs) = chunk_rows q i c.frame ++ rows_from q (i + 1) cs
 -- the rows of chunks, in order
 abbrev pub rows : List DataChunk → QueryTree → List Row
 rows chunks q = rows_from q 0 chunks
+
+-- no place stands twice among rows
+abbrev pub HaveDistinctPlaces : List Row → Type 0
+HaveDistinctPlaces rs = IsDistinct (eq_by_cmp place_cmp) (map (λ r. r.place) rs)
 
 -- how many rows chunks have
 abbrev pub total_height : List DataChunk → ℕ
