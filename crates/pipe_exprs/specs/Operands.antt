@@ -5,7 +5,7 @@ use Rattle.pipe_columns.specs.declared.any_value.AnyValue.TheVariants as av
 use Rattle.pipe_columns.specs.declared.data_type.DataType.{DataType}
 use Rattle.pipe_columns.specs.declared.data_type.DataType.TheVariants as dt
 use Rattle.pipe_columns.specs.AnyValue.{fits}
-use Rattle.pipe_columns.specs.Frame.{AllFit, ColumnData, FrameData, fields_of, value_at}
+use Rattle.pipe_columns.specs.Frame.{ColumnData, FrameData, fields_of, value_at}
 use Rattle.std.specs.List.{All}
 use Rattle.pipe_exprs.specs.declared.expression.AExpr.{AExpr}
 use Rattle.pipe_exprs.specs.declared.expression.Node.{Node}
