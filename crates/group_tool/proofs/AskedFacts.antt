@@ -3,7 +3,7 @@ use Rattle.std.proofs.Common.{◌≡◌, Bool, true, Option, Some, refl, sym, ap
 use Rattle.pipe_aggs.specs.declared.query.Query.{Query}
 use Rattle.pipe_aggs.specs.Faults.{faults_of, first_of, has_nodes}
 use Rattle.pipe_aggs.specs.QueryTrees.{query_tree, written}
-use Rattle.pipe_ends.specs.Files.{Files}
+use Rattle.pipe_io.specs.Files.{Files}
 use Rattle.group_tool.specs.declared.fault.ToolFault.{ToolFault}
 use Rattle.group_tool.specs.declared.fault.ToolFault.TheVariants as fault
 use Rattle.group_tool.specs.Asked.{Asked, query_asks, unless, written_asks}

@@ -1,13 +1,13 @@
 -- The faults of a run, their statuses and their causes.
 use Rattle.std.specs.Prelude.{◌≡◌, ◌⊎◌, ℕ, List, Option, ⊤, Result, Ok, Err}
-use Rattle.pipe_ends.specs.Files.{Files}
+use Rattle.pipe_io.specs.Files.{Files}
 use Rattle.group_tool.specs.declared.fault.ToolFault.{ToolFault}
 use Rattle.group_tool.specs.declared.fault.ToolFault.TheVariants as fault
 use Rattle.group_tool.specs.Asked.{Asked, faulty, no_json, no_query, other_words}
 use Rattle.group_tool.specs.Headline.{IsDue}
 use Rattle.group_tool.specs.Status.{status_line}
-use Rattle.pipe_ends.specs.declared.csv_error.CsvError.{CsvError}
-use Rattle.pipe_ends.specs.declared.csv_error.CsvError.TheVariants as e
+use Rattle.pipe_csv.specs.declared.csv_error.CsvError.{CsvError}
+use Rattle.pipe_csv.specs.declared.csv_error.CsvError.TheVariants as e
 
 -- the exit status of a fault
 abbrev pub status_of : ToolFault → ℕ

@@ -5,10 +5,10 @@ use Rattle.pipe_columns.specs.declared.schema.Field.{Field}
 use Rattle.pipe_columns.specs.declared.data_chunk.DataChunk.{DataChunk}
 use Rattle.pipe_model.specs.Query.{QueryTree}
 use Rattle.pipe_model.specs.Answer.{answer}
-use Rattle.pipe_ends.specs.CsvChunks.{CsvChunks, ReadOptions, csv_chunks, text_rows}
-use Rattle.pipe_ends.specs.Files.{Files, file_of}
-use Rattle.pipe_ends.specs.Output.{WroteFront}
-use Rattle.pipe_ends.specs.Texts.{csv_text}
+use Rattle.pipe_csv.specs.CsvChunks.{CsvChunks, ReadOptions, csv_chunks, text_rows}
+use Rattle.pipe_io.specs.Files.{Files, file_of}
+use Rattle.pipe_io.specs.Output.{WroteFront}
+use Rattle.pipe_csv.specs.Texts.{csv_text}
 use Rattle.group_tool.specs.Asked.{Asked, asks, faulty, no_json, no_query, other_words}
 
 -- the name of the file that is read: standard input

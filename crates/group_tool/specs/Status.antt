@@ -3,7 +3,7 @@ use Rattle.std.specs.Prelude.{ℕ, ◌==◌, Bool, List, [], ◌∷◌, Option, 
 use Rattle.std.specs.List.{list_any}
 use Rattle.std.specs.Io.KnownBytes.{Appends}
 use Rattle.pipe_columns.specs.Causes.{Rose}
-use Rattle.pipe_ends.specs.Output.{WroteFront}
+use Rattle.pipe_io.specs.Output.{WroteFront}
 use Rattle.group_tool.specs.Asked.{Asked, refusal_line}
 
 -- the line that tells a status; a refused query is told by what is asked

@@ -3,7 +3,7 @@
 ghost use Rattle.std.specs.Prelude.{◌≡◌, ◌≢◌};
 ghost use Rattle.std.specs.Io.KnownBytes.{Appends};
 ghost use Rattle.pipe_columns.specs.Causes.{Rose};
-ghost use Rattle.pipe_ends.specs.Output.{WroteFront};
+ghost use Rattle.pipe_io.specs.Output.{WroteFront};
 ghost use Rattle.group_tool.specs.Asked.{faulty, refusal_line};
 ghost use Rattle.group_tool.specs.Faults.{fault_line, status_of};
 

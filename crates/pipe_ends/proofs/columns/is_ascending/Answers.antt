@@ -1,6 +1,0 @@
-use Rattle.std.proofs.Common.{◌-◌, sym, arith}
-use Rattle.pipe_ends.proofs.ColumnFacts.{ascend-end}
-use Rattle.pipe_ends.proofs.columns.is_ascending.Goals as goal
-
-pub returns : goal.returns
-returns c = sym (ascend-end c.args.values.now (c.loop-i.i - 1) c.loop-i.invariant (omega arith))

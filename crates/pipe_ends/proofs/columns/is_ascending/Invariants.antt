@@ -1,7 +1,0 @@
-use Rattle.std.proofs.Common.{◌≡◌, ◌-◌, drop}
-use Rattle.pipe_ends.specs.CsvChunks.{is_ascending}
-use Rattle.pipe_ends.proofs.columns.is_ascending.Given as goal
-
--- the values from the one before this on tell
-abbrev pub invariant-loop-i : goal.invariant-loop-i
-invariant-loop-i l = is_ascending l.values ≡ is_ascending (drop (l.i - 1) l.values)

@@ -1,6 +1,0 @@
-use Rattle.std.proofs.Common.{[], List, ℕ, map, take}
-use Rattle.pipe_ends.specs.Written.{HasWritten}
-use Rattle.pipe_ends.proofs.csv_text.write_header.Given as goal
-
-abbrev pub invariant-loop-column : goal.invariant-loop-column
-invariant-loop-column l = (text : List ℕ) → HasWritten l.fn.writer text [] → HasWritten l.writer text (map (λ c. c.name) (take l.column-index l.columns))

@@ -1,0 +1,15 @@
+use Rattle.std.proofs.Common.{◌≡◌, ◌≤◌, ◌^◌, length, true}
+use Rattle.pipe_io.specs.Files.{IsRead}
+use Rattle.pipe_io.proofs.whole_file.read_file.Given as goal
+
+abbrev pub invariant-loop-turn : goal.invariant-loop-turn
+invariant-loop-turn g l =
+    let input = g.I.InputFiles in
+    record {
+      told : input.told l.input ≡ input.told l.fn.input;
+      started : input.begun l.input ≡ true;
+      later : input.faults l.fn.input ≤ input.faults l.input;
+      read : IsRead (input.told l.fn.input) l.fn.name (input.left l.input) l.bytes.items;
+      turns : l._turn ≤ length l.bytes.items;
+      small : length l.bytes.items ≤ 2 ^ 30;
+    }

@@ -1,0 +1,136 @@
+// Files in memory, which fail at listed calls.
+
+ghost use Rattle.std.specs.Prelude.{◌≡◌, ◌-◌, min, take, drop, ◌<◌, IfSome, IfNone, length, None, Some, List, ℕ, ◌↔◌, OnOk, OnErr, IsErrOf, IsTrue, true, false, []};
+ghost use Rattle.std.specs.Io.{ReadsAtMost};
+ghost use Rattle.std.specs.Io.KnownBytes.{ReadConsumes};
+ghost use Rattle.pipe_columns.specs.Calls.{after_call, is_listed, no_calls};
+ghost use Rattle.pipe_columns.specs.Causes.{HasCause};
+ghost use Rattle.pipe_io.specs.Files.{file_of, HasNone, IsRead};
+ghost use Rattle.pipe_io.specs.MemoryFiles.{begun_of, calls_of, entries, faults_of, left_of, rest_of, told_of};
+ghost use Rattle.pipe_io.specs.declared.input.InputError.TheVariants as input_error;
+
+use pipe_columns::FailingCalls;
+use crate::input::{InputError, InputFiles};
+use pipe_columns::Text;
+
+/// Named bytes, of which one file at a time is read.
+#[derive(Drop)]
+pub struct MemoryFiles {
+    files: Vec<(Text, Vec<u8>)>,
+    calls: FailingCalls,
+    current: Option<usize>,
+    at: usize,
+}
+
+impl MemoryFiles {
+    /// The calls of `begin` and `read` are numbered together from 0, and those listed fail.
+    pub fn new(files: Vec<(Text, Vec<u8>)>, failing: Vec<u64>) -> MemoryFiles
+        ensures told { told_of result ≡ Some (entries files.items) }
+        ensures idle { begun_of result ≡ false }
+        ensures calls { calls_of result ≡ no_calls failing.items }
+    {
+        MemoryFiles {
+            files,
+            calls: FailingCalls::new(failing),
+            current: None,
+            at: 0,
+        }
+    }
+}
+
+impl InputFiles for MemoryFiles {
+    ghost told = { told_of };
+
+    ghost left = { left_of };
+
+    ghost begun = { begun_of };
+
+    ghost faults = { faults_of };
+
+    fn begin(&mut self, name: &Text) -> Result<(), InputError>
+        ensures told { told_of self.new ≡ told_of self.old }
+        ensures started { OnOk result (begun_of self.new ≡ true) }
+        ensures at_start { OnOk result (IsRead (told_of self.old) name.now (left_of self.new) []) }
+        ensures missing { IsErrOf result input_error.NoFile → HasNone (told_of self.old) name.now }
+        ensures no_fault { IsErrOf result input_error.NoFile
+            → faults_of self.new ≡ faults_of self.old }
+        ensures refused { OnErr result (begun_of self.new ≡ false) }
+        ensures cause { HasCause (faults_of self.old) (faults_of self.new)
+            (IsErrOf result input_error.Failed) }
+        ensures fails_exactly { IsErrOf result input_error.Failed
+            ↔ IsTrue (is_listed (calls_of self.old)) }
+        ensures no_memory { IsErrOf result input_error.Memory → ⊥ }
+        ensures calls { calls_of self.new ≡ after_call (calls_of self.old) }
+    {
+        self.current = None;
+        if self.calls.count() {
+            return Err(InputError::Failed);
+        }
+        match place_of(&self.files, name.as_bytes()) {
+            Some(place) => {
+                self.current = Some(place);
+                self.at = 0;
+                Ok(())
+            }
+            None => Err(InputError::NoFile),
+        }
+    }
+
+    fn read(&mut self, into: &mut [u8]) -> Result<usize, InputError>
+        requires started { begun_of self.old ≡ true }
+        requires room { 0 < length into.old }
+        ensures told { told_of self.new ≡ told_of self.old }
+        ensures begun { begun_of self.new ≡ true }
+        ensures bound { ReadsAtMost result into.new }
+        ensures bytes { ReadConsumes (left_of self.old) (left_of self.new) result into.new }
+        ensures found { IsErrOf result input_error.NoFile → ⊥ }
+        ensures cause { HasCause (faults_of self.old) (faults_of self.new)
+            (IsErrOf result input_error.Failed) }
+        ensures fails_exactly { IsErrOf result input_error.Failed
+            ↔ IsTrue (is_listed (calls_of self.old)) }
+        ensures no_memory { IsErrOf result input_error.Memory → ⊥ }
+        ensures calls { calls_of self.new ≡ after_call (calls_of self.old) }
+    {
+        if self.calls.count() {
+            return Err(InputError::Failed);
+        }
+        let Some(place) = self.current else {
+            return Ok(0);
+        };
+        let Some(file) = self.files.get(place) else {
+            return Ok(0);
+        };
+        let count = copy_front(&file.1, self.at, into);
+        self.at += count;
+        Ok(count)
+    }
+}
+
+/// The place of the first file of a name.
+fn place_of(files: &[(Text, Vec<u8>)], name: &[u8]) -> Option<usize>
+    ensures found { IfSome result (λ i. (bytes : List ℕ) × (rest_of files.now 0 i ≡ Some bytes)
+        × (file_of (entries files.now) name.now ≡ Some bytes)) }
+    ensures within { IfSome result (λ i. i < length files.now) }
+    ensures none { IfNone result (file_of (entries files.now) name.now ≡ None) }
+{
+    for (i, file) in files.iter().enumerate() {
+        if file.0.as_bytes() == name {
+            return Some(i);
+        }
+    }
+    None
+}
+
+/// Copies the bytes from a place on, as many as there is room for.
+fn copy_front(bytes: &[u8], at: usize, into: &mut [u8]) -> usize
+    ensures count { result ≡ min (length bytes.now - at) (length into.old) }
+    ensures copied { take result into.new ≡ take result (drop at bytes.now) }
+{
+    if at > bytes.len() {
+        return 0;
+    }
+    let rest = &bytes[at..];
+    let count = rest.len().min(into.len());
+    into[..count].copy_from_slice(&rest[..count]);
+    count
+}

@@ -1,0 +1,66 @@
+// An output in memory, which fails at listed calls.
+
+ghost use Rattle.std.specs.Prelude.{◌≡◌, ◌<◌, ◌≤◌, ◌↔◌, ℕ, List, [], length, IfOk, IsErrOf, IsTrue};
+ghost use Rattle.std.specs.Io.KnownBytes.{WriteAppends};
+ghost use Rattle.pipe_columns.specs.Calls.{after_call, is_listed, no_calls};
+ghost use Rattle.pipe_columns.specs.Causes.{HasCause};
+ghost use Rattle.pipe_io.specs.MemoryOutput.{bytes_of, calls_of, faults_of, told_of};
+ghost use Rattle.pipe_io.specs.declared.output.OutputError.TheVariants as output_error;
+
+use pipe_columns::FailingCalls;
+use crate::output::{Output, OutputError};
+use std::alloc::Global;
+
+/// Bytes in memory, which take each piece whole.
+#[derive(Drop)]
+pub struct MemoryOutput {
+    bytes: Vec<u8>,
+    calls: FailingCalls,
+}
+
+impl MemoryOutput {
+    /// The calls of `write` are numbered from 0, and those listed fail.
+    pub fn new(alloc: Global, failing: Vec<u64>) -> MemoryOutput
+        ensures empty { bytes_of result ≡ [] }
+        ensures calls { calls_of result ≡ no_calls failing.items }
+    {
+        MemoryOutput {
+            bytes: Vec::new(alloc),
+            calls: FailingCalls::new(failing),
+        }
+    }
+
+    /// The bytes that it was given.
+    pub fn bytes(&self) -> &[u8]
+        ensures { result.now ≡ bytes_of self.now }
+    {
+        &self.bytes
+    }
+}
+
+impl Output for MemoryOutput {
+    ghost told = { told_of };
+
+    ghost faults = { faults_of };
+
+    fn write(&mut self, piece: &[u8]) -> Result<usize, OutputError>
+        requires { 0 < length piece.now }
+        ensures some { IfOk result (λ n. 0 < n) }
+        ensures bound { IfOk result (λ n. n ≤ length piece.now) }
+        ensures bytes { WriteAppends (told_of self.old) (told_of self.new) result piece.now }
+        ensures cause { HasCause (faults_of self.old) (faults_of self.new)
+            (IsErrOf result output_error.Failed) }
+        ensures whole { IfOk result (λ n. n ≡ length piece.now) }
+        ensures fails_exactly { IsErrOf result output_error.Failed
+            ↔ IsTrue (is_listed (calls_of self.old)) }
+        ensures calls { calls_of self.new ≡ after_call (calls_of self.old) }
+    {
+        if self.calls.count() {
+            return Err(OutputError::Failed);
+        }
+        match self.bytes.extend_from_slice(piece) {
+            Ok(()) => Ok(piece.len()),
+            Err(_) => Err(OutputError::Memory),
+        }
+    }
+}

@@ -1,0 +1,88 @@
+// The real files, and standard input as `-`.
+
+ghost use Rattle.std.specs.Prelude.{◌≡◌, false};
+ghost use Rattle.pipe_io.specs.RealFiles.{begun_of, faults_of};
+
+use crate::input::{InputError, InputFiles};
+use pipe_columns::Text;
+use std::fs::{self, Files};
+use std::io::{ErrorKind, Read};
+
+/// The files of a runtime, and a reader for the name `-`. It tells none of their bytes.
+#[derive(Drop)]
+pub struct RealFiles<'a, R: Files, S> {
+    rt: &'a R,
+    stdin: S,
+    reads_stdin: bool,
+    file: Option<R::File>,
+    faults: u64,
+}
+
+impl<'a, R: Files, S: Read + Drop> RealFiles<'a, R, S> {
+    /// Nothing is begun. `stdin` is read where `-` is begun, each time from where it stands.
+    pub fn new(rt: &'a R, stdin: S) -> RealFiles<'a, R, S>
+        ensures idle { begun_of result ≡ false }
+        ensures no_fault { faults_of result ≡ 0 }
+    {
+        RealFiles {
+            rt,
+            stdin,
+            reads_stdin: false,
+            file: None,
+            faults: 0,
+        }
+    }
+}
+
+impl<'a, R: Files, S: Read + Drop> InputFiles for RealFiles<'a, R, S> {
+    ghost use Rattle.std.specs.Prelude.{None};
+    ghost use Rattle.pipe_io.specs.RealFiles.{begun_of, faults_of};
+
+    ghost told = { λ s. None };
+
+    ghost left = { λ s. None };
+
+    ghost begun = { begun_of };
+
+    ghost faults = { faults_of };
+
+    fn begin(&mut self, name: &Text) -> Result<(), InputError> {
+        self.file = None;
+        self.reads_stdin = false;
+        if name.as_str() == "-" {
+            self.reads_stdin = true;
+            return Ok(());
+        }
+        match fs::open(self.rt, name.as_str()) {
+            Ok(file) => {
+                self.file = Some(file);
+                Ok(())
+            }
+            Err(error) => match error.kind() {
+                ErrorKind::NotFound => Err(InputError::NoFile),
+                ErrorKind::OutOfMemory => Err(InputError::Memory),
+                _ => {
+                    self.faults = self.faults.saturating_add(1);
+                    Err(InputError::Failed)
+                }
+            },
+        }
+    }
+
+    fn read(&mut self, into: &mut [u8]) -> Result<usize, InputError> {
+        let given = match &mut self.file {
+            Some(file) => file.read(into),
+            None => self.stdin.read(into),
+        };
+        match given {
+            Ok(count) => Ok(count),
+            Err(error) => match error.kind() {
+                ErrorKind::OutOfMemory => Err(InputError::Memory),
+                _ => {
+                    self.faults = self.faults.saturating_add(1);
+                    Err(InputError::Failed)
+                }
+            },
+        }
+    }
+}

@@ -1,0 +1,81 @@
+// A file, read whole.
+
+ghost use Rattle.std.specs.Prelude.{◌≡◌, ◌<◌, ◌≤◌, ◌^◌, ◌+◌, List, ℕ, length, IfOk, IsErrOf, Some};
+ghost use Rattle.pipe_columns.specs.Causes.{HasCause};
+ghost use Rattle.pipe_io.specs.Files.{HasNone, IsLarger, IsWhole};
+ghost use Rattle.pipe_io.specs.declared.whole_file.FileEnd.TheVariants as file_end;
+
+use crate::input::{InputError, InputFiles};
+use pipe_columns::Text;
+use std::alloc::Global;
+
+/// The most bytes that a file may have.
+const MOST_BYTES: usize = 1 << 30;
+
+/// How many bytes are asked for at once.
+const PIECE_BYTES: usize = 1 << 16;
+
+/// Why a file was not read whole.
+#[derive(Clone, Copy, Debug, PartialEq, Eq)]
+pub enum FileEnd {
+    /// No file has the name.
+    Missing,
+    /// The input failed.
+    Failed,
+    /// The file has more than 2^30 bytes.
+    TooLarge,
+    /// Memory ran out.
+    Memory,
+}
+
+/// The end that an error of the input makes.
+fn end_of(error: InputError) -> FileEnd
+    ensures missing { result ≡ file_end.Missing → error ≡ InputError.NoFile }
+    ensures failed { result ≡ file_end.Failed → error ≡ InputError.Failed }
+    ensures large { result ≡ file_end.TooLarge → ⊥ }
+{
+    match error {
+        InputError::NoFile => FileEnd::Missing,
+        InputError::Failed => FileEnd::Failed,
+        InputError::Memory => FileEnd::Memory,
+    }
+}
+
+/// All the bytes of the file of a name, in pieces of 64 KiB. Of a larger file than is read, no
+/// more than the piece that passes the bound is taken.
+pub fn read_file<I: InputFiles>(
+    alloc: Global,
+    input: &mut I,
+    name: &Text,
+) -> Result<Vec<u8>, FileEnd>
+    ensures told { I.told input.new ≡ I.told input.old }
+    ensures bytes { IfOk result (λ v. IsWhole (I.told input.old) name.now v.items) }
+    ensures small { IfOk result (λ v. length v.items ≤ 2 ^ 30) }
+    ensures missing { IsErrOf result file_end.Missing → HasNone (I.told input.old) name.now }
+    ensures no_fault { IsErrOf result file_end.Missing → I.faults input.new ≡ I.faults input.old }
+    ensures large { IsErrOf result file_end.TooLarge
+        → IsLarger (I.told input.old) name.now (2 ^ 30) }
+    ensures cause { HasCause (I.faults input.old) (I.faults input.new)
+        (IsErrOf result file_end.Failed) }
+{
+    if let Err(error) = input.begin(name) {
+        return Err(end_of(error));
+    }
+    let mut bytes = Vec::new(alloc);
+    let mut piece = [0; PIECE_BYTES];
+    for _turn in 0..MOST_BYTES + 1 {
+        match input.read(&mut piece) {
+            Ok(0) => return Ok(bytes),
+            Ok(count) => {
+                if bytes.len() + count > MOST_BYTES {
+                    return Err(FileEnd::TooLarge);
+                }
+                if bytes.extend_from_slice(&piece[..count]).is_err() {
+                    return Err(FileEnd::Memory);
+                }
+            }
+            Err(error) => return Err(end_of(error)),
+        }
+    }
+    Err(FileEnd::TooLarge)
+}
