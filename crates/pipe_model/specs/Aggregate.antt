@@ -27,10 +27,11 @@ exact_sum values = fold (λ sum v. sum +ℤ addend v) (pos 0) values
 abbrev pub present : List AnyValue → List AnyValue
 present values = filter (λ v. not (is_null v)) values
 
--- the lesser of two values, and the greater
+-- the lesser of two values, the first on a tie
 abbrev pub lesser : AnyValue → AnyValue → AnyValue
 lesser a b = match_ordering (value_cmp b a) b a a
 
+-- the greater of two values, the first on a tie
 abbrev pub greater : AnyValue → AnyValue → AnyValue
 greater a b = match_ordering (value_cmp b a) a a b
 
@@ -39,6 +40,7 @@ abbrev pub extreme : (AnyValue → AnyValue → AnyValue) → List AnyValue → 
 extreme choose [] = av.Null
 extreme choose (v ∷ vs) = fold choose v vs
 
+-- a count as a value
 abbrev pub counted : ℕ → AnyValue
 counted n = av.Int (pos n)
 
@@ -62,6 +64,7 @@ abbrev pub halves : DataType → List AnyValue → List AnyValue
 halves dt.String values = av.Null ∷ []
 halves t values = sum_if_any (present values) ∷ counted (length (present values)) ∷ []
 
+-- the values of entries
 abbrev pub values_in : List (Place × AnyValue) → List AnyValue
 values_in entries = map (λ e. e.1) entries
 

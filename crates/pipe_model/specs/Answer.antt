@@ -39,7 +39,8 @@ abbrev pub rows_at : List Row → List AnyValue → List (Place × List AnyValue
 rows_at rs key = values_of tuple_cmp key (map entry_of rs)
 
 -- by the least place where rows have the key; a key without rows comes first
-abbrev pub first_place_cmp : Option (Place × List AnyValue) → Option (Place × List AnyValue) → Ordering
+abbrev pub first_place_cmp :
+    Option (Place × List AnyValue) → Option (Place × List AnyValue) → Ordering
 first_place_cmp None None = Equal
 first_place_cmp None (Some f) = Less
 first_place_cmp (Some e) None = Greater
@@ -48,7 +49,8 @@ first_place_cmp (Some e) (Some f) = place_cmp e.0 f.0
 -- by partition, then by tuple
 abbrev pub partition_cmp : ℕ → List DataType → List AnyValue → List AnyValue → Ordering
 partition_cmp partitions types a b =
-    ordering_then (nat_cmp (partition partitions types a) (partition partitions types b)) (tuple_cmp a b)
+    ordering_then (nat_cmp (partition partitions types a) (partition partitions types b))
+    (tuple_cmp a b)
 
 -- the order of the groups of rows: where the query keeps order, that of their least places
 abbrev pub group_cmp : QueryTree → ℕ → List Row → List AnyValue → List AnyValue → Ordering

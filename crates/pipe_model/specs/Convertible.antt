@@ -37,8 +37,8 @@ keeps (expr.max propagate_nans) t = not propagate_nans && is_some_integer t
 keeps expr.median t = false
 keeps expr.n_unique t = false
 
--- whether an expression is the number of rows, or an aggregate that can be kept of an expression that
--- has a value in each row
+-- whether an expression is the number of rows, or an aggregate that can be kept of values in each
+-- row
 abbrev pub is_kept : Expr → List Field → Bool
 is_kept (expr.column name) schema = false
 is_kept (expr.literal t v) schema = false

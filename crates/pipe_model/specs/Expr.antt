@@ -4,8 +4,8 @@ use Rattle.pipe_columns.specs.declared.data_type.DataType.{DataType}
 use Rattle.pipe_columns.specs.declared.any_value.AnyValue.{AnyValue}
 use Rattle.pipe_columns.specs.declared.operator.Operator.{Operator}
 
--- how an aggregate sums up the values of its input; a count tells whether nulls count, and a least or
--- greatest value whether it propagates numbers that are none
+-- how an aggregate sums up the values of its input; a count tells whether nulls count, and a least
+-- or greatest value whether it propagates numbers that are none
 pub data Aggregation : Type 0 where
   sum : Aggregation
   first : Aggregation
@@ -17,6 +17,7 @@ pub data Aggregation : Type 0 where
   median : Aggregation
   n_unique : Aggregation
 
+-- an expression over the columns of a frame
 pub data Expr : Type 0 where
   -- the column of a name
   column : List ℕ → Expr

@@ -20,8 +20,8 @@ abbrev pub is_fed : List Field → Input → Bool
 is_fed schema (each e) = is_valued schema e
 is_fed schema rows_alone = true
 
--- whether a table of groups can keep an aggregate of a kind over values of a type: sums and means of
--- dates are refused, and a least or greatest value is one of integers
+-- whether a table of groups can keep a kind over values of a type: no sum or mean of dates, and a
+-- least or greatest value of integers alone
 abbrev pub suited : Kind → DataType → Bool
 suited kind.sum t = is_input t && not (is_date t)
 suited kind.mean t = is_input t && not (is_date t)

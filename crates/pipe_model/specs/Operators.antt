@@ -29,6 +29,7 @@ exact_result op.FloorDivide a b = where_divisible b (floor_quotient a b)
 exact_result op.Modulus a b = where_divisible b (a -ℤ b *ℤ floor_quotient a b)
 exact_result o a b = None
 
+-- a number wrapped into a type, null for none
 abbrev pub number_if_any : DataType → Option ℤ → AnyValue
 number_if_any t None = av.Null
 number_if_any t (Some n) = av.Int (wrapped t n)
@@ -78,7 +79,7 @@ apply op.Or t a b = or_values a b
 abbrev pub truth_number : Bool → ℤ
 truth_number b = if b then pos 1 else pos 0
 
--- a value in another type: a truth is 1 or 0, a number is true where it isn't 0, and one that is out of
+-- a value in another type: a truth is 1 or 0, a number is true where it isn't 0, and one out of
 -- range is null
 abbrev pub cast_value : DataType → AnyValue → AnyValue
 cast_value t av.Null = av.Null

@@ -16,6 +16,7 @@ abbrev pub input_type : List Field → Input → DataType
 input_type schema (each e) = known_type e schema
 input_type schema rows_alone = dt.UInt32
 
+-- the types of the keys
 abbrev pub key_types : QueryTree → List DataType
 key_types q = map (λ e. known_type e q.schema) q.keys
 

@@ -9,6 +9,7 @@ pub data Input : Type 0 where
   each : Expr → Input
   rows_alone : Input
 
+-- an aggregate: the name of its columns, its kind, and what it is fed
 pub record AggTree : Type 0 where
   pub name : List ℕ
   pub kind : Kind
@@ -23,8 +24,8 @@ pub record QueryTree : Type 0 where
   pub slice : Option (ℕ × ℕ)
   pub keeps_order : Bool
 
--- a query as it is written: its expressions stand whole, with the aggregates' names and kinds, and the
--- slice may begin below the first group
+-- a query as it is written: its aggregates stand as expressions, with their names and kinds, and
+-- its slice may begin below the first group
 pub record WrittenQuery : Type 0 where
   pub schema : List Field
   pub keys : List Expr

@@ -45,7 +45,7 @@ HaveDistinctPlaces rs = IsDistinct (eq_by_cmp place_cmp) (map (λ r. r.place) rs
 abbrev pub total_height : List DataChunk → ℕ
 total_height chunks = sum_by (λ c. c.frame.height) chunks
 
--- chunks that a query may be asked of: each has the columns of its schema, and their rows have places
+-- chunks that a query may be asked of: each has the columns of its schema, and rows have places
 pub record AreChunksOf (q : QueryTree) (chunks : List DataChunk) : Type 0 where
   pub columns : All (λ c. FitsSchema q.schema c.frame) chunks
   pub rows : total_height chunks < 2 ^ 32

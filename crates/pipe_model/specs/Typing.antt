@@ -62,7 +62,8 @@ aggregate_type expr.median t = t
 aggregate_type expr.n_unique t = dt.UInt32
 
 -- what two types make, where both are there
-abbrev pub both : (DataType → DataType → Option DataType) → Option DataType → Option DataType → Option DataType
+abbrev pub both :
+    (DataType → DataType → Option DataType) → Option DataType → Option DataType → Option DataType
 both f a b = option_and_then (λ t. option_and_then (λ u. f t u) b) a
 
 -- the type of what follows a Boolean
@@ -74,10 +75,12 @@ abbrev pub type_of : Expr → List Field → Option DataType
 type_of (expr.column name) schema = option_map (λ f. f.dtype) (field_named name schema)
 type_of (expr.literal t v) schema = if is_input t && fits v t then Some t else None
 type_of (expr.cast e t) schema =
-    option_and_then (λ u. if is_castable u && is_castable t then Some t else None) (type_of e schema)
+    option_and_then (λ u. if is_castable u && is_castable t then Some t else None)
+    (type_of e schema)
 type_of (expr.binary l o r) schema = both (operator_type o) (type_of l schema) (type_of r schema)
 type_of (expr.ternary p truthy falsy) schema =
-    where_boolean (type_of p schema) (both (shared_type (λ t. true)) (type_of truthy schema) (type_of falsy schema))
+    where_boolean (type_of p schema)
+    (both (shared_type (λ t. true)) (type_of truthy schema) (type_of falsy schema))
 type_of (expr.alias e name) schema = type_of e schema
 type_of (expr.aggregate a e) schema =
     option_and_then (λ t. if is_input t then Some (aggregate_type a t) else None) (type_of e schema)
@@ -103,7 +106,7 @@ knows_columns expr.len schema = true
 knows_columns (expr.filter e by) schema = knows_columns e schema && knows_columns by schema
 knows_columns (expr.sort e) schema = knows_columns e schema
 
--- whether an expression has a value in each row: it reaches no aggregate, count of rows, filter or sort
+-- whether an expression has a value in each row: it reaches no aggregate, `len`, filter or sort
 abbrev pub is_row_wise : Expr → Bool
 is_row_wise (expr.column name) = true
 is_row_wise (expr.literal t v) = true

@@ -14,13 +14,15 @@ use Rattle.pipe_model.specs.Value.{value}
 abbrev pub field : List ℕ → DataType → Field
 field name t = record { name = name; dtype = t }
 
--- a number of Int8, a number of Int64, and a truth
+-- a number of Int8
 abbrev pub small : ℤ → Expr
 small n = expr.literal dt.Int8 (av.Int n)
 
+-- a number of Int64
 abbrev pub large : ℤ → Expr
 large n = expr.literal dt.Int64 (av.Int n)
 
+-- a truth
 abbrev pub truth : Bool → Expr
 truth b = expr.literal dt.Boolean (av.Boolean b)
 

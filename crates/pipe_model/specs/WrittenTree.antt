@@ -24,6 +24,7 @@ abbrev pub agg_named : List ℕ → Expr → AggTree
 agg_named name (expr.aggregate a e) = record { name = name; kind = kept_kind a; input = each e }
 agg_named name e = record { name = name; kind = kind.len; input = rows_alone }
 
+-- the aggregate that an expression is
 abbrev pub agg_tree : Expr → AggTree
 agg_tree e = agg_named (name_of e) (unaliased e)
 

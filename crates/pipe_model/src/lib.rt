@@ -5,4 +5,6 @@ mod laws;
 mod worked;
 mod worked_aggs;
 mod worked_exprs;
+mod worked_order;
 mod worked_output;
+mod worked_query;

@@ -1,11 +1,12 @@
 //! Worked rows, as laws over the definitions: each holds by computation.
 
-ghost use Rattle.std.specs.Prelude.{◌≡◌, ◌∷◌, [], false, true, negsuc, codes};
+ghost use Rattle.std.specs.Prelude.{◌≡◌, ◌+◌, ◌%◌, ◌∷◌, [], false, true, negsuc, map, codes};
 ghost use Rattle.std.specs.List.{range_with_len};
 ghost use Rattle.pipe_columns.specs.declared.data_type.DataType.TheVariants as dt;
 ghost use Rattle.pipe_columns.specs.declared.any_value.AnyValue.TheVariants as av;
+ghost use Rattle.pipe_columns.specs.Key.{partition};
 ghost use Rattle.pipe_model.specs.Answer.{answer};
-ghost use Rattle.pipe_model.specs.Worked.{all_kinds, both_sums, by_key, chunk_of, each_with_one, in_order, int, numbers, shown, sum_alone, sum_and_count, sum_and_mean, sum_min_mean, text, with_slice};
+ghost use Rattle.pipe_model.specs.Worked.{all_kinds, both_sums, by_key, chunk_of, chunks_of, first_and_last, int, numbers, shown, sum_alone, sum_and_count, sum_and_mean, sum_min_mean, text};
 
 /// Keys 1, 2, 1 with values 5, 6, 7.
 pub fn sums_and_counts()
@@ -33,6 +34,12 @@ pub fn two_partitions()
         ((int 1 ∷ int 10 ∷ []) ∷ (int 2 ∷ int 20 ∷ []) ∷ (int 3 ∷ int 30 ∷ []) ∷ (int 4 ∷ int 40 ∷ []) ∷ []))
         (by_key dt.Int64 dt.Int64 sum_alone) 2)
         ≡ numbers (1 ∷ 3 ∷ 2 ∷ 4 ∷ []) ∷ numbers (10 ∷ 30 ∷ 20 ∷ 40 ∷ []) ∷ [] }
+{}
+
+/// Of two partitions a number from 0 to 255 lies in the one of its successor's parity.
+pub fn partitions_of_numbers()
+    ensures { map (λ k. partition 2 (dt.Int64 ∷ []) (int k ∷ [])) (range_with_len 0 256)
+        ≡ map (λ k. (k + 1) % 2) (range_with_len 0 256) }
 {}
 
 /// Null is a key like others, and the least.
@@ -114,39 +121,27 @@ pub fn text_has_no_sum()
         ≡ (int 1 ∷ []) ∷ (av.Null ∷ []) ∷ (av.Null ∷ []) ∷ [] }
 {}
 
-/// Of two partitions with the keys 0 to 10, the groups 3 to 6.
-pub fn slice_across_partitions()
-    ensures { shown (answer (chunk_of dt.Int64 dt.Int64 (each_with_one (range_with_len 0 11)))
-        (with_slice 3 4 (by_key dt.Int64 dt.Int64 [])) 2)
-        ≡ numbers (7 ∷ 9 ∷ 0 ∷ 2 ∷ []) ∷ [] }
+/// First and last go by places, over the chunks.
+pub fn first_and_last_of_chunks()
+    ensures { shown (answer (chunks_of dt.Int64 dt.Int64
+        (((int 1 ∷ int 3 ∷ []) ∷ (int 4 ∷ int 7 ∷ []) ∷ [])
+        ∷ ((int 1 ∷ int 5 ∷ []) ∷ (int 4 ∷ int 9 ∷ []) ∷ []) ∷ []))
+        (by_key dt.Int64 dt.Int64 first_and_last) 1)
+        ≡ numbers (1 ∷ 4 ∷ []) ∷ numbers (3 ∷ 7 ∷ []) ∷ numbers (5 ∷ 9 ∷ []) ∷ [] }
 {}
 
-/// A slice may reach past the last group.
-pub fn slice_past_the_end()
-    ensures { shown (answer (chunk_of dt.Int64 dt.Int64 (each_with_one (range_with_len 1 5)))
-        (with_slice 2 10 (by_key dt.Int64 dt.Int64 [])) 1)
-        ≡ numbers (3 ∷ 4 ∷ 5 ∷ []) ∷ [] }
+/// A chunk without rows changes nothing.
+pub fn chunk_without_rows()
+    ensures { shown (answer (chunks_of dt.Int64 dt.Int64
+        (((int 1 ∷ int 5 ∷ []) ∷ []) ∷ [] ∷ ((int 1 ∷ int 6 ∷ []) ∷ []) ∷ []))
+        (by_key dt.Int64 dt.Int64 sum_and_count) 2)
+        ≡ numbers (1 ∷ []) ∷ numbers (11 ∷ []) ∷ numbers (2 ∷ []) ∷ [] }
 {}
 
-/// A slice behind the last group is empty.
-pub fn slice_of_nothing()
-    ensures { shown (answer (chunk_of dt.Int64 dt.Int64 (each_with_one (range_with_len 0 11)))
-        (with_slice 11 1 (by_key dt.Int64 dt.Int64 [])) 2)
-        ≡ [] ∷ [] }
-{}
-
-/// Kept order is that of the first rows, whatever the partitions.
-pub fn order_of_first_rows()
+/// Keys may come in any order, nulls among them.
+pub fn keys_in_any_order()
     ensures { shown (answer (chunk_of dt.Int64 dt.Int64
-        ((int 4 ∷ int 1 ∷ []) ∷ (int 1 ∷ int 2 ∷ []) ∷ (int 2 ∷ int 3 ∷ []) ∷ (int 1 ∷ int 4 ∷ []) ∷ []))
-        (in_order (by_key dt.Int64 dt.Int64 sum_alone)) 2)
-        ≡ numbers (4 ∷ 1 ∷ 2 ∷ []) ∷ numbers (1 ∷ 6 ∷ 3 ∷ []) ∷ [] }
-{}
-
-/// A slice of kept order.
-pub fn slice_of_kept_order()
-    ensures { shown (answer (chunk_of dt.Int64 dt.Int64
-        ((int 4 ∷ int 1 ∷ []) ∷ (int 1 ∷ int 2 ∷ []) ∷ (int 2 ∷ int 3 ∷ []) ∷ (int 1 ∷ int 4 ∷ []) ∷ []))
-        (with_slice 1 1 (in_order (by_key dt.Int64 dt.Int64 sum_alone))) 2)
-        ≡ numbers (1 ∷ []) ∷ numbers (6 ∷ []) ∷ [] }
+        ((int 2 ∷ int 1 ∷ []) ∷ (int 2 ∷ int 2 ∷ []) ∷ (av.Null ∷ int 3 ∷ []) ∷ (int 1 ∷ int 4 ∷ []) ∷ []))
+        (by_key dt.Int64 dt.Int64 sum_alone) 1)
+        ≡ (av.Null ∷ int 1 ∷ int 2 ∷ []) ∷ numbers (3 ∷ 4 ∷ 3 ∷ []) ∷ [] }
 {}
