@@ -1,0 +1,49 @@
+-- A run, and the rows that it hands to each worker.
+use Rattle.std.specs.Prelude.{ℕ, Bool, true, false, ◌==◌, ◌%◌, List, Option, is_some}
+use Rattle.std.specs.List.{filter}
+use Rattle.pipe_columns.specs.declared.data_chunk.DataChunk.{DataChunk}
+use Rattle.pipe_columns.specs.Row.{Row}
+use Rattle.pipe_model.specs.Query.{QueryTree}
+use Rattle.pipe_model.specs.Rows.{rows}
+use Rattle.pipe_plan.specs.declared.event.SpillAction.{SpillAction}
+use Rattle.pipe_plan.specs.declared.limits.Limits.{Limits}
+use Rattle.pipe_plan.specs.declared.limits.SinkKind.{SinkKind}
+use Rattle.pipe_plan.specs.declared.limits.SinkKind.TheVariants as sink_kind
+
+-- a store as a run finds it: how many frames it holds, which where it tells, its faults, and if it is sure
+pub record StoreSeen : Type 0 where
+  pub held : ℕ
+  pub told : Option (List (List ℕ))
+  pub faults : ℕ
+  pub sure : Bool
+
+-- whether a store tells its frames
+abbrev pub tells : StoreSeen → Bool
+tells s = is_some s.told
+
+-- the chunks fed so far, query, limits, each worker's actions, if more chunks may follow, and the stores
+pub record Run : Type 0 where
+  pub chunks : List DataChunk
+  pub query : QueryTree
+  pub limits : Limits
+  pub actions : List (List SpillAction)
+  pub is_open : Bool
+  pub stores : List StoreSeen
+
+-- whether what a worker doesn't keep overflows: a typed sink keeps all
+abbrev pub is_generic : SinkKind → Bool
+is_generic sink_kind.Generic = true
+is_generic sink_kind.Primitive = false
+is_generic sink_kind.Text = false
+
+-- the rows of a run, in order
+abbrev pub all_rows : Run → List Row
+all_rows r = rows r.chunks r.query
+
+-- whether the chunk at a position is a worker's: its position modulo the workers is the worker
+abbrev pub is_turn_of : Run → ℕ → ℕ → Bool
+is_turn_of r w i = i % r.limits.workers == w
+
+-- the rows of a worker's chunks, in order
+abbrev pub of_worker : Run → ℕ → List Row
+of_worker r w = filter (λ x. is_turn_of r w x.place.chunk) (all_rows r)
