@@ -4,9 +4,8 @@ use Rattle.pipe_columns.specs.declared.data_chunk.DataChunk.{DataChunk}
 use Rattle.pipe_columns.specs.declared.data_type.DataType.TheVariants as dt
 use Rattle.pipe_columns.specs.Frame.{frame_of}
 use Rattle.pipe_columns.specs.Row.{Row}
-use Rattle.pipe_model.specs.Kind as kind
 use Rattle.pipe_model.specs.Query.{QueryTree}
-use Rattle.pipe_model.specs.Worked.{agg_of, by_key, int, key_value, sum_alone, text}
+use Rattle.pipe_model.specs.Worked.{by_key, first_and_last, int, key_value, sum_alone, text}
 use Rattle.pipe_plan.specs.declared.event.SpillAction.{SpillAction}
 use Rattle.pipe_plan.specs.declared.event.SpillAction.TheVariants as action
 use Rattle.pipe_plan.specs.declared.limits.Limits.{Limits}
@@ -78,8 +77,7 @@ typed_keys = record (one_spill 0) { limits = record (generic 1 1 0 1 0) { sink =
 -- two workers with a chunk each: keys 1, 4 with values 3, 7, and 1, 4 with 5, 9
 abbrev pub two_workers : Run
 two_workers =
-    run_of (by_key dt.Int64 dt.Int64 (agg_of (codes "f") kind.first ∷ agg_of (codes "l") kind.last ∷ []))
-    (generic 2 1 0 1 64) ([] ∷ [] ∷ [])
+    run_of (by_key dt.Int64 dt.Int64 first_and_last) (generic 2 1 0 1 64) ([] ∷ [] ∷ [])
     (numbers_chunk ((1, 3) ∷ (4, 7) ∷ []) ∷ numbers_chunk ((1, 5) ∷ (4, 9) ∷ []) ∷ [])
 
 -- two partitions: a chunk with key 1, one without rows, and one with key 1; a dump follows the last two
