@@ -1,18 +1,10 @@
 -- Columns that are changed one by one.
-use Rattle.std.proofs.Common.{◌≡◌, ◌∙◌, ◌+◌, ◌-◌, ◌<◌, ◌≤◌, ◌&&◌, ◌==◌, ℕ, zero, suc, min, Bool, true, false, List, [], ◌∷◌, ◌++◌, map, length, take, drop, get_or, set, refl, ap, arith, sym, take_all, Some}
+use Rattle.std.proofs.Common.{◌≡◌, ◌∙◌, ◌+◌, ◌-◌, ◌<◌, ◌≤◌, ◌==◌, ℕ, zero, suc, min, true, false, List, [], ◌∷◌, ◌++◌, map, length, take, drop, get_or, set, refl, ap, arith, sym, take_all}
 use Rattle.std.proofs.Math.Seq.{get_or-append_seam}
-use Rattle.std.proofs.lemmas.Bool.{eq-eqb, eqb-true}
+use Rattle.std.proofs.lemmas.Bool.{and_parts, eq-eqb, eqb-true}
 use Rattle.std.proofs.lemmas.List.{append-nil, append_assoc, drop_all, length-append, length-drop, length-take, length-map, set-get_or, take-append-le}
-use Rattle.pipe_columns.specs.declared.any_value.AnyValue.{AnyValue}
-use Rattle.pipe_columns.specs.declared.data_type.DataType.{DataType}
-use Rattle.pipe_columns.specs.AnyValue.{fits}
-use Rattle.pipe_columns.specs.Frame.{all_fit, all_have_height, appended, appended_all, ColumnData, columns_from, field_of, fields_of, sliced_column, truncated, unsorted}
+use Rattle.pipe_columns.specs.Frame.{all_have_height, appended, appended_all, ColumnData, columns_from, field_of, fields_of, sliced_column, truncated, unsorted}
 use Rattle.pipe_columns.specs.declared.schema.Field.{Field}
-use Rattle.pipe_columns.specs.Slice.{sliced}
-
-pub and_halves : (a b : Bool) → (a && b) ≡ true → (a ≡ true) × (b ≡ true)
-and_halves true b e = (refl, e)
-and_halves false b e = cc e
 
 -- a list with its first k elements changed
 abbrev pub changed : {X : Type 0} → (X → X) → ℕ → List X → List X
@@ -64,7 +56,7 @@ appended_more ds [] d c lt = absurd (omega arith)
 appended_more [] (x ∷ cs) d c lt = refl
 appended_more (e ∷ ds) (x ∷ cs) d c lt = ap (λ ys. appended x e ∷ ys) (appended_more ds cs d c (omega (arith, lt)))
 
-first_same : {X : Type 0} (x y : X) (xs ys : List X) → x ∷ xs ≡ y ∷ ys → x ≡ y
+pub first_same : {X : Type 0} (x y : X) (xs ys : List X) → x ∷ xs ≡ y ∷ ys → x ≡ y
 first_same x y xs ys e = cc e
 
 -- the fields' types, one by one
@@ -75,35 +67,17 @@ dtype_get (x ∷ ds) [] k c d e lt = cc e
 dtype_get (x ∷ ds) (y ∷ cs) zero c d e lt = ap (λ f. f.dtype) (first_same (field_of x) (field_of y) (fields_of ds) (fields_of cs) e)
 dtype_get (x ∷ ds) (y ∷ cs) (suc k) c d e lt = dtype_get ds cs k c d (cc e) (omega arith)
 
--- values that fit still fit where some are dropped
-pub fit_take : (t : DataType) (n : ℕ) (values : List AnyValue) → all_fit t values ≡ true → all_fit t (take n values) ≡ true
-fit_take t zero values e = refl
-fit_take t (suc n) [] e = refl
-fit_take t (suc n) (v ∷ values) e =
-    let both = and_halves (fits v t) (all_fit t values) e in
-    rw both.0 (fit_take t n values both.1)
-
-pub fit_drop : (t : DataType) (n : ℕ) (values : List AnyValue) → all_fit t values ≡ true → all_fit t (drop n values) ≡ true
-fit_drop t zero values e = e
-fit_drop t (suc n) [] e = refl
-fit_drop t (suc n) (v ∷ values) e = fit_drop t n values (and_halves (fits v t) (all_fit t values) e).1
-
--- values that fit still fit in a slice
-pub fit_slice : (t : DataType) (offset len : ℕ) (values : List AnyValue) → all_fit t values ≡ true
-    → all_fit t (sliced (Some (offset, len)) values) ≡ true
-fit_slice t offset len values e = fit_take t len (drop offset values) (fit_drop t offset values e)
-
 -- columns of a height that are cut to it are as before
 pub cut_back : (n : ℕ) (ds cs : List ColumnData) → all_have_height n cs ≡ true → map (truncated n) (appended_all ds cs) ≡ cs
 cut_back n [] [] e = refl
 cut_back n (d ∷ ds) [] e = refl
 cut_back n [] (c ∷ cs) e =
-    let both = and_halves (length c.values == n) (all_have_height n cs) e in
+    let both = and_parts (length c.values == n) (all_have_height n cs) e in
     let tall : length c.values ≡ n = eqb-true (length c.values) n both.0 in
     let here : truncated n c ≡ c = ap (λ vs. record c { values = vs }) (take_all n c.values (omega (arith, tall))) in
     rw here (ap (λ xs. c ∷ xs) (cut_back n [] cs both.1))
 cut_back n (d ∷ ds) (c ∷ cs) e =
-    let both = and_halves (length c.values == n) (all_have_height n cs) e in
+    let both = and_parts (length c.values == n) (all_have_height n cs) e in
     let tall : length c.values ≡ n = eqb-true (length c.values) n both.0 in
     let kept : take n (c.values ++ d.values) ≡ c.values =
     take-append-le n c.values d.values (omega (arith, tall)) ∙ take_all n c.values (omega (arith, tall)) in
@@ -174,7 +148,7 @@ pub sliced_height : (h offset len : ℕ) (cs : List ColumnData) → all_have_hei
     → all_have_height (min len (h - offset)) (map (sliced_column offset len) cs) ≡ true
 sliced_height h offset len [] e = refl
 sliced_height h offset len (c ∷ cs) e =
-    let both = and_halves (length c.values == h) (all_have_height h cs) e in
+    let both = and_parts (length c.values == h) (all_have_height h cs) e in
     let tall : length c.values ≡ h = eqb-true (length c.values) h both.0 in
     let left : length (drop offset c.values) ≡ length c.values - offset = length-drop offset c.values in
     let kept : length (take len (drop offset c.values)) ≡ min len (length (drop offset c.values)) = length-take len (drop offset c.values) in
@@ -188,8 +162,8 @@ stacked_height h g [] [] same e f = refl
 stacked_height h g [] (c ∷ cs) same e f = cc same
 stacked_height h g (d ∷ ds) [] same e f = refl
 stacked_height h g (d ∷ ds) (c ∷ cs) same e f =
-    let tall = and_halves (length c.values == h) (all_have_height h cs) e in
-    let more = and_halves (length d.values == g) (all_have_height g ds) f in
+    let tall = and_parts (length c.values == h) (all_have_height h cs) e in
+    let more = and_parts (length d.values == g) (all_have_height g ds) f in
     let high : length c.values ≡ h = eqb-true (length c.values) h tall.0 in
     let low : length d.values ≡ g = eqb-true (length d.values) g more.0 in
     let here : length (c.values ++ d.values) ≡ h + g = omega (arith, high, low, length-append c.values d.values) in

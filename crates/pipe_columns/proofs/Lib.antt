@@ -1,2 +1,3 @@
 pub mod ValueOrder
 pub mod FrameFacts
+pub mod TypeFacts

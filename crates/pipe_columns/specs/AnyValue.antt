@@ -1,5 +1,5 @@
 -- Which values a type has, and the order of values.
-use Rattle.std.specs.Prelude.{◌^◌, ℕ, ℤ, pos, negsuc, Bool, true, false, nat_lt}
+use Rattle.std.specs.Prelude.{◌^◌, ℕ, ℤ, pos, negsuc, Bool, true, false, nat_lt, ⊤, IsUtf8}
 use Rattle.std.specs.declared.cmp.Ordering.{Ordering}
 use Rattle.std.specs.Ordering.{nat_cmp, int_cmp, bool_cmp}
 use Rattle.std.specs.Cmp.Lexicographic.{slice_cmp}
@@ -40,6 +40,13 @@ fits av.Null t = true
 fits (av.Boolean b) t = is_boolean t
 fits (av.Int n) t = fits_number n t
 fits (av.Text s) t = is_string t
+
+-- a text is in UTF-8, as each text of a program is
+abbrev pub HasUtf8 : AnyValue → Type 0
+HasUtf8 av.Null = ⊤
+HasUtf8 (av.Boolean b) = ⊤
+HasUtf8 (av.Int n) = ⊤
+HasUtf8 (av.Text s) = IsUtf8 s
 
 -- whether a value is the null
 abbrev pub is_null : AnyValue → Bool

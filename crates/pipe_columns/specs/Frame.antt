@@ -5,28 +5,39 @@ use Rattle.pipe_columns.specs.declared.data_type.DataType.{DataType}
 use Rattle.pipe_columns.specs.declared.any_value.AnyValue.{AnyValue}
 use Rattle.pipe_columns.specs.declared.any_value.AnyValue.TheVariants as av
 use Rattle.pipe_columns.specs.declared.schema.Field.{Field}
-use Rattle.pipe_columns.specs.AnyValue.{fits}
+use Rattle.pipe_columns.specs.AnyValue.{fits, HasUtf8}
 use Rattle.pipe_columns.specs.Slice.{sliced}
 
+-- a column: a name, a type, a flag of whoever made it, and values
 pub record ColumnData : Type 0 where
   pub name : List ℕ
   pub dtype : DataType
   pub sorted : Bool
   pub values : List AnyValue
 
+-- a frame: how many rows it has, and columns of so many values
 pub record FrameData : Type 0 where
   pub height : ℕ
   pub columns : List ColumnData
 
+-- whether all values fit a type
 abbrev pub all_fit : DataType → List AnyValue → Bool
 all_fit t values = list_all (λ v. fits v t) values
 
+-- all values fit a type
 abbrev pub AllFit : DataType → List AnyValue → Type 0
 AllFit t values = all_fit t values ≡ true
 
+-- what a column keeps of its values: each fits the type, and each text is in UTF-8
+pub record AreOfType (t : DataType) (values : List AnyValue) : Type 0 where
+  pub fit : AllFit t values
+  pub utf8 : All HasUtf8 values
+
+-- whether all columns have so many values
 abbrev pub all_have_height : ℕ → List ColumnData → Bool
 all_have_height n columns = list_all (λ c. length c.values == n) columns
 
+-- all columns have so many values
 abbrev pub AllHaveHeight : ℕ → List ColumnData → Type 0
 AllHaveHeight n columns = all_have_height n columns ≡ true
 
@@ -34,6 +45,7 @@ AllHaveHeight n columns = all_have_height n columns ≡ true
 abbrev pub field_of : ColumnData → Field
 field_of c = record { name = c.name; dtype = c.dtype }
 
+-- the fields of columns
 abbrev pub fields_of : List ColumnData → List Field
 fields_of columns = map field_of columns
 
@@ -49,8 +61,12 @@ value_at values i = unwrap_or (slice_get values i) av.Null
 abbrev pub columns_from : ℕ → List Field → List (List AnyValue) → List ColumnData
 columns_from i [] rows = []
 columns_from i (f ∷ fs) rows =
-    record { name = f.name; dtype = f.dtype; sorted = false; values = map (λ row. value_at row i) rows }
-    ∷ columns_from (i + 1) fs rows
+    record {
+      name = f.name;
+      dtype = f.dtype;
+      sorted = false;
+      values = map (λ row. value_at row i) rows;
+    } ∷ columns_from (i + 1) fs rows
 
 -- the frame of a schema with these rows
 abbrev pub frame_of : List Field → List (List AnyValue) → FrameData
@@ -96,10 +112,20 @@ sliced_frame offset len f = record {
   columns = map (sliced_column offset len) f.columns;
 }
 
--- the columns of a frame fit their types
+-- the values of columns fit their types
 abbrev pub ColumnsFit : List ColumnData → Type 0
 ColumnsFit columns = All (λ c. AllFit c.dtype c.values) columns
 
--- each value of a frame fits its column's type, as it does of every frame
-abbrev pub HoldsTypes : FrameData → Type 0
-HoldsTypes frame = ColumnsFit frame.columns
+-- the texts in columns are in UTF-8
+abbrev pub ColumnsHaveUtf8 : List ColumnData → Type 0
+ColumnsHaveUtf8 columns = All (λ c. All HasUtf8 c.values) columns
+
+-- each value of a frame fits its column's type, and each text is in UTF-8, as in every frame
+pub record HoldsTypes (frame : FrameData) : Type 0 where
+  pub fit : ColumnsFit frame.columns
+  pub utf8 : ColumnsHaveUtf8 frame.columns
+
+-- what a frame keeps of its columns: each has a value for each row, of its type
+pub record IsFrame (frame : FrameData) : Type 0 where
+  pub height : AllHaveHeight frame.height frame.columns
+  pub types : HoldsTypes frame

@@ -1,5 +1,5 @@
 ghost use Rattle.std.specs.Prelude.{◌≡◌, IfOk};
-ghost use Rattle.pipe_columns.specs.AnyValue.{fits, fits_number};
+ghost use Rattle.pipe_columns.specs.AnyValue.{fits, fits_number, HasUtf8};
 
 use crate::data_type::DataType;
 use crate::text::Text;
@@ -36,13 +36,17 @@ fn is_in_range(number: i128, dtype: DataType) -> bool
 impl AnyValue {
     /// Whether a column of the type may hold the value.
     pub fn fits(&self, dtype: DataType) -> bool
-        ensures { result ≡ fits self.now dtype }
+        ensures fits { result ≡ fits self.now dtype }
+        ensures utf8 { HasUtf8 self.now }
     {
         match self {
             AnyValue::Null => true,
             AnyValue::Boolean(_) => dtype == DataType::Boolean,
             AnyValue::Int(number) => is_in_range(*number, dtype),
-            AnyValue::Text(_) => dtype == DataType::String,
+            AnyValue::Text(text) => {
+                let _utf8 = text.as_bytes();
+                dtype == DataType::String
+            }
         }
     }
 

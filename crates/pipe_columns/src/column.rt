@@ -1,4 +1,6 @@
 ghost use Rattle.std.specs.Prelude.{◌≡◌, ◌↔◌, IfNone, IfSome, IsTrue, OnErr, OnOk, true, false};
+ghost use Rattle.std.specs.List.{All};
+ghost use Rattle.pipe_columns.specs.AnyValue.{HasUtf8};
 ghost use Rattle.pipe_columns.specs.Frame.{all_fit, appended, field_of, sliced_column, truncated, unsorted};
 
 use crate::any_value::AnyValue;
@@ -18,21 +20,27 @@ pub struct Column {
 }
 
 impl Model for Column {
-    ghost use Rattle.pipe_columns.specs.Frame.{AllFit, ColumnData};
+    ghost use Rattle.pipe_columns.specs.Frame.{AreOfType, ColumnData};
 
     ghost Value = { ColumnData };
 
     ghost view = { λ a.
         record { name = a.name; dtype = a.dtype; sorted = a.sorted; values = a.values.items } };
 
-    ghost invariant = { λ a. AllFit a.dtype a.values.items };
+    ghost invariant = { λ a. AreOfType a.dtype a.values.items };
 }
 
-/// Whether all values fit a type.
+/// Whether all values fit a type. The look at each shows that its text is in UTF-8.
 fn do_fit(values: &[AnyValue], dtype: DataType) -> bool
-    ensures { result ≡ all_fit dtype values.now }
+    ensures fit { result ≡ all_fit dtype values.now }
+    ensures utf8 { IsTrue result → All HasUtf8 values.now }
 {
-    values.iter().all(|value| value.fits(dtype))
+    for value in values {
+        if !value.fits(dtype) {
+            return false;
+        }
+    }
+    true
 }
 
 impl Column {
@@ -41,6 +49,7 @@ impl Column {
         ensures some { IfSome result (λ c.
             c ≡ record { name = name; dtype = dtype; sorted = sorted; values = values.items }) }
         ensures fits { IfSome result (λ c. all_fit dtype values.items ≡ true) }
+        ensures utf8 { IfSome result (λ c. All HasUtf8 values.items) }
         ensures none { IfNone result (all_fit dtype values.items ≡ false) }
     {
         if do_fit(&values, dtype) {
@@ -76,6 +85,7 @@ impl Column {
     pub fn values(&self) -> &[AnyValue]
         ensures values { result.now ≡ self.now.values }
         ensures fit { all_fit self.now.dtype self.now.values ≡ true }
+        ensures utf8 { All HasUtf8 self.now.values }
     {
         &self.values
     }

@@ -1,5 +1,5 @@
 ghost use Rattle.std.specs.Prelude.{◌≡◌, ◌+◌, ◌<◌, ◌^◌, ◌↔◌, [], IfNone, IfOk, IfSome, IsTrue, OnErr, OnOk, map, true, false};
-ghost use Rattle.pipe_columns.specs.Frame.{AllHaveHeight, FitsSchema, all_have_height, appended_all, fields_of, frame_of, sliced_column, sliced_frame, stacked, truncated, unsorted};
+ghost use Rattle.pipe_columns.specs.Frame.{AllHaveHeight, FitsSchema, HoldsTypes, all_have_height, appended_all, fields_of, frame_of, sliced_column, sliced_frame, stacked, truncated, unsorted};
 
 use crate::column::Column;
 use crate::schema::{Field, Schema};
@@ -14,20 +14,27 @@ pub struct DataFrame {
 }
 
 impl Model for DataFrame {
-    ghost use Rattle.pipe_columns.specs.Frame.{FrameData, AllHaveHeight};
+    ghost use Rattle.pipe_columns.specs.Frame.{FrameData, IsFrame};
 
     ghost Value = { FrameData };
 
     ghost view = { λ a. record { height = a.height; columns = a.columns.items } };
 
-    ghost invariant = { λ a. AllHaveHeight a.height a.columns.items };
+    ghost invariant = { λ a. IsFrame (record { height = a.height; columns = a.columns.items }) };
 }
 
-/// Whether all columns have that many values.
+/// Whether all columns have that many values. The look at each shows that they are of its type.
 fn do_have_height(columns: &[Column], height: usize) -> bool
-    ensures { result ≡ all_have_height height columns.now }
+    ensures height { result ≡ all_have_height height columns.now }
+    ensures types { IsTrue result
+        → HoldsTypes (record { height = height; columns = columns.now }) }
 {
-    columns.iter().all(|column| column.values().len() == height)
+    for column in columns {
+        if column.values().len() != height {
+            return false;
+        }
+    }
+    true
 }
 
 /// A column of a field, without values.
@@ -97,6 +104,7 @@ impl DataFrame {
     pub fn new(height: usize, columns: Vec<Column>) -> Option<DataFrame>
         ensures some { IfSome result (λ f. f ≡ record { height = height; columns = columns.items }) }
         ensures fits { IfSome result (λ f. all_have_height height columns.items ≡ true) }
+        ensures types { IfSome result HoldsTypes }
         ensures none { IfNone result (all_have_height height columns.items ≡ false) }
     {
         if do_have_height(&columns, height) {
@@ -107,7 +115,8 @@ impl DataFrame {
     }
 
     pub fn height(&self) -> usize
-        ensures { result ≡ self.now.height }
+        ensures height { result ≡ self.now.height }
+        ensures types { HoldsTypes self.now }
     {
         self.height
     }
@@ -115,6 +124,7 @@ impl DataFrame {
     pub fn columns(&self) -> &[Column]
         ensures columns { result.now ≡ self.now.columns }
         ensures height { all_have_height self.now.height self.now.columns ≡ true }
+        ensures types { HoldsTypes self.now }
     {
         &self.columns
     }
@@ -133,7 +143,8 @@ impl DataFrame {
 
     /// Whether names and types are the schema's, in order. It takes no memory.
     pub fn fits(&self, schema: &Schema) -> bool
-        ensures { IsTrue result ↔ FitsSchema schema.now self.now }
+        ensures fits { IsTrue result ↔ FitsSchema schema.now self.now }
+        ensures types { HoldsTypes self.now }
     {
         let fields = schema.fields();
         if self.columns.len() != fields.len() {

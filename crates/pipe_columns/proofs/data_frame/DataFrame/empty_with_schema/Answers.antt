@@ -2,7 +2,8 @@ use Rattle.std.proofs.Common.{rules, ◌≡◌, ◌∙◌, ◌+◌, ◌∷◌, �
 use Rattle.std.proofs.lemmas.Grind.{take_at_read}
 use Rattle.pipe_columns.specs.Frame.{columns_from}
 use Rattle.pipe_columns.specs.declared.schema.Field.{Field}
-use Rattle.pipe_columns.proofs.FrameFacts.{empty_height, empty_more}
+use Rattle.pipe_columns.proofs.FrameFacts.{empty_more}
+use Rattle.pipe_columns.proofs.TypeFacts.{empty_is}
 use Rattle.pipe_columns.proofs.data_frame.DataFrame.empty_with_schema.Goals as goal
 
 pub loop-field-preserved : goal.loop-field-preserved
@@ -17,4 +18,4 @@ loop-field-preserved c =
 
 pub invariant_of-result : goal.invariant_of-result
 invariant_of-result c =
-    rw c.loop-field.invariant (empty_height 0 (take c.loop-field.field-index c.fields-fields.result.now))
+    rw c.loop-field.invariant (empty_is (take c.loop-field.field-index c.fields-fields.result.now))

@@ -1,6 +1,7 @@
-use Rattle.std.proofs.Common.{rules, ◌≡◌, ◌∙◌, ◌++◌, ◌+◌, ap, drop, length, map, List, sym, take, true}
-use Rattle.pipe_columns.specs.Frame.{all_have_height, appended_all, ColumnData, fields_of, unsorted}
-use Rattle.pipe_columns.proofs.FrameFacts.{stacked_height, whole}
+use Rattle.std.proofs.Common.{rules, ◌≡◌, ◌∙◌, ◌++◌, ap, drop, length, map, List, sym, take}
+use Rattle.pipe_columns.specs.Frame.{appended_all, ColumnData, fields_of, FrameData, IsFrame, stacked, unsorted}
+use Rattle.pipe_columns.proofs.FrameFacts.{whole}
+use Rattle.pipe_columns.proofs.TypeFacts.{stacked_is}
 use Rattle.pipe_columns.proofs.data_frame.DataFrame.vstack.Goals as goal
 
 pub invariant_of-self-2 : goal.invariant_of-self-2
@@ -17,6 +18,7 @@ invariant_of-self-2 c =
     let still : length c.clear_all.new.columns ≡ length appended = search rules in
     let end : take columns.len (c.clear_all.new.columns ++ drop (length c.clear_all.new.columns) appended) ≡ c.clear_all.new.columns =
     whole columns.len c.clear_all.new.columns appended still (count ∙ sym long) in
-    let tall : all_have_height (c.self.inside.height + c.other.inside.height) (map unsorted (appended_all others columns.items)) ≡ true =
-    stacked_height c.self.inside.height c.other.inside.height others columns.items same c.self.invariant c.other.invariant in
-    rw between (rw end (rw cleared (rw all tall)))
+    let f : FrameData = record { height = c.self.inside.height; columns = columns.items } in
+    let g : FrameData = record { height = c.other.inside.height; columns = others } in
+    let kept : IsFrame (stacked f g) = stacked_is f g same c.self.invariant c.other.invariant in
+    rw between (rw end (rw cleared (rw all kept)))
