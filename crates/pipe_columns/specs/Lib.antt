@@ -10,3 +10,4 @@ pub mod StableSort
 pub mod Pieces
 pub mod Causes
 pub mod Calls
+pub mod Chunks

@@ -10,6 +10,8 @@ mod failing;
 mod operator;
 mod place;
 mod schema;
+mod sink;
+mod source;
 mod text;
 mod worked;
 mod worked_types;
@@ -23,7 +25,12 @@ pub use failing::FailingCalls;
 pub use operator::Operator;
 pub use place::Place;
 pub use schema::{Field, Schema};
+pub use sink::{FinalizedSink, Sink, SinkResult};
+pub use source::{Source, SourceResult};
 pub use text::Text;
 
 #[cfg(test)]
 mod tests;
+
+#[cfg(test)]
+mod traits_tests;
