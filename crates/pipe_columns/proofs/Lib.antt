@@ -1,3 +1,5 @@
 pub mod ValueOrder
 pub mod FrameFacts
 pub mod TypeFacts
+pub mod ElementFacts
+pub mod AscendingFacts

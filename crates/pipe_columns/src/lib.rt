@@ -7,6 +7,7 @@ mod data_chunk;
 mod data_frame;
 mod data_type;
 mod failing;
+mod laws;
 mod operator;
 mod place;
 mod schema;
@@ -31,6 +32,5 @@ pub use text::Text;
 
 #[cfg(test)]
 mod tests;
-
 #[cfg(test)]
 mod traits_tests;
