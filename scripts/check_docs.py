@@ -1,0 +1,430 @@
+"""Checks the pages against the tree: README.md, docs/*.md and crates/*/README.md.
+
+docs/DEFINITIONS.md is printed from docs/definitions.order and the comments over the definitions in crates/*/specs.
+A fault is one line, `page:line: what is wrong`, and the status is 1 where there is one.
+"""
+
+import itertools
+import os
+import re
+import sys
+from collections import namedtuple
+
+ROOT = os.path.dirname(os.path.dirname(os.path.abspath(__file__)))
+ALONE = "-- Of the proofs alone"
+ORDER = "docs/definitions.order"
+DEFINITIONS = "docs/DEFINITIONS.md"
+PROMISES = "docs/PROMISES.md"
+MOST_WORDS = 900
+
+Definition = namedtuple("Definition", "name crate path line words alone")
+
+faults = []
+
+
+def fault(page, line, what):
+    where = f"{page}:{line}" if line else page
+    faults.append(f"{where}: {what}")
+
+
+def read(path):
+    with open(os.path.join(ROOT, path), encoding="utf-8") as file:
+        return file.read()
+
+
+def there(path):
+    return os.path.exists(os.path.join(ROOT, path))
+
+
+# ---- the tree
+
+
+def crates():
+    """The crates of crates.txt, each with those that it stands on, in order."""
+    found = {}
+    for line in read("crates.txt").splitlines():
+        head, colon, rest = line.split("#")[0].partition(":")
+        if colon:
+            found[head.split()[0]] = rest.split()
+    return found
+
+
+def files_below(folder, ending):
+    for at, folders, names in os.walk(os.path.join(ROOT, folder)):
+        folders[:] = sorted(f for f in folders if f not in ("out", "declared", ".git"))
+        for name in sorted(names):
+            if name.endswith(ending):
+                yield os.path.relpath(os.path.join(at, name), ROOT)
+
+
+HEAD = re.compile(r"^(?:pub )?(?:abbrev (?:pub )?|(?:pub )?record |(?:pub )?data )(?!mutual\b)(\S+)")
+OF_MUTUAL = re.compile(r"^  (?:pub )?(\S+) :")
+
+
+def definitions_of(crate, path):
+    """The definitions of one file. Lemmas, which stand without a keyword, are none."""
+    lines = read(path).splitlines()
+    alone = bool(lines) and lines[0].startswith(ALONE)
+    found, words, mutual = [], [], False
+    for number, line in enumerate(lines, 1):
+        text = line.strip()
+        if text.startswith("--"):
+            words = [] if text.startswith("-- ----") else words + [text[2:].strip()]
+            continue
+        if re.match(r"^(pub )?abbrev mutual", line):
+            mutual = True
+            continue
+        if line and not line[0].isspace():
+            mutual = False
+        head = HEAD.match(line) or (mutual and OF_MUTUAL.match(line))
+        if head:
+            found.append(Definition(head.group(1), crate, path, number, " ".join(words), alone))
+        words = []
+    return found
+
+
+def all_definitions():
+    return [
+        definition
+        for crate in crates()
+        for path in files_below(f"crates/{crate}/specs", ".antt")
+        for definition in definitions_of(crate, path)
+    ]
+
+
+# ---- the page of definitions
+
+
+def stem(path):
+    return os.path.splitext(os.path.basename(path))[0]
+
+
+def named(word, definitions):
+    """The definitions of a name, which may stand behind that of its crate or of its file and a dot."""
+    place, dot, name = word.rpartition(".")
+    if not dot or not name:
+        place, name = "", word
+    return [d for d in definitions if d.name == name and place in ("", d.crate, stem(d.path))]
+
+
+def row(definition):
+    words = definition.words.replace("|", "\\|")
+    path = definition.path[len("crates/"):]
+    return f"| `{definition.name}` | {words} | `{path}` |"
+
+
+TABLE = ["| definition | in plain words | file |", "|---|---|---|"]
+
+
+def page_of_definitions(definitions):
+    """The lines of the page. A line of the order that begins with @ names rows; @@ stands for all that are left."""
+    shown = [d for d in definitions if not d.alone]
+    listed, page = set(), []
+    for number, line in enumerate(read(ORDER).splitlines(), 1):
+        if line.startswith("@@"):
+            for crate in crates():
+                left = [d for d in shown if d.crate == crate and d not in listed]
+                if left:
+                    page += [f"### `{crate}`", ""] + TABLE + [row(d) for d in left] + [""]
+            if page and not page[-1]:
+                page.pop()
+        elif line.startswith("@"):
+            rows = []
+            for word in line[1:].split():
+                found = named(word, definitions)
+                if len(found) != 1:
+                    what = "no definition has the name" if not found else "more than one definition has the name"
+                    fault(ORDER, number, f"{what} {word}")
+                elif found[0].alone:
+                    fault(ORDER, number, f"{word} stands in a file of the proofs alone, {found[0].path}")
+                elif found[0] in listed:
+                    fault(ORDER, number, f"{word} is listed twice")
+                else:
+                    listed.add(found[0])
+                    rows.append(row(found[0]))
+            page += ([] if page and page[-1].startswith("| `") else TABLE) + rows
+        else:
+            page.append(line)
+    return page
+
+
+def check_definitions(definitions, write):
+    page = page_of_definitions(definitions)
+    text = "\n".join(page) + "\n"
+    if write:
+        with open(os.path.join(ROOT, DEFINITIONS), "w", encoding="utf-8") as file:
+            file.write(text)
+    for d in definitions:
+        if not d.alone and not d.words:
+            fault(d.path, d.line, f"no comment of its own over {d.name}")
+    if not there(DEFINITIONS):
+        fault(DEFINITIONS, 0, "the page is not there; scripts/check_docs.sh --write writes it")
+        return
+    old = read(DEFINITIONS)
+    if old == text:
+        return
+    rows_old = {line for line in old.splitlines() if line.startswith("| `")}
+    rows_new = {line for line in page if line.startswith("| `")}
+    for d in definitions:
+        if not d.alone and row(d) not in rows_old:
+            fault(DEFINITIONS, 0, f"no row, or another, for {d.name} of {d.path}:{d.line}")
+    for number, line in enumerate(old.splitlines(), 1):
+        if line.startswith("| `") and line not in rows_new:
+            fault(DEFINITIONS, number, f"a row that the tree doesn't have: {line.split('|')[1].strip()}")
+    fault(DEFINITIONS, 0, "differs from what is printed; scripts/check_docs.sh --write writes it anew")
+
+
+# ---- rows that name clauses, functions, definitions and files
+
+NAMES = re.compile(r"`([^`]+)`")
+SOURCE = re.compile(r"^[\w./{},-]+\.(rt|antt)$")
+
+
+def cells(line):
+    """The cells of a row of a table; `\\|` is no border."""
+    return [cell.strip().replace("\\|", "|") for cell in re.split(r"(?<!\\)\|", line.strip())[1:-1]]
+
+
+def tables(text):
+    """Each table of a page: the cells of its head, and the numbers and cells of its rows."""
+    lines = text.splitlines()
+    for at in range(len(lines) - 1):
+        if lines[at].startswith("|") and re.match(r"^\|[\s:|-]+\|$", lines[at + 1]):
+            rows = itertools.takewhile(lambda i: lines[i].startswith("|"), itertools.islice(itertools.count(at + 2), len(lines) - at - 2))
+            yield cells(lines[at]), [(i + 1, cells(lines[i])) for i in rows]
+
+
+def parts(cell):
+    """The parts of a cell between semicolons: the names before ` of `, those behind it, and the files."""
+    for part in cell.split(";"):
+        names = NAMES.findall(part)
+        if not names:
+            continue
+        paths = [n for n in names if SOURCE.match(n)]
+        before, of, behind = part.partition(" of ")
+        first = [n for n in NAMES.findall(before) if not SOURCE.match(n)]
+        second = [n for n in NAMES.findall(behind) if not SOURCE.match(n)]
+        yield first, second, paths
+
+
+def with_crates(path):
+    return path if path.startswith("crates/") else f"crates/{path}"
+
+
+FUNCTION = re.compile(r"\bfn (\w+)")
+
+
+def functions(text):
+    """Each function of a source file, with the names of its clauses."""
+    found = list(FUNCTION.finditer(text))
+    for at, head in enumerate(found):
+        end = found[at + 1].start() if at + 1 < len(found) else len(text)
+        yield head.group(1), re.findall(r"\bensures (\w+) \{", text[head.start():end])
+
+
+def check_clauses(page, line, cell):
+    for first, second, paths in parts(cell):
+        if len(paths) != 1:
+            fault(page, line, f"a clause wants one file: {cell}")
+            continue
+        path = with_crates(paths[0])
+        if not there(path):
+            fault(page, line, f"there is no file {path}")
+            continue
+        text = read(path)
+        for name in second or first:
+            owner, _, function = name.rpartition("::")
+            clauses = [found for f, found in functions(text) if f == function]
+            if not clauses:
+                fault(page, line, f"no function {function} in {path}")
+            if owner and not re.search(rf"\b(impl|trait|struct|enum)\b[^{{]*\b{owner}\b", text):
+                fault(page, line, f"no type {owner} in {path}")
+            for clause in first if second and clauses else []:
+                if not any(clause in found for found in clauses):
+                    fault(page, line, f"no clause {clause} of {function} in {path}")
+
+
+def check_names(page, line, cell, definitions):
+    for first, second, paths in parts(cell):
+        if len(paths) != 1:
+            fault(page, line, f"a definition wants one file: {cell}")
+            continue
+        path = with_crates(paths[0])
+        if not there(path):
+            fault(page, line, f"there is no file {path}")
+            continue
+        for name in first + second:
+            if not any(d.name == name and d.path == path for d in definitions):
+                fault(page, line, f"no definition {name} in {path}")
+
+
+def check_rows(page, text, definitions):
+    for head, rows in tables(text):
+        whole = re.match(r"clause of `(\w+)`, `([^`]+)`$", head[0])
+        if whole:
+            check_whole(page, rows, *whole.groups())
+        for line, row_cells in rows:
+            if len(row_cells) != len(head):
+                fault(page, line, f"a row of {len(row_cells)} cells in a table of {len(head)}")
+                continue
+            for title, cell in zip(head, row_cells):
+                if title == "clause":
+                    check_clauses(page, line, cell)
+                elif title == "definition" and page != DEFINITIONS:
+                    check_names(page, line, cell, definitions)
+
+
+def check_whole(page, rows, function, path):
+    """A table of all the clauses of one function."""
+    clauses = next((found for f, found in functions(read(with_crates(path))) if f == function), [])
+    told = [name for _, row_cells in rows for name in NAMES.findall(row_cells[0])]
+    for name in clauses:
+        if told.count(name) != 1:
+            fault(page, rows[0][0], f"the clause {name} of {function} stands {told.count(name)} times in its table")
+    for name in told:
+        if name not in clauses:
+            fault(page, rows[0][0], f"no clause {name} of {function} in {path}")
+
+
+def promises(page):
+    for head, rows in tables(read(page)):
+        if head[1:] == ["clause", "definition"]:
+            return rows
+    return []
+
+
+def check_first_promises():
+    """The promises of README are the first ones of their page."""
+    if not there(PROMISES):
+        return
+    first = [row_cells for _, row_cells in promises(PROMISES)]
+    for at, (line, row_cells) in enumerate(promises("README.md")):
+        if at >= len(first) or row_cells != first[at]:
+            fault("README.md", line, f"promise {at + 1} is not that of {PROMISES}")
+
+
+# ---- files, options, crates
+
+FOLDERS = r"(?:crates|docs|scripts|bench|src|specs|proofs|must-fail)"
+MENTION = re.compile(rf"(?<![\w./-]){FOLDERS}/[\w./{{}},*-]*[\w}}*/]|(?<![\w./*-])[\w][\w.-]*\.(?:rt|antt|md|sh|py|edit|order)\b")
+HOLE = re.compile(r"NAME|<|\.\.\.")
+
+
+def spread(word):
+    """The words that braces stand for: a{b,c} is ab and ac."""
+    braces = re.search(r"\{([^{}]*)\}", word)
+    if not braces:
+        return [word]
+    return [w for middle in braces.group(1).split(",") for w in spread(word[:braces.start()] + middle + word[braces.end():])]
+
+
+def file_names():
+    names = set()
+    for at, folders, found in os.walk(ROOT):
+        folders[:] = [f for f in folders if f not in ("out", ".git")]
+        names.update(found)
+    return names
+
+
+def is_mentioned(word, page, names):
+    if "*" in word:
+        return True
+    home = os.path.dirname(page)
+    crate = "/".join(page.split("/")[:2]) if page.startswith("crates/") else ""
+    places = [word, f"{home}/{word}", f"crates/{word}", f"{crate}/{word}"]
+    return any(there(place.strip("/")) for place in places) or ("/" not in word and word in names)
+
+
+def check_mentions(page, text, names):
+    for number, line in enumerate(text.splitlines(), 1):
+        for match in MENTION.finditer(line):
+            if HOLE.search(match.group(0)):
+                continue
+            for word in spread(match.group(0)):
+                if not is_mentioned(word, page, names):
+                    fault(page, number, f"there is no file {word}")
+
+
+OPTION = re.compile(r"(?<![\w-])--[a-z][a-z-]*")
+
+
+def program_options():
+    found = set()
+    for path in files_below("crates/group_tool/src", ".rt"):
+        if "tests" not in path:
+            text = read(path)
+            found.update(re.findall(r'"(--[a-z][a-z-]*)"', text))
+            found.update(f"--{name}" for name in re.findall(r'\blong(?:\(| = )"([a-z][a-z-]*)"', text))
+    return found
+
+
+def script_options(names):
+    return {option for name in names for option in OPTION.findall(read(name))}
+
+
+def check_options(page, text, options):
+    scripts = sorted(set(files_below("scripts", "")) | set(files_below("bench", "")))
+    for number, line in enumerate(text.splitlines(), 1):
+        used = [s for s in scripts if s in line]
+        used += [other for s in used for other in scripts if os.path.basename(other) in read(s)]
+        known = options | script_options(used)
+        for option in OPTION.findall(line):
+            if option not in known and not re.search(r"\brt [a-z]", line):
+                fault(page, number, f"there is no option {option}")
+
+
+def check_table_of_options(text, options):
+    listed = {}
+    for number, line in enumerate(text.splitlines(), 1):
+        match = re.match(r"^\| `(--[a-z][a-z-]*)", line)
+        if match:
+            listed[match.group(1)] = number
+    for option in sorted(set(listed) - options):
+        fault("README.md", listed[option], f"the program has no option {option}")
+    for option in sorted(options - set(listed)):
+        fault("README.md", 0, f"no row for the program's option {option}")
+
+
+def check_map(page):
+    """The table of crates has those of crates.txt, each with the crates that it stands on."""
+    known = crates()
+    for head, rows in tables(read(page)):
+        if head[:2] == ["crate", "stands on"]:
+            told = {NAMES.findall(row_cells[0])[0]: (line, NAMES.findall(row_cells[1])) for line, row_cells in rows}
+            for crate, below in known.items():
+                if crate not in told:
+                    fault(page, rows[0][0], f"no row for the crate {crate}")
+                elif set(told[crate][1]) != set(below):
+                    fault(page, told[crate][0], f"{crate} stands on {', '.join(below) or 'nothing'}")
+            for crate in set(told) - set(known):
+                fault(page, told[crate][0], f"there is no crate {crate}")
+            return
+    fault(page, 0, "the table of crates is missing")
+
+
+def main():
+    write = "--write" in sys.argv[1:]
+    definitions = all_definitions()
+    check_definitions(definitions, write)
+    pages = ["README.md"] + sorted(files_below("docs", ".md"))
+    pages += [f"crates/{crate}/README.md" for crate in crates() if there(f"crates/{crate}/README.md")]
+    names, options = file_names(), program_options()
+    for page in pages:
+        text = read(page)
+        check_rows(page, text, definitions)
+        check_mentions(page, text, names)
+        check_options(page, text, options)
+    check_first_promises()
+    check_table_of_options(read("README.md"), options)
+    check_map("docs/ARCHITECTURE.md")
+    words = len(read("README.md").split())
+    if words > MOST_WORDS:
+        fault("README.md", 0, f"{words} words, where {MOST_WORDS} are the most")
+    for line in faults:
+        print(line)
+    counts = f"{len(pages)} pages, {sum(not d.alone for d in definitions)} definitions"
+    print(f"check_docs: {len(faults)} faults" if faults else f"check_docs: ok, {counts}", file=sys.stderr)
+    return 1 if faults else 0
+
+
+sys.exit(main())
