@@ -305,9 +305,15 @@ def check_first_promises():
 
 # ---- files, options, crates
 
-FOLDERS = r"(?:crates|docs|scripts|bench|src|specs|proofs|must-fail)"
-MENTION = re.compile(rf"(?<![\w./-]){FOLDERS}/[\w./{{}},*-]*[\w}}*/]|(?<![\w./*-])[\w][\w.-]*\.(?:rt|antt|md|sh|py|edit|order)\b")
+FOLDERS = ["crates", "docs", "scripts", "bench", "src", "specs", "proofs", "must-fail"]
+ALONE_NAME = r"(?<![\w./*-])\w[\w.-]*\.(?:rt|antt|md|sh|py|edit|order)\b"
 HOLE = re.compile(r"NAME|<|\.\.\.")
+
+
+def mention():
+    """What looks like a file: a path that begins with a known folder, or a name that ends as our files do."""
+    folders = "|".join(FOLDERS + list(crates()))
+    return re.compile(rf"(?<![\w./-])(?:{folders})/[\w./{{}},*-]*[\w}}*/]|{ALONE_NAME}")
 
 
 def spread(word):
@@ -335,9 +341,9 @@ def is_mentioned(word, page, names):
     return any(there(place.strip("/")) for place in places) or ("/" not in word and word in names)
 
 
-def check_mentions(page, text, names):
+def check_mentions(page, text, names, pattern):
     for number, line in enumerate(text.splitlines(), 1):
-        for match in MENTION.finditer(line):
+        for match in pattern.finditer(line):
             if HOLE.search(match.group(0)):
                 continue
             for word in spread(match.group(0)):
@@ -408,11 +414,11 @@ def main():
     check_definitions(definitions, write)
     pages = ["README.md"] + sorted(files_below("docs", ".md"))
     pages += [f"crates/{crate}/README.md" for crate in crates() if there(f"crates/{crate}/README.md")]
-    names, options = file_names(), program_options()
+    names, options, pattern = file_names(), program_options(), mention()
     for page in pages:
         text = read(page)
         check_rows(page, text, definitions)
-        check_mentions(page, text, names)
+        check_mentions(page, text, names, pattern)
         check_options(page, text, options)
     check_first_promises()
     check_table_of_options(read("README.md"), options)
