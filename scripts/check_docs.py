@@ -23,8 +23,9 @@ faults = []
 
 
 def fault(page, line, what):
-    where = f"{page}:{line}" if line else page
-    faults.append(f"{where}: {what}")
+    text = f"{page}:{line}: {what}" if line else f"{page}: {what}"
+    if text not in faults:
+        faults.append(text)
 
 
 def read(path):
@@ -163,14 +164,19 @@ def check_definitions(definitions, write):
     old = read(DEFINITIONS)
     if old == text:
         return
-    rows_old = {line for line in old.splitlines() if line.startswith("| `")}
-    rows_new = {line for line in page if line.startswith("| `")}
-    for d in definitions:
-        if not d.alone and row(d) not in rows_old:
-            fault(DEFINITIONS, 0, f"no row, or another, for {d.name} of {d.path}:{d.line}")
-    for number, line in enumerate(old.splitlines(), 1):
-        if line.startswith("| `") and line not in rows_new:
-            fault(DEFINITIONS, number, f"a row that the tree doesn't have: {line.split('|')[1].strip()}")
+    rows_old = {line: number for number, line in enumerate(old.splitlines(), 1) if line.startswith("| `")}
+    places = {tuple(cells(line)[::2]): number for line, number in rows_old.items()}
+    rows_new = {row(d): d for d in definitions if not d.alone}
+    for line, d in rows_new.items():
+        number = places.get(tuple(cells(line)[::2]))
+        if line not in rows_old and number:
+            fault(DEFINITIONS, number, f"the row of {d.name} differs from the comment at {d.path}:{d.line}")
+        elif line not in rows_old:
+            fault(DEFINITIONS, 0, f"no row for {d.name} of {d.path}:{d.line}")
+    known = {tuple(cells(line)[::2]) for line in rows_new}
+    for place, number in places.items():
+        if place not in known:
+            fault(DEFINITIONS, number, f"no definition {place[0].strip('`')} in crates/{place[1].strip('`')}")
     fault(DEFINITIONS, 0, "differs from what is printed; scripts/check_docs.sh --write writes it anew")
 
 
@@ -229,7 +235,6 @@ def check_clauses(page, line, cell):
             continue
         path = with_crates(paths[0])
         if not there(path):
-            fault(page, line, f"there is no file {path}")
             continue
         text = read(path)
         for name in second or first:
@@ -251,7 +256,6 @@ def check_names(page, line, cell, definitions):
             continue
         path = with_crates(paths[0])
         if not there(path):
-            fault(page, line, f"there is no file {path}")
             continue
         for name in first + second:
             if not any(d.name == name and d.path == path for d in definitions):
