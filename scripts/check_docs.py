@@ -96,18 +96,6 @@ def all_definitions():
 # ---- the page of definitions
 
 
-def stem(path):
-    return os.path.splitext(os.path.basename(path))[0]
-
-
-def named(word, definitions):
-    """The definitions of a name, which may stand behind that of its crate or of its file and a dot."""
-    place, dot, name = word.rpartition(".")
-    if not dot or not name:
-        place, name = "", word
-    return [d for d in definitions if d.name == name and place in ("", d.crate, stem(d.path))]
-
-
 def row(definition):
     words = definition.words.replace("|", "\\|")
     path = definition.path[len("crates/"):]
@@ -117,8 +105,28 @@ def row(definition):
 TABLE = ["| definition | in plain words | file |", "|---|---|---|"]
 
 
+def listed_by(number, line, definitions, listed):
+    """The definitions of a line `@ crate/File: name name` of the order."""
+    file, _, names = line[1:].partition(":")
+    path = f"crates/{file.strip().replace('/', '/specs/', 1)}.antt"
+    if not there(path):
+        fault(ORDER, number, f"there is no file {path}")
+        return
+    for name in names.split():
+        found = next((d for d in definitions if d.path == path and d.name == name), None)
+        if found is None:
+            fault(ORDER, number, f"no definition {name} in {path}")
+        elif found.alone:
+            fault(ORDER, number, f"{path} is of the proofs alone")
+        elif found in listed:
+            fault(ORDER, number, f"{name} is listed twice")
+        else:
+            listed.add(found)
+            yield found
+
+
 def page_of_definitions(definitions):
-    """The lines of the page. A line of the order that begins with @ names rows; @@ stands for all that are left."""
+    """The lines of the page. A line of the order that begins with @ names rows; @@ stands for all that no line names."""
     shown = [d for d in definitions if not d.alone]
     listed, page = set(), []
     for number, line in enumerate(read(ORDER).splitlines(), 1):
@@ -130,19 +138,7 @@ def page_of_definitions(definitions):
             if page and not page[-1]:
                 page.pop()
         elif line.startswith("@"):
-            rows = []
-            for word in line[1:].split():
-                found = named(word, definitions)
-                if len(found) != 1:
-                    what = "no definition has the name" if not found else "more than one definition has the name"
-                    fault(ORDER, number, f"{what} {word}")
-                elif found[0].alone:
-                    fault(ORDER, number, f"{word} stands in a file of the proofs alone, {found[0].path}")
-                elif found[0] in listed:
-                    fault(ORDER, number, f"{word} is listed twice")
-                else:
-                    listed.add(found[0])
-                    rows.append(row(found[0]))
+            rows = [row(d) for d in listed_by(number, line, definitions, listed)]
             page += ([] if page and page[-1].startswith("| `") else TABLE) + rows
         else:
             page.append(line)
