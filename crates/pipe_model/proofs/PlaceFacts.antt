@@ -34,35 +34,40 @@ place_tie p q e =
     let parts = then_both (nat_cmp p.chunk q.chunk) (nat_cmp p.row q.row) e in
     rw (nat_cmp-IsAntisymmetric p.chunk q.chunk parts.0, nat_cmp-IsAntisymmetric p.row q.row parts.1) refl
 
+-- ---- elements whose places differ
+
+module _ {X : Type 0} (place_of : X → Place) where
+  -- a place that no element has, none of them has
+  apart : (p : Place) (xs : List X) → AllByRecursion (λ q. eq_by_cmp place_cmp p q ≡ false) (map place_of xs) → All (λ x. eq_by_cmp place_cmp p (place_of x) ≡ false) xs
+  apart p [] h = All-nil (λ (x : X). eq_by_cmp place_cmp p (place_of x) ≡ false)
+  apart p (x ∷ xs) h = All-cons (λ (y : X). eq_by_cmp place_cmp p (place_of y) ≡ false) x xs h.0 (apart p xs h.1)
+
+  -- what is in a list is its head or in its tail
+  head_or_tail : (x : X) (xs : List X) (y : X) → Contains (x ∷ xs) y → (x ≡ y) ⊎ Contains xs y
+  head_or_tail x xs y c = ⊎_elim (λ h. ⊎_elim (λ n. absurd (omega (arith, n.1))) inl (Contains-push_cases [] x y h)) inr (Contains-append_cases (x ∷ []) xs y c)
+
+  -- elements at one place are one element, where no place stands twice
+  pub one_at_a_place : (xs : List X) → IsDistinct (eq_by_cmp place_cmp) (map place_of xs) → (y z : X) → Contains xs y → Contains xs z → place_cmp (place_of y) (place_of z) ≡ Equal → y ≡ z
+  unfolding IsDistinct
+  one_at_a_place [] d y z c g tie = absurd (omega (arith, c.1))
+  one_at_a_place (x ∷ xs) d y z c g tie = both (head_or_tail x xs y c) (head_or_tail x xs z g) (one_at_a_place xs d.1 y z) where
+    far : (w : X) → Contains xs w → place_cmp (place_of x) (place_of w) ≡ Equal → y ≡ z
+    far w h t = let not_same = All-contains (λ (v : X). eq_by_cmp place_cmp (place_of x) (place_of v) ≡ false) xs w (apart (place_of x) xs d.0) h in let same = ap is_eq t in cc
+
+    both : (x ≡ y) ⊎ Contains xs y → (x ≡ z) ⊎ Contains xs z → (Contains xs y → Contains xs z → place_cmp (place_of y) (place_of z) ≡ Equal → y ≡ z) → y ≡ z
+    both (inl a) (inl b) more = sym a ∙ b
+    both (inl a) (inr b) more = far z b (ap (λ (w : X). place_cmp (place_of w) (place_of z)) a ∙ tie)
+    both (inr a) (inl b) more = far y a (ap (λ (w : X). place_cmp (place_of w) (place_of y)) b ∙ tied_back place_total (place_of y) (place_of z) tie)
+    both (inr a) (inr b) more = more a b tie
+
 module _ {V : Type 0} where
-  by_place-total : IsTotalOrder (by_place {V = V})
+  -- entries by their places are in a total order
+  pub by_place-total : IsTotalOrder (by_place {V = V})
   by_place-total = on_total (λ (e : Place × V). e.0) place_total
 
-  from_last-total : IsTotalOrder (from_last {V = V})
+  -- and so they are from the last place on
+  pub from_last-total : IsTotalOrder (from_last {V = V})
   from_last-total = back_total by_place-total
-
-  -- ---- entries whose places differ
-
-  apart : (p : Place) (xs : List (Place × V)) → AllByRecursion (λ q. eq_by_cmp place_cmp p q ≡ false) (map (λ e. e.0) xs) → All (λ e. eq_by_cmp place_cmp p e.0 ≡ false) xs
-  apart p [] h = All-nil (λ (e : Place × V). eq_by_cmp place_cmp p e.0 ≡ false)
-  apart p (x ∷ xs) h = All-cons (λ (e : Place × V). eq_by_cmp place_cmp p e.0 ≡ false) x xs h.0 (apart p xs h.1)
-
-  head_or_tail : (x : Place × V) (xs : List (Place × V)) (e : Place × V) → Contains (x ∷ xs) e → (x ≡ e) ⊎ Contains xs e
-  head_or_tail x xs e c = ⊎_elim (λ h. ⊎_elim (λ n. absurd (omega (arith, n.1))) inl (Contains-push_cases [] x e h)) inr (Contains-append_cases (x ∷ []) xs e c)
-
-  -- entries at one place are one entry, where no place stands twice
-  pub one_at_a_place : (xs : List (Place × V)) → DistinctPlaces xs → (e f : Place × V) → Contains xs e → Contains xs f → place_cmp e.0 f.0 ≡ Equal → e ≡ f
-  unfolding IsDistinct
-  one_at_a_place [] d e f c g tie = absurd (omega (arith, c.1))
-  one_at_a_place (x ∷ xs) d e f c g tie = both (head_or_tail x xs e c) (head_or_tail x xs f g) (one_at_a_place xs d.1 e f) where
-    far : (z : Place × V) → Contains xs z → place_cmp x.0 z.0 ≡ Equal → e ≡ f
-    far z h t = let not_same = All-contains (λ (w : Place × V). eq_by_cmp place_cmp x.0 w.0 ≡ false) xs z (apart x.0 xs d.0) h in let same = ap is_eq t in cc
-
-    both : (x ≡ e) ⊎ Contains xs e → (x ≡ f) ⊎ Contains xs f → (Contains xs e → Contains xs f → place_cmp e.0 f.0 ≡ Equal → e ≡ f) → e ≡ f
-    both (inl a) (inl b) more = sym a ∙ b
-    both (inl a) (inr b) more = far f b (ap (λ (w : Place × V). place_cmp w.0 f.0) a ∙ tie)
-    both (inr a) (inl b) more = far e a (ap (λ (w : Place × V). place_cmp w.0 e.0) b ∙ tied_back place_total e.0 f.0 tie)
-    both (inr a) (inr b) more = more a b tie
 
   -- ---- the first entry and the last
 
@@ -87,18 +92,20 @@ module _ {V : Type 0} where
   -- where no place stands twice, another order has the same first entry
   pub first-moved : (xs ys : List (Place × V)) → IsPermutation xs ys → DistinctPlaces xs → first_entry xs ≡ first_entry ys
   first-moved xs ys moved d =
-      holds-unique by_place-total xs (one_at_a_place xs d) (first_entry xs) (first_entry ys) (first-holds xs)
+      holds-unique by_place-total xs (one_at_a_place (λ (e : Place × V). e.0) xs d) (first_entry xs) (first_entry ys) (first-holds xs)
       (holds-moved by_place (first_entry ys) ys xs (IsPermutation-sym xs ys moved) (first-holds ys))
 
   -- and the same last one
   pub last-moved : (xs ys : List (Place × V)) → IsPermutation xs ys → DistinctPlaces xs → last_entry xs ≡ last_entry ys
   last-moved xs ys moved d =
-      holds-unique from_last-total xs (λ e f c g t. one_at_a_place xs d e f c g (tied_back place_total f.0 e.0 t)) (last_entry xs) (last_entry ys) (last-holds xs)
+      holds-unique from_last-total xs (λ e f c g t. one_at_a_place (λ (e : Place × V). e.0) xs d e f c g (tied_back place_total f.0 e.0 t)) (last_entry xs) (last_entry ys) (last-holds xs)
       (holds-moved from_last (last_entry ys) ys xs (IsPermutation-sym xs ys moved) (last-holds ys))
 
+  -- an empty list has no element
   nothing_there : (xs : List (Place × V)) (x : Place × V) → xs ≡ [] → Contains xs x → ⊥
   nothing_there xs x e c = let n : Contains [] x = subst (λ (l : List (Place × V)). Contains l x) e c in omega (arith, n.1)
 
+  -- two least entries have one place
   same_least : (xs : List (Place × V)) (a b : Option (Place × V)) → HoldsLeast by_place a xs → HoldsLeast by_place b xs → option_map (λ e. e.0) a ≡ option_map (λ e. e.0) b
   same_least xs None None h k = refl
   same_least xs None (Some f) h k = absurd (nothing_there xs f h k.within)
