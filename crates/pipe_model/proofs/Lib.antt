@@ -6,3 +6,8 @@ pub mod MovedFacts
 pub mod AggFacts
 pub mod RowFacts
 pub mod FlagFacts
+pub mod KeyFacts
+pub mod GroupFacts
+pub mod PartFacts
+pub mod PartitionFacts
+pub mod RowPlaces

@@ -71,10 +71,12 @@ agg-alike rs others key j k t alike d =
 
 -- ---- the row of a group
 
-first_of_any : (a b : Bool) → a ≡ true → a || b ≡ true
+-- the first of two tests is enough
+pub first_of_any : (a b : Bool) → a ≡ true → a || b ≡ true
 first_of_any a b e = ap (λ (x : Bool). x || b) e
 
-second_of_any : (a b : Bool) → b ≡ true → a || b ≡ true
+-- and so is the second
+pub second_of_any : (a b : Bool) → b ≡ true → a || b ≡ true
 second_of_any true b e = refl
 second_of_any false b e = e
 

@@ -20,7 +20,7 @@ use Rattle.pipe_columns.specs.Slice.{sliced}
 use Rattle.pipe_model.specs.Aggregate.{agg, reads_places}
 use Rattle.pipe_model.specs.Query.{AggTree, QueryTree}
 use Rattle.pipe_model.specs.Output.{input_type, key_types, output_schema}
-use Rattle.pipe_model.specs.Rows.{rows}
+use Rattle.pipe_model.specs.Rows.{keys_of, rows}
 
 -- the order of tuples
 abbrev pub tuple_cmp : List AnyValue → List AnyValue → Ordering
@@ -60,7 +60,7 @@ group_cmp q partitions rs a b =
 
 -- the distinct keys of rows, in the order of groups
 abbrev pub groups : List Row → QueryTree → ℕ → List (List AnyValue)
-groups rs q partitions = sorted_keys (group_cmp q partitions rs) (map (λ r. r.key) rs)
+groups rs q partitions = sorted_keys (group_cmp q partitions rs) (keys_of rs)
 
 -- what the aggregate at position j is fed by some rows
 abbrev pub inputs_at : ℕ → List (Place × List AnyValue) → List (Place × AnyValue)

@@ -13,5 +13,6 @@ pub mod Convertible
 pub mod Groupable
 pub mod Rows
 pub mod Answer
+pub mod Partitions
 pub mod Worked
 pub mod WorkedExprs

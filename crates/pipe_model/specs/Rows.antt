@@ -37,6 +37,10 @@ rows_from q i (c ∷ cs) = chunk_rows q i c.frame ++ rows_from q (i + 1) cs
 abbrev pub rows : List DataChunk → QueryTree → List Row
 rows chunks q = rows_from q 0 chunks
 
+-- the keys of rows, in order
+abbrev pub keys_of : List Row → List (List AnyValue)
+keys_of rs = map (λ r. r.key) rs
+
 -- no place stands twice among rows
 abbrev pub HaveDistinctPlaces : List Row → Type 0
 HaveDistinctPlaces rs = IsDistinct (eq_by_cmp place_cmp) (map (λ r. r.place) rs)
