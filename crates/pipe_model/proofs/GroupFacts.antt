@@ -1,11 +1,10 @@
 -- The groups of rows, and of rows in which every test counts alike.
-use Rattle.std.proofs.Common.{◌≡◌, ◌∙◌, ℕ, Bool, true, false, List, map, Option, if◌then◌else◌, sym, ap}
+use Rattle.std.proofs.Common.{◌≡◌, ◌∙◌, ℕ, true, List, map, if◌then◌else◌, sym, ap}
 use Rattle.std.specs.List.{All, list_any}
 use Rattle.std.specs.List.Sorted.{IsPermutation}
 use Rattle.std.specs.declared.cmp.Ordering.{Ordering}
 use Rattle.std.proofs.lemmas.List.Sorted.{All-permutation, IsPermutation-map, IsPermutation-sym}
 use Rattle.pipe_columns.specs.declared.any_value.AnyValue.{AnyValue}
-use Rattle.pipe_columns.specs.declared.place.Place.{Place}
 use Rattle.pipe_columns.specs.Frame.{frame_of}
 use Rattle.pipe_columns.specs.Groups.{AreSortedKeys, IsExactOn, sorted_keys}
 use Rattle.pipe_columns.specs.Place.{first_entry}
@@ -14,7 +13,7 @@ use Rattle.pipe_columns.specs.Slice.{sliced}
 use Rattle.pipe_columns.proofs.AscendingFacts.{sorted-from, sorted-has_on, sorted_are, sorted_sole}
 use Rattle.pipe_columns.proofs.ElementFacts.{all_has, Has, moved-has, same_elements}
 use Rattle.pipe_model.specs.Aggregate.{reads_places}
-use Rattle.pipe_model.specs.Answer.{answer_of, answer_reads_places, answer_row, first_place_cmp, group_cmp, groups, partition_cmp, rows_at}
+use Rattle.pipe_model.specs.Answer.{answer_of, answer_reads_places, first_place_cmp, group_cmp, groups, partition_cmp, rows_at}
 use Rattle.pipe_model.specs.Counts.{CountAlike}
 use Rattle.pipe_model.specs.Output.{key_types, output_schema}
 use Rattle.pipe_model.specs.Query.{QueryTree}

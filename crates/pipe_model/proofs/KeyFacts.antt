@@ -1,5 +1,5 @@
 -- The orders of keys: by partition, and by the least place of their rows.
-use Rattle.std.proofs.Common.{◌≡◌, ◌∙◌, ℕ, Bool, true, false, List, [], ◌∷◌, map, Option, Some, None, option_map, if◌then◌else◌, inl, inr, refl, sym, ap, subst, arith}
+use Rattle.std.proofs.Common.{◌≡◌, ◌∙◌, ℕ, Bool, true, false, List, [], ◌∷◌, Option, Some, None, option_map, if◌then◌else◌, inl, inr, refl, sym, ap, subst}
 use Rattle.std.specs.declared.cmp.Ordering.{Ordering}
 use Rattle.std.specs.declared.cmp.Ordering.TheVariants.{Less, Equal, Greater}
 use Rattle.std.specs.Cmp.{Equal-is, IsTotalOrder, nat_cmp_total, on_total, then_total, tied_itself}
@@ -20,7 +20,7 @@ use Rattle.pipe_model.specs.Least.{by_place, HoldsLeast}
 use Rattle.pipe_model.specs.Output.{key_types}
 use Rattle.pipe_model.specs.Query.{QueryTree}
 use Rattle.pipe_model.specs.Rows.{HaveDistinctPlaces, keys_of}
-use Rattle.pipe_model.proofs.PlaceFacts.{first-holds, one_at_a_place, place_tie, place_total, then_both}
+use Rattle.pipe_model.proofs.PlaceFacts.{first-holds, one_at_a_place, place_total, then_both}
 
 -- ---- by partition
 

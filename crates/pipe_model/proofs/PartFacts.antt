@@ -1,5 +1,5 @@
 -- Keys by a number and then by tuple are the keys of each number, joined.
-use Rattle.std.proofs.Common.{◌≡◌, ◌∙◌, ℕ, zero, suc, ◌+◌, ◌<◌, ◌≤◌, ◌==◌, Bool, true, false, cond, List, [], ◌∷◌, ◌++◌, map, ◌⊎◌, inl, inr, eq-eqb, eqb-true, if◌then◌else◌, refl, sym, ap, subst, arith}
+use Rattle.std.proofs.Common.{◌≡◌, ◌∙◌, ℕ, zero, suc, ◌+◌, ◌<◌, ◌≤◌, ◌==◌, Bool, true, false, cond, List, [], ◌∷◌, ◌++◌, ◌⊎◌, inl, inr, eq-eqb, eqb-true, refl, sym, ap, arith}
 use Rattle.std.specs.List.{All, AllByRecursion, filter, flat_map, range_with_len}
 use Rattle.std.specs.declared.cmp.Ordering.{Ordering}
 use Rattle.std.specs.declared.cmp.Ordering.TheVariants.{Less, Equal}
@@ -94,11 +94,14 @@ module _ (part : List AnyValue → ℕ) where
   abbrev pub keys_at : List Row → ℕ → List (List AnyValue)
   keys_at rs p = sorted_keys tuple_cmp (keys_of (rows_of p rs))
 
-  -- each has this number
+  -- each key of the rows has this number
+  pub keys_of-part : (p : ℕ) (rs : List Row) → All (λ k. part k ≡ p) (keys_of (rows_of p rs))
+  keys_of-part p rs =
+      All-map (λ k. part k ≡ p) (λ (r : Row). r.key) (rows_of p rs) (λ i d h. eqb-true (part _) p (filter_passes (λ (r : Row). part r.key == p) rs i d h))
+
+  -- and so it has sorted
   pub keys_at-part : (rs : List Row) (p : ℕ) → All (λ k. part k ≡ p) (keys_at rs p)
-  keys_at-part rs p =
-      sorted-holds (λ k. part k ≡ p) tuple_cmp (keys_of (rows_of p rs))
-      (All-map (λ k. part k ≡ p) (λ (r : Row). r.key) (rows_of p rs) (λ i d h. eqb-true (part _) p (filter_passes (λ (r : Row). part r.key == p) rs i d h)))
+  keys_at-part rs p = sorted-holds (λ k. part k ≡ p) tuple_cmp (keys_of (rows_of p rs)) (keys_of-part p rs)
 
   -- by number, then by tuple
   abbrev pub by_part : List AnyValue → List AnyValue → Ordering
@@ -111,11 +114,14 @@ module _ (part : List AnyValue → ℕ) where
   by_part-tie a b e = tuples_tie a b (then_both (nat_cmp (part a) (part b)) (tuple_cmp a b) e).1
 
   -- keys of one number are by number as by tuple
+  pub by_part-alike : (p : ℕ) (a b : List AnyValue) → part a ≡ p → part b ≡ p → by_part a b ≡ tuple_cmp a b
+  by_part-alike p a b e f = (λ i. ordering_then (nat_cmp (e i) (f i)) (tuple_cmp a b)) ∙ ap (λ (r : Ordering). ordering_then r (tuple_cmp a b)) (tied_itself nat_cmp_total p)
+
   below-alike : (p : ℕ) (k : List AnyValue) (ks : List (List AnyValue)) → part k ≡ p → All (λ x. part x ≡ p) ks → Below tuple_cmp k ks → Below by_part k ks
   below-alike p k [] e h b = tt
   below-alike p k (x ∷ xs) e h b =
       let f : part x ≡ p = All-head (λ y. part y ≡ p) x xs h in
-      ((λ i. ordering_then (nat_cmp (e i) (f i)) (tuple_cmp k x)) ∙ ap (λ (r : Ordering). ordering_then r (tuple_cmp k x)) (tied_itself nat_cmp_total p) ∙ b.0, below-alike p k xs e (All-tail (λ y. part y ≡ p) x xs h) b.1)
+      (by_part-alike p k x e f ∙ b.0, below-alike p k xs e (All-tail (λ y. part y ≡ p) x xs h) b.1)
 
   ascending-alike : (p : ℕ) (ks : List (List AnyValue)) → All (λ x. part x ≡ p) ks → IsAscending tuple_cmp ks → IsAscending by_part ks
   ascending-alike p [] h a = tt

@@ -1,6 +1,7 @@
 //! What a group-by answers: definitions that several crates cite, and laws over them.
 #![tactic(auto)]
 
+mod group_laws;
 mod laws;
 mod worked;
 mod worked_aggs;
