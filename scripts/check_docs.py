@@ -274,6 +274,18 @@ def check_rows(page, text, definitions):
                     check_names(page, line, cell, definitions)
 
 
+IN_FILE = re.compile(r"((?:`\w+`(?:, | and ))*`\w+`) in `([\w./]+\.antt)`")
+
+
+def check_prose(page, text, definitions):
+    """Sentences that say in which file definitions stand, whole or by the file's name alone."""
+    for number, line in enumerate(text.splitlines(), 1):
+        for names, path in [] if line.startswith("|") else IN_FILE.findall(line):
+            for name in NAMES.findall(names):
+                if not any(d.name == name and d.path.endswith("/" + with_crates(path).split("/", 1)[-1]) for d in definitions):
+                    fault(page, number, f"no definition {name} in {path}")
+
+
 def check_whole(page, rows, function, path):
     """A table of all the clauses of one function."""
     clauses = next((found for f, found in functions(read(with_crates(path))) if f == function), [])
@@ -418,6 +430,7 @@ def main():
     for page in pages:
         text = read(page)
         check_rows(page, text, definitions)
+        check_prose(page, text, definitions)
         check_mentions(page, text, names, pattern)
         check_options(page, text, options)
     check_first_promises()
