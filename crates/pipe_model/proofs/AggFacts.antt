@@ -44,6 +44,7 @@ total-same dt.String vs ws e = refl
 
 -- ---- means
 
+-- an empty list has no order with an element
 no_element : {X : Type 0} (x : X) (xs : List X) → IsPermutation [] (x ∷ xs) → ⊥
 no_element x xs moved = let same = length_permutation [] (x ∷ xs) moved in omega arith
 
@@ -58,10 +59,12 @@ sum_if_any-moved (v ∷ vs) (w ∷ ws) moved = ap av.Int (exact_sum-moved (v ∷
 both : List AnyValue → List AnyValue
 both values = sum_if_any values ∷ counted (length values) ∷ []
 
+-- they are the same in another order
 both-moved : (vs ws : List AnyValue) → IsPermutation vs ws → both vs ≡ both ws
 unfolding both
 both-moved vs ws moved = λ i. sum_if_any-moved vs ws moved i ∷ counted (length_permutation ws vs (IsPermutation-sym vs ws moved) i) ∷ []
 
+-- a mean is the same where both halves are
 halves-same : (t : DataType) (vs ws : List AnyValue) → both (present vs) ≡ both (present ws) → halves t vs ≡ halves t ws
 unfolding both
 halves-same dt.Boolean vs ws e = e
@@ -79,10 +82,12 @@ halves-same dt.String vs ws e = refl
 
 -- ---- least and greatest
 
-lesser_is_nearer : (a b : AnyValue) → IsNearer value_cmp_total (lesser a b) a b
+-- the lesser of two values is one of them, and under both
+pub lesser_is_nearer : (a b : AnyValue) → IsNearer value_cmp_total (lesser a b) a b
 lesser_is_nearer a b = swapped value_cmp_total (lesser a b) b a (second_on_ties value_cmp_total b a)
 
-greater_is_nearer : (a b : AnyValue) → IsNearer (back_total value_cmp_total) (greater a b) a b
+-- the greater of two values is one of them, and above both
+pub greater_is_nearer : (a b : AnyValue) → IsNearer (back_total value_cmp_total) (greater a b) a b
 greater_is_nearer a b = first_on_ties (back_total value_cmp_total) a b
 
 -- the least value is one of them than which none is lesser

@@ -79,6 +79,7 @@ module _ {X : Type 0} (same : X → X → Bool) (exact : (x y : X) → same x y 
       let both = alike test in
       omega arith
 
+  -- what counts as the empty list is empty
   none : (ys : List X) → CountAlike [] ys → [] ≡ ys
   none [] alike = refl
   none (y ∷ ys) alike = let first = count-cons (λ (x : X). true) y ys in let both = alike (λ x. true) in absurd (omega arith)

@@ -10,6 +10,7 @@ use Rattle.pipe_columns.specs.Frame.{ColumnData, columns_from, frame_of, value_a
 abbrev IsUnsorted : ColumnData → Type 0
 IsUnsorted c = c.sorted ≡ false
 
+-- columns of rows have none
 columns-unsorted : (i : ℕ) (fields : List Field) (rows : List (List AnyValue)) → All IsUnsorted (columns_from i fields rows)
 columns-unsorted i [] rows = All-nil IsUnsorted
 columns-unsorted i (f ∷ fs) rows =

@@ -96,12 +96,14 @@ first_place_is None (Some f) = refl
 first_place_is (Some e) None = refl
 first_place_is (Some e) (Some f) = refl
 
+-- places that may be there turn with their sides
 first_place-turns : (x y : Option (Place × List AnyValue)) → first_place_cmp x y ≡ ordering_reverse (first_place_cmp y x)
 first_place-turns None None = refl
 first_place-turns None (Some f) = refl
 first_place-turns (Some e) None = refl
 first_place-turns (Some e) (Some f) = place_total.antisymm e.0 f.0
 
+-- and lead from one to the next
 first_place-through : (x y z : Option (Place × List AnyValue)) → first_place_cmp x y ≡ Less → first_place_cmp y z ≡ Less → first_place_cmp x z ≡ Less
 first_place-through x None None e f = cc
 first_place-through None None (Some h) e f = cc

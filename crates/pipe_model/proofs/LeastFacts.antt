@@ -20,12 +20,15 @@ module _ {X : Type 0} {R : X → X → Ordering} (o : IsTotalOrder R) where
     pub under_second : is_gt (R z y) ≡ false
     pub either : (z ≡ x) ⊎ (z ≡ y)
 
+  -- no element is greater than itself
   under_itself : (x : X) → is_gt (R x x) ≡ false
   under_itself x = ap is_gt (tied_itself o x)
 
+  -- the first of two is the nearer where it is not the greater
   first_is_nearer : (x y : X) → is_gt (R x y) ≡ false → IsNearer x x y
   first_is_nearer x y e = record { under_first = under_itself x; under_second = e; either = inl refl }
 
+  -- and so is the second
   second_is_nearer : (x y : X) → is_gt (R y x) ≡ false → IsNearer y x y
   second_is_nearer x y e = record { under_first = e; under_second = under_itself y; either = inr refl }
 
@@ -74,6 +77,7 @@ module _ {X : Type 0} {R : X → X → Ordering} (o : IsTotalOrder R) where
       subst (IsLeast R (fold choose (choose x y) ys)) (append_assoc xs (y ∷ []) ys)
       (least-fold choose nearer (choose x y) (xs ++ y ∷ []) ys (least-both (choose x y) x y xs (y ∷ []) (nearer x y) h (least-one y)))
 
+  -- two elements of which neither is greater tie
   not_greater : (x y : X) → is_gt (R x y) ≡ false → is_gt (R y x) ≡ false → R x y ≡ Equal
   not_greater x y e f = by (R x y) refl where
     by : (r : Ordering) → R x y ≡ r → R x y ≡ Equal
@@ -96,6 +100,7 @@ module _ {X : Type 0} {R : X → X → Ordering} (o : IsTotalOrder R) where
 
 -- ---- other lists of the same elements
 
+-- a list whose elements are in the empty one is empty
 nothing : {X : Type 0} (xs : List X) → ((x : X) → Contains xs x → Contains [] x) → xs ≡ []
 nothing [] h = refl
 nothing (x ∷ xs) h = none (h x (Contains-append_left (x ∷ []) xs x (Contains-push [] x))) where

@@ -8,6 +8,9 @@ pub mod RowFacts
 pub mod FlagFacts
 pub mod KeyFacts
 pub mod GroupFacts
+pub mod JoinFacts
 pub mod PartFacts
 pub mod PartitionFacts
 pub mod RowPlaces
+pub mod WrapFacts
+pub mod MergeFacts

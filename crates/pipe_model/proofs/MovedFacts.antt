@@ -32,13 +32,16 @@ present-moved vs ws moved = values-moved (present vs) (present ws) (filter-alike
 
 -- entries: by place, then by what stands there
 module _ {V : Type 0} (R : V → V → Ordering) (o : IsTotalOrder R) (exact : (v w : V) → R v w ≡ Equal → v ≡ w) where
+  -- the order of entries
   entry_cmp : Place × V → Place × V → Ordering
   entry_cmp = then_cmp (on (λ (e : Place × V). e.0) place_cmp) (on (λ (e : Place × V). e.1) R)
 
+  -- it is total
   entry_total : IsTotalOrder entry_cmp
   unfolding entry_cmp
   entry_total = then_total (on_total (λ (e : Place × V). e.0) place_total) (on_total (λ (e : Place × V). e.1) o)
 
+  -- entries that tie are the same
   entry_tie : (e f : Place × V) → entry_cmp e f ≡ Equal → e ≡ f
   unfolding entry_cmp
   entry_tie e f tie =
@@ -47,6 +50,7 @@ module _ {V : Type 0} (R : V → V → Ordering) (o : IsTotalOrder R) (exact : (
       let value = exact e.1 f.1 parts.1 in
       λ i. (place i, value i)
 
+  -- so entries that count alike are one list in two orders
   entries-moved-by : (xs ys : List (Place × V)) → CountAlike xs ys → IsPermutation xs ys
   entries-moved-by xs ys alike = moved-by entry_cmp entry_total entry_tie xs ys alike
 
@@ -62,10 +66,12 @@ tuples-moved xs ys alike = entries-moved-by tuple_cmp tuples_total tuples_tie xs
 row_cmp : Row → Row → Ordering
 row_cmp = then_cmp (on (λ (r : Row). r.place) place_cmp) (then_cmp (on (λ (r : Row). r.key) tuple_cmp) (on (λ (r : Row). r.inputs) tuple_cmp))
 
+-- this order is total
 row_total : IsTotalOrder row_cmp
 unfolding row_cmp
 row_total = then_total (on_total (λ (r : Row). r.place) place_total) (then_total (on_total (λ (r : Row). r.key) tuples_total) (on_total (λ (r : Row). r.inputs) tuples_total))
 
+-- rows that tie are the same
 row_tie : (r s : Row) → row_cmp r s ≡ Equal → r ≡ s
 unfolding row_cmp
 row_tie r s tie =

@@ -16,38 +16,8 @@ use Rattle.pipe_columns.proofs.ElementFacts.{all_at, Has, same_elements}
 use Rattle.pipe_columns.proofs.ValueOrder.{tuples_tie, tuples_total}
 use Rattle.pipe_model.specs.Answer.{rows_at, tuple_cmp}
 use Rattle.pipe_model.specs.Rows.{keys_of}
+use Rattle.pipe_model.proofs.JoinFacts.{ascending-append, has-either, has-first, has-second}
 use Rattle.pipe_model.proofs.PlaceFacts.{then_both}
-
--- ---- elements of joined lists
-
-module _ {K : Type 0} where
-  -- what is in the first of two lists is in both joined
-  has-first : (k : K) (xs ys : List K) → Has k xs → Has k (xs ++ ys)
-  has-first k [] ys m = absurd m
-  has-first k (x ∷ xs) ys (inl e) = inl e
-  has-first k (x ∷ xs) ys (inr m) = inr (has-first k xs ys m)
-
-  -- and so is what is in the second
-  has-second : (k : K) (xs ys : List K) → Has k ys → Has k (xs ++ ys)
-  has-second k [] ys m = m
-  has-second k (x ∷ xs) ys m = inr (has-second k xs ys m)
-
-  -- what is in both joined is in one of them
-  has-either : (k : K) (xs ys : List K) → Has k (xs ++ ys) → Has k xs ⊎ Has k ys
-  has-either k [] ys m = inr m
-  has-either k (x ∷ xs) ys (inl e) = inl (inl e)
-  has-either k (x ∷ xs) ys (inr m) = by (has-either k xs ys m) where
-    by : Has k xs ⊎ Has k ys → Has k (x ∷ xs) ⊎ Has k ys
-    by (inl n) = inl (inr n)
-    by (inr n) = inr n
-
-  -- ascending lists, of which each key of the first is below the second, ascend together
-  ascending-append : (R : K → K → Ordering) (xs ys : List K) → IsAscending R xs → IsAscending R ys → ((k : K) → Has k xs → Below R k ys) → IsAscending R (xs ++ ys)
-  ascending-append R [] ys a b below = b
-  ascending-append R (x ∷ xs) ys a b below = (below-append xs a.0, ascending-append R xs ys a.1 b (λ k m. below k (inr m))) where
-    below-append : (zs : List K) → Below R x zs → Below R x (zs ++ ys)
-    below-append [] h = below x (inl refl)
-    below-append (z ∷ zs) h = (h.0, below-append zs h.1)
 
 -- ---- rows by a number of their keys
 
@@ -107,9 +77,11 @@ module _ (part : List AnyValue → ℕ) where
   abbrev pub by_part : List AnyValue → List AnyValue → Ordering
   by_part a b = ordering_then (nat_cmp (part a) (part b)) (tuple_cmp a b)
 
+  -- this order is total
   by_part-total : IsTotalOrder by_part
   by_part-total = then_total (on_total part nat_cmp_total) tuples_total
 
+  -- keys that tie in it are the same
   by_part-tie : (a b : List AnyValue) → by_part a b ≡ Equal → a ≡ b
   by_part-tie a b e = tuples_tie a b (then_both (nat_cmp (part a) (part b)) (tuple_cmp a b) e).1
 
@@ -117,12 +89,14 @@ module _ (part : List AnyValue → ℕ) where
   pub by_part-alike : (p : ℕ) (a b : List AnyValue) → part a ≡ p → part b ≡ p → by_part a b ≡ tuple_cmp a b
   by_part-alike p a b e f = (λ i. ordering_then (nat_cmp (e i) (f i)) (tuple_cmp a b)) ∙ ap (λ (r : Ordering). ordering_then r (tuple_cmp a b)) (tied_itself nat_cmp_total p)
 
+  -- so a key is below others of its number by both orders
   below-alike : (p : ℕ) (k : List AnyValue) (ks : List (List AnyValue)) → part k ≡ p → All (λ x. part x ≡ p) ks → Below tuple_cmp k ks → Below by_part k ks
   below-alike p k [] e h b = tt
   below-alike p k (x ∷ xs) e h b =
       let f : part x ≡ p = All-head (λ y. part y ≡ p) x xs h in
       (by_part-alike p k x e f ∙ b.0, below-alike p k xs e (All-tail (λ y. part y ≡ p) x xs h) b.1)
 
+  -- and keys of one number that ascend by tuple ascend by number
   ascending-alike : (p : ℕ) (ks : List (List AnyValue)) → All (λ x. part x ≡ p) ks → IsAscending tuple_cmp ks → IsAscending by_part ks
   ascending-alike p [] h a = tt
   ascending-alike p (x ∷ xs) h a =
@@ -143,14 +117,17 @@ module _ (part : List AnyValue → ℕ) where
   abbrev pub keys_from : List Row → ℕ → ℕ → List (List AnyValue)
   keys_from rs low n = flat_map (keys_at rs) (range_with_len low n)
 
+  -- two lists of numbers from low on are one, joined
   higher-append : (low : ℕ) (xs ys : List (List AnyValue)) → AllByRecursion (λ k. low ≤ part k) xs → AllByRecursion (λ k. low ≤ part k) ys → AllByRecursion (λ k. low ≤ part k) (xs ++ ys)
   higher-append low [] ys h j = j
   higher-append low (x ∷ xs) ys h j = (h.0, higher-append low xs ys h.1 j)
 
+  -- keys of a number have one from each lower number on
   higher-of : (low p : ℕ) (ks : List (List AnyValue)) → low ≤ p → All (λ k. part k ≡ p) ks → AllByRecursion (λ k. low ≤ part k) ks
   higher-of low p [] lt h = tt
   higher-of low p (x ∷ xs) lt h = let e : part x ≡ p = All-head (λ y. part y ≡ p) x xs h in (omega arith, higher-of low p xs lt (All-tail (λ y. part y ≡ p) x xs h))
 
+  -- keys of numbers from n on have numbers from each lower one on
   lower : (low n : ℕ) (ks : List (List AnyValue)) → low ≤ n → AllByRecursion (λ k. n ≤ part k) ks → AllByRecursion (λ k. low ≤ part k) ks
   lower low n [] le h = tt
   lower low n (x ∷ xs) le h = let up = h.0 in (omega arith, lower low n xs le h.1)

@@ -1,5 +1,5 @@
 -- The first and the last entry of a list, and of the same list in another order.
-use Rattle.std.proofs.Common.{◌≡◌, ◌∙◌, false, List, [], ◌∷◌, map, Option, Some, None, option_map, ◌⊎◌, refl, sym, ap, subst, arith}
+use Rattle.std.proofs.Common.{◌≡◌, ◌∙◌, false, List, [], ◌∷◌, ◌++◌, map, Option, Some, None, option_map, ◌⊎◌, refl, sym, ap, subst, arith}
 use Rattle.std.specs.declared.cmp.Ordering.{Ordering}
 use Rattle.std.specs.declared.cmp.Ordering.TheVariants.{Less, Equal, Greater}
 use Rattle.std.specs.Cmp.{back_total, IsTotalOrder, nat_cmp_total, on_total, then_total}
@@ -8,6 +8,8 @@ use Rattle.std.specs.List.{All, AllByRecursion, Contains, IsDistinct}
 use Rattle.std.specs.List.Sorted.{IsPermutation}
 use Rattle.std.specs.Ordering.{eq_by_cmp, is_eq, nat_cmp, ordering_then}
 use Rattle.std.proofs.lemmas.Cmp.{tied_back}
+use Rattle.std.specs.Option.{option_to_list}
+use Rattle.std.proofs.lemmas.List.{append-nil}
 use Rattle.std.proofs.lemmas.List.Elements.{All-cons, All-contains, All-nil, Contains-append_cases, Contains-push_cases}
 use Rattle.std.proofs.lemmas.List.Sorted.{IsPermutation-sym}
 use mathlib.Core.Logic.{inl, inr, ⊎_elim}
@@ -115,3 +117,33 @@ module _ {V : Type 0} where
   -- where places may repeat, the place of the first entry is the same
   pub least_place-moved : (xs ys : List (Place × V)) → IsPermutation xs ys → option_map (λ e. e.0) (first_entry xs) ≡ option_map (λ e. e.0) (first_entry ys)
   least_place-moved xs ys moved = same_least xs (first_entry xs) (first_entry ys) (first-holds xs) (holds-moved by_place (first_entry ys) ys xs (IsPermutation-sym xs ys moved) (first-holds ys))
+
+  -- ---- of joined lists
+
+  -- the first of two first entries is the least of both lists
+  first-both : (xs ys : List (Place × V)) (a b : Option (Place × V)) → HoldsLeast by_place a xs → HoldsLeast by_place b ys
+      → HoldsLeast by_place (first_entry (option_to_list a ++ option_to_list b)) (xs ++ ys)
+  first-both xs ys None None h k = λ i. h i ++ k i
+  first-both xs ys None (Some f) h k = subst (λ (l : List (Place × V)). IsLeast by_place f (l ++ ys)) (sym h) k
+  first-both xs ys (Some e) None h k = subst (λ (l : List (Place × V)). IsLeast by_place e (xs ++ l)) (sym k) (subst (IsLeast by_place e) (sym (append-nil xs)) h)
+  first-both xs ys (Some e) (Some f) h k = least-both by_place-total (earlier e (Some f)) e f xs ys (first_on_ties by_place-total e f) h k
+
+  -- where no place stands twice, it is the first entry of both joined
+  pub first-append : (xs ys : List (Place × V)) → DistinctPlaces (xs ++ ys) → first_entry (xs ++ ys) ≡ first_entry (option_to_list (first_entry xs) ++ option_to_list (first_entry ys))
+  first-append xs ys d =
+      holds-unique by_place-total (xs ++ ys) (one_at_a_place (λ (e : Place × V). e.0) (xs ++ ys) d) (first_entry (xs ++ ys))
+      (first_entry (option_to_list (first_entry xs) ++ option_to_list (first_entry ys))) (first-holds (xs ++ ys)) (first-both xs ys (first_entry xs) (first_entry ys) (first-holds xs) (first-holds ys))
+
+  -- the last of two last entries is the greatest of both lists
+  last-both : (xs ys : List (Place × V)) (a b : Option (Place × V)) → HoldsLeast from_last a xs → HoldsLeast from_last b ys
+      → HoldsLeast from_last (last_entry (option_to_list a ++ option_to_list b)) (xs ++ ys)
+  last-both xs ys None None h k = λ i. h i ++ k i
+  last-both xs ys None (Some f) h k = subst (λ (l : List (Place × V)). IsLeast from_last f (l ++ ys)) (sym h) k
+  last-both xs ys (Some e) None h k = subst (λ (l : List (Place × V)). IsLeast from_last e (xs ++ l)) (sym k) (subst (IsLeast from_last e) (sym (append-nil xs)) h)
+  last-both xs ys (Some e) (Some f) h k = least-both from_last-total (later e (Some f)) e f xs ys (swapped from_last-total (later e (Some f)) f e (second_on_ties from_last-total f e)) h k
+
+  -- where no place stands twice, it is the last entry of both joined
+  pub last-append : (xs ys : List (Place × V)) → DistinctPlaces (xs ++ ys) → last_entry (xs ++ ys) ≡ last_entry (option_to_list (last_entry xs) ++ option_to_list (last_entry ys))
+  last-append xs ys d =
+      holds-unique from_last-total (xs ++ ys) (λ e f c g t. one_at_a_place (λ (e : Place × V). e.0) (xs ++ ys) d e f c g (tied_back place_total f.0 e.0 t)) (last_entry (xs ++ ys))
+      (last_entry (option_to_list (last_entry xs) ++ option_to_list (last_entry ys))) (last-holds (xs ++ ys)) (last-both xs ys (last_entry xs) (last_entry ys) (last-holds xs) (last-holds ys))

@@ -43,6 +43,7 @@ rows_at-distinct (r ∷ rs) k d = by_test (is_eq (tuple_cmp r.key k)) refl (rows
   by_test true f rest = rw f (apart-at r.place rs k d.0, rest)
   by_test false f rest = rw f rest
 
+-- what an aggregate is fed stands at the same places
 same_places : (j : ℕ) (entries : List (Place × List AnyValue)) → map (λ e. e.0) (inputs_at j entries) ≡ map (λ e. e.0) entries
 same_places j [] = refl
 same_places j (e ∷ es) = ap (λ (ps : List Place). e.0 ∷ ps) (same_places j es)
@@ -80,6 +81,7 @@ pub second_of_any : (a b : Bool) → b ≡ true → a || b ≡ true
 second_of_any true b e = refl
 second_of_any false b e = e
 
+-- rows that count alike have the same aggregates of each key
 aggs-alike : (rs others : List Row) (key : List AnyValue) (schema : List Field) (j : ℕ) (aggs : List AggTree) → CountAlike rs others
     → (list_any (λ a. reads_places a.kind) aggs ≡ true → HaveDistinctPlaces rs)
     → aggs_from j schema aggs (rows_at rs key) ≡ aggs_from j schema aggs (rows_at others key)

@@ -14,9 +14,11 @@ use borrow.Author.Differences.{up, down}
 abbrev above_zero : AnyValue → ℕ
 above_zero v = up (addend v)
 
+-- and what is below zero
 abbrev below_zero : AnyValue → ℕ
 below_zero v = down (addend v)
 
+-- a sum and what is below zero is what is above zero
 sum-parts : (vs : List AnyValue) (a : ℤ) → fold (λ (sum : ℤ) (v : AnyValue). sum +ℤ addend v) a vs +ℤ pos (sum_by below_zero vs) ≡ a +ℤ pos (sum_by above_zero vs)
 sum-parts [] a = refl
 sum-parts (v ∷ vs) a =
@@ -25,6 +27,7 @@ sum-parts (v ∷ vs) a =
     let high = sum_by-cons above_zero v vs in
     omega (arith, ints)
 
+-- so it is from zero on
 exact_sum-parts : (vs : List AnyValue) → exact_sum vs +ℤ pos (sum_by below_zero vs) ≡ pos (sum_by above_zero vs)
 exact_sum-parts vs = let parts = sum-parts vs (pos 0) in omega (arith, ints)
 
@@ -47,6 +50,7 @@ exact_sum-moved vs ws moved =
     let high = sum_by-IsPermutation above_zero vs ws moved in
     omega (arith, ints)
 
+-- a sum of the values that are no null is that of all
 present-sum : (vs : List AnyValue) (a : ℤ) → fold (λ (sum : ℤ) (v : AnyValue). sum +ℤ addend v) a (present vs) ≡ fold (λ (sum : ℤ) (v : AnyValue). sum +ℤ addend v) a vs
 present-sum [] a = refl
 present-sum (av.Null ∷ vs) a = present-sum vs a ∙ ap (λ (z : ℤ). fold (λ (sum : ℤ) (v : AnyValue). sum +ℤ addend v) z vs) (omega (arith, ints))

@@ -4,6 +4,7 @@ pub mod Typing
 pub mod Value
 pub mod Kind
 pub mod Aggregate
+pub mod Merged
 pub mod Counts
 pub mod Least
 pub mod Query

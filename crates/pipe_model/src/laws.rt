@@ -1,7 +1,8 @@
 //! Laws of aggregates and answers: what does not depend on the order of rows.
 
-ghost use Rattle.std.specs.Prelude.{◌≡◌, ◌↔◌, All, ℕ, List, ◌∷◌, true, false};
+ghost use Rattle.std.specs.Prelude.{◌≡◌, ◌↔◌, All, ℕ, List, ◌∷◌, ◌++◌, true, false};
 ghost use Rattle.std.specs.List.Sorted.{IsPermutation};
+ghost use Rattle.std.specs.Option.{option_to_list};
 ghost use Rattle.std.specs.Ordering.{flip_args};
 ghost use Rattle.pipe_columns.specs.declared.any_value.AnyValue.{AnyValue};
 ghost use Rattle.pipe_columns.specs.declared.data_chunk.DataChunk.{DataChunk};
@@ -15,6 +16,7 @@ ghost use Rattle.pipe_model.specs.Answer.{answer, inputs_at, rows_at};
 ghost use Rattle.pipe_model.specs.Counts.{CountAlike};
 ghost use Rattle.pipe_model.specs.Kind.{Kind};
 ghost use Rattle.pipe_model.specs.Least.{by_place, from_last, HoldsLeast, IsLeast};
+ghost use Rattle.pipe_model.specs.Merged.{merged};
 ghost use Rattle.pipe_model.specs.Query.{QueryTree};
 ghost use Rattle.pipe_model.specs.Rows.{HaveDistinctPlaces};
 
@@ -49,6 +51,19 @@ pub fn same_counts_same_aggregates()
     ensures { (rs others : List Row) (key : List AnyValue) (j : ℕ) (k : Kind) (t : DataType)
         → CountAlike rs others → (reads_places k ≡ true → HaveDistinctPlaces rs)
         → agg k t (inputs_at j (rows_at rs key)) ≡ agg k t (inputs_at j (rows_at others key)) }
+{}
+
+/// What an aggregate gives of two joined lists follows from what it gives of each; the first entry of
+/// two joined lists is the first of both, and the last one the last.
+pub fn aggregates_of_joined_lists()
+    ensures values { (k : Kind) (t : DataType) (xs ys : List (Place × AnyValue))
+        → reads_places k ≡ false → agg k t (xs ++ ys) ≡ merged k t (agg k t xs) (agg k t ys) }
+    ensures first { (xs ys : List (Place × AnyValue)) → DistinctPlaces (xs ++ ys)
+        → first_entry (xs ++ ys)
+        ≡ first_entry (option_to_list (first_entry xs) ++ option_to_list (first_entry ys)) }
+    ensures last { (xs ys : List (Place × AnyValue)) → DistinctPlaces (xs ++ ys)
+        → last_entry (xs ++ ys)
+        ≡ last_entry (option_to_list (last_entry xs) ++ option_to_list (last_entry ys)) }
 {}
 
 /// No column of an answer is flagged as sorted.
