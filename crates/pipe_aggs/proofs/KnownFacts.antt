@@ -14,8 +14,8 @@ use Rattle.pipe_aggs.specs.Faults.{adds_dates}
 use Rattle.pipe_exprs.specs.NodeFacts.{facts_of}
 use Rattle.pipe_model.specs.Output.{input_type}
 use Rattle.pipe_model.specs.WrittenTree.{agg_named}
-use Rattle.pipe_exprs.specs.Nodes.{alias_input, tree_if}
-use Rattle.pipe_exprs.specs.Trees.{agg_input, IsArena, tree, tree_at, trees}
+use Rattle.pipe_exprs.specs.Nodes.{tree_if}
+use Rattle.pipe_exprs.specs.Trees.{agg_input, alias_input, IsArena, tree, tree_at, trees}
 use Rattle.pipe_exprs.proofs.PassFacts.{known_at}
 use Rattle.pipe_exprs.proofs.NameFacts.{found_is, giver_before}
 

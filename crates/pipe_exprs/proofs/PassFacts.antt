@@ -7,7 +7,8 @@ use Rattle.pipe_exprs.specs.declared.expression.AExpr.TheVariants as ax
 use Rattle.pipe_exprs.specs.declared.expression.Node.{Node}
 use Rattle.pipe_exprs.specs.declared.facts.NodeFacts.{NodeFacts}
 use Rattle.pipe_model.specs.Expr.{Expr}
-use Rattle.pipe_exprs.specs.NodeFacts.{expr_facts, facts_at, facts_of}
+use Rattle.pipe_exprs.specs.ExprFacts.{expr_facts}
+use Rattle.pipe_exprs.specs.NodeFacts.{facts_at, facts_of}
 use Rattle.pipe_model.specs.Typing.{type_of}
 use Rattle.pipe_exprs.specs.Trees.{agg_input, arena_from, children_below, tree_at, tree_of, trees}
 use Rattle.pipe_exprs.proofs.TreeFacts.{and_split, mapped_at, trees_push}

@@ -5,10 +5,10 @@ use Rattle.pipe_columns.specs.Frame.{ColumnData}
 use Rattle.pipe_exprs.specs.declared.expression.AExpr.{AExpr}
 use Rattle.pipe_exprs.specs.declared.expression.AExpr.TheVariants as ax
 use Rattle.pipe_exprs.specs.declared.expression.Node.{Node}
-use Rattle.pipe_exprs.specs.Evaluated.{keeps_sorted, own_flag}
+use Rattle.pipe_exprs.specs.Evaluated.{keeps_sorted}
 use Rattle.pipe_model.specs.Expr.{Expr}
-use Rattle.pipe_exprs.specs.Nodes.{alias_input, tree_if}
-use Rattle.pipe_exprs.specs.Trees.{IsArena, tree, trees}
+use Rattle.pipe_exprs.specs.Nodes.{own_flag, tree_if}
+use Rattle.pipe_exprs.specs.Trees.{alias_input, IsArena, tree, trees}
 use Rattle.pipe_exprs.proofs.NameFacts.{tree_found}
 use Rattle.pipe_exprs.proofs.TreeFacts.{tree_is}
 use Rattle.pipe_exprs.proofs.ReachFacts.{first-below}

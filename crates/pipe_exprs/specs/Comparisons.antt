@@ -1,4 +1,4 @@
--- Which comparison an operator is.
+-- Of the proofs alone: which comparison an operator is.
 use Rattle.std.specs.Prelude.{Bool, false}
 use Rattle.std.specs.declared.cmp.Ordering.{Ordering}
 use Rattle.std.specs.Ordering.{is_eq, is_ne, is_lt, is_le, is_gt, is_ge}

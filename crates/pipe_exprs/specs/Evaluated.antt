@@ -5,10 +5,8 @@ use Rattle.pipe_columns.specs.declared.data_type.DataType.TheVariants as dt
 use Rattle.pipe_columns.specs.declared.any_value.AnyValue.{AnyValue}
 use Rattle.pipe_columns.specs.declared.any_value.AnyValue.TheVariants as av
 use Rattle.pipe_columns.specs.Frame.{ColumnData, FrameData, fields_of}
-use Rattle.pipe_exprs.specs.declared.expression.AExpr.{AExpr}
-use Rattle.pipe_exprs.specs.declared.expression.AExpr.TheVariants as ax
-use Rattle.pipe_exprs.specs.declared.values.Values.{Values}
-use Rattle.pipe_exprs.specs.declared.values.Values.TheVariants as values
+use Rattle.pipe_exprs.specs.declared.column_values.ColumnValues.{ColumnValues}
+use Rattle.pipe_exprs.specs.declared.column_values.ColumnValues.TheVariants as values
 use Rattle.pipe_model.specs.Expr.{Expr, name_of}
 use Rattle.pipe_model.specs.Expr as expr
 use Rattle.pipe_model.specs.Typing.{known_type}
@@ -55,11 +53,6 @@ counted_rows frame = record {
 }
 
 -- values that are lent, or held
-abbrev pub items_of : Values → List AnyValue
+abbrev pub items_of : ColumnValues → List AnyValue
 items_of (values.Lent items) = items.now
 items_of (values.Own items) = items.items
-
--- the flag of an expression that is no alias
-abbrev pub own_flag : Option AExpr → List ColumnData → Bool
-own_flag (Some (ax.Column name)) columns = sorted_if_any (column_named name columns)
-own_flag e columns = false

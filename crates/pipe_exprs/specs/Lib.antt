@@ -4,4 +4,5 @@ pub mod Evaluated
 pub mod Operands
 pub mod Uses
 pub mod NodeFacts
+pub mod ExprFacts
 pub mod Nodes

@@ -1,4 +1,4 @@
--- The values of a node of an expression in the rows of a frame, while they are at hand.
+-- Of the proofs alone: the values of a node in the rows of a frame, while they are at hand.
 use Rattle.std.specs.Prelude.{◌≡◌, ◌==◌, ◌<◌, ◌≤◌, fold, if◌then◌else◌, slice_index, slice_set, Bool, true, ℕ, List, Option, Some, None, length, map, nat_lt, slice_get, unwrap_or}
 use Rattle.pipe_columns.specs.declared.any_value.AnyValue.{AnyValue}
 use Rattle.pipe_columns.specs.declared.any_value.AnyValue.TheVariants as av

@@ -1,5 +1,5 @@
 -- The trees of an arena's expressions, and which lists of expressions are arenas.
-use Rattle.std.specs.Prelude.{◌≡◌, ◌&&◌, ◌+◌, ◌++◌, Bool, true, ℕ, List, [], ◌∷◌, fold, nat_lt, slice_get, unwrap_or}
+use Rattle.std.specs.Prelude.{◌≡◌, ◌&&◌, ◌+◌, ◌++◌, Bool, true, ℕ, List, [], ◌∷◌, fold, nat_lt, Option, Some, None, slice_get, unwrap_or}
 use Rattle.std.specs.List.{list_all}
 use Rattle.pipe_exprs.specs.declared.expression.Node.{Node}
 use Rattle.pipe_exprs.specs.declared.expression.AExpr.{AExpr}
@@ -32,6 +32,11 @@ agg_input (ir.Min n propagate_nans) = n
 agg_input (ir.Max n propagate_nans) = n
 agg_input (ir.Median n) = n
 agg_input (ir.NUnique n) = n
+
+-- the node under an alias, where there is an expression and it is one
+abbrev pub alias_input : Option AExpr → Option Node
+alias_input (Some (ax.Alias e name)) = Some e
+alias_input e = None
 
 -- the nodes that an expression names, from left to right
 abbrev pub children : AExpr → List Node

@@ -1,4 +1,4 @@
--- Which nodes the root of an expression reaches, and the last use of each.
+-- Of the proofs alone: which nodes the root of an expression reaches, and the last use of each.
 use Rattle.std.specs.Prelude.{◌≡◌, ◌+◌, ◌<◌, ◌≤◌, Bool, true, ℕ, max, List, length, fold, slice_get, slice_index, slice_set, Some}
 use Rattle.std.specs.List.{All}
 use Rattle.pipe_exprs.specs.declared.expression.Node.{Node}
@@ -13,7 +13,7 @@ noted user uses n = slice_set uses n.0 (max (slice_index uses n.0) user)
 abbrev pub noted_all : ℕ → List ℕ → List Node → List ℕ
 noted_all user uses nodes = fold (λ us n. noted user us n) uses nodes
 
--- what holds of the root, and of what a node names where it holds of the node
+-- the root passes a test, and so does each node that a node which passes names
 pub record Spreads (exprs : List AExpr) (root : Node) (test : ℕ → Bool) : Type 0 where
   pub begins : test root.0 ≡ true
   pub named : (k : ℕ) (e : AExpr) → slice_get exprs k ≡ Some e → test k ≡ true

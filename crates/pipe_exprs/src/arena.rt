@@ -1,13 +1,15 @@
+//! Expressions of which each names only earlier ones.
+
 ghost use Rattle.std.specs.Prelude.{◌≡◌, ◌<◌, ◌++◌, ◌∷◌, ◌↔◌, [], length, IfOk, OnErr, OnOk, IsErrOf, slice_get, option_copied, Some, true, false};
 ghost use Rattle.pipe_exprs.specs.declared.arena.AddError.TheVariants as add_error;
 ghost use Rattle.pipe_exprs.specs.Trees.{children_below, IsArena};
 
-use crate::expression::{AExpr, IRAggExpr, Node};
+use crate::expression::{AExpr, Node};
 use std::alloc::Global;
 use std::marker::Model;
 
 /// Why an expression was not added: it names a node that is not there, or memory is wanting.
-#[derive(Clone, Copy, Debug, PartialEq, Eq)]
+#[derive(Debug, Drop, PartialEq, Eq)]
 pub enum AddError {
     NoChild,
     Memory,
@@ -29,27 +31,6 @@ impl Model for Arena {
     ghost view = { λ a. a.exprs.items };
 
     ghost invariant = { λ a. IsArena a.exprs.items };
-}
-
-impl IRAggExpr {
-    ghost use Rattle.pipe_exprs.specs.Trees.{agg_input};
-
-    /// The node that is summed up.
-    pub fn input(&self) -> Node
-        ensures { result ≡ agg_input self.now }
-    {
-        match self {
-            IRAggExpr::Sum(input)
-            | IRAggExpr::First(input)
-            | IRAggExpr::Last(input)
-            | IRAggExpr::Mean(input)
-            | IRAggExpr::Count(input, _)
-            | IRAggExpr::Min { input, .. }
-            | IRAggExpr::Max { input, .. }
-            | IRAggExpr::Median(input)
-            | IRAggExpr::NUnique(input) => *input,
-        }
-    }
 }
 
 /// Whether an expression names only nodes below a number.

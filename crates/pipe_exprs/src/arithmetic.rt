@@ -1,3 +1,5 @@
+//! Arithmetic of two values of an integer type.
+
 ghost use Rattle.std.specs.Prelude.{◌≡◌, ◌≤◌, ◌^◌, ◌*ℤ◌, true};
 ghost use Rattle.std.specs.Int.RustNames.{unsigned_abs};
 ghost use Rattle.pipe_columns.specs.AnyValue.{fits, fits_number};
@@ -5,8 +7,7 @@ ghost use Rattle.pipe_columns.specs.declared.operator.Operator.TheVariants as op
 ghost use Rattle.pipe_model.specs.Operators.{arithmetic as arithmetic_of, exact_result, number_if_any};
 ghost use Rattle.pipe_columns.specs.DataType.{wrapped as wrap, is_integer};
 
-use pipe_columns::Operator;
-use pipe_columns::{AnyValue, DataType};
+use pipe_columns::{AnyValue, DataType, Operator};
 
 /// A number wrapped into a type.
 fn wrapped_into(number: i128, dtype: DataType) -> i128

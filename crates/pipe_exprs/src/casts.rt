@@ -1,3 +1,5 @@
+//! Values in other types.
+
 ghost use Rattle.std.specs.Prelude.{◌≡◌};
 ghost use Rattle.pipe_model.specs.Operators.{cast_value};
 

@@ -1,5 +1,8 @@
+//! The columns that expressions name, and which of them are sorted.
+
 ghost use Rattle.std.specs.Prelude.{◌≡◌, option_copied};
-ghost use Rattle.pipe_exprs.specs.Evaluated.{keeps_sorted, own_flag as flag_of};
+ghost use Rattle.pipe_exprs.specs.Evaluated.{keeps_sorted};
+ghost use Rattle.pipe_exprs.specs.Nodes.{own_flag as flag_of};
 ghost use Rattle.pipe_model.specs.Expr.{column};
 ghost use Rattle.pipe_columns.specs.Frame.{ColumnsFit};
 ghost use Rattle.pipe_exprs.specs.Operands.{HoldsValues};

@@ -1,3 +1,5 @@
+//! The evaluation of a root: each node that it reaches once, in the order of the arena.
+
 ghost use Rattle.std.specs.Prelude.{◌≡◌, ◌<◌, ◌≤◌, IfOk, OnOk, is_some, length, slice_index, true};
 ghost use Rattle.pipe_columns.specs.Frame.{fields_of, ColumnsFit};
 ghost use Rattle.pipe_exprs.specs.Operands.{AreHeld, HoldsValues, KeepsUsed, node_types as types_of, released, released_all};

@@ -1,5 +1,9 @@
-use pipe_columns::Operator;
-use pipe_columns::{AnyValue, DataType, Text};
+//! Nodes and the expressions that stand at them.
+
+ghost use Rattle.std.specs.Prelude.{◌≡◌};
+ghost use Rattle.pipe_exprs.specs.Trees.{agg_input};
+
+use pipe_columns::{AnyValue, DataType, Operator, Text};
 
 /// The position of an expression in an arena.
 #[derive(Clone, Copy, Debug, PartialEq, Eq)]
@@ -51,4 +55,23 @@ pub enum IRAggExpr {
     Max { input: Node, propagate_nans: bool },
     Median(Node),
     NUnique(Node),
+}
+
+impl IRAggExpr {
+    /// The node that is summed up.
+    pub fn input(&self) -> Node
+        ensures { result ≡ agg_input self.now }
+    {
+        match self {
+            IRAggExpr::Sum(input)
+            | IRAggExpr::First(input)
+            | IRAggExpr::Last(input)
+            | IRAggExpr::Mean(input)
+            | IRAggExpr::Count(input, _)
+            | IRAggExpr::Min { input, .. }
+            | IRAggExpr::Max { input, .. }
+            | IRAggExpr::Median(input)
+            | IRAggExpr::NUnique(input) => *input,
+        }
+    }
 }

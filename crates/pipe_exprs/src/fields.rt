@@ -1,3 +1,5 @@
+//! The name and the type of an expression over a schema.
+
 ghost use Rattle.std.specs.Prelude.{◌≡◌, ◌<◌, length, IfOk, OnOk, IsErrOf, Some, None, true, false};
 ghost use Rattle.pipe_exprs.specs.declared.fields.TypeFault.TheVariants as fault;
 ghost use Rattle.pipe_model.specs.Expr.{name_of};
@@ -13,7 +15,7 @@ use std::alloc::{AllocError, Global};
 
 /// Why an expression has no field: it reaches a column that the schema lacks, its parts have no
 /// type together, or memory is wanting.
-#[derive(Clone, Copy, Debug, PartialEq, Eq)]
+#[derive(Debug, Drop, PartialEq, Eq)]
 pub enum TypeFault {
     UnknownColumn,
     IllTyped,

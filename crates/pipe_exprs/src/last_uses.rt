@@ -1,3 +1,5 @@
+//! The last use of each node that a root reaches.
+
 ghost use Rattle.std.specs.Prelude.{◌≡◌, ◌<◌, IfOk, OnOk, length, true};
 ghost use Rattle.pipe_exprs.specs.Trees.{children, children_below, IsArena};
 ghost use Rattle.pipe_exprs.specs.Uses.{AreLastUses, noted, noted_all};

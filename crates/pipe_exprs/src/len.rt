@@ -1,3 +1,5 @@
+//! The number of rows, as an expression.
+
 ghost use Rattle.std.specs.Prelude.{◌≡◌, IfOk};
 ghost use Rattle.pipe_exprs.specs.Evaluated.{counted_rows};
 
@@ -5,7 +7,7 @@ use pipe_columns::{AnyValue, Column, DataChunk, DataType, Text};
 use std::alloc::{AllocError, Global};
 
 /// The number of rows, fed by a null for each row.
-#[derive(Clone, Copy, Debug, PartialEq, Eq)]
+#[derive(Debug, Drop, PartialEq, Eq)]
 pub struct Len;
 
 impl Len {

@@ -4,6 +4,7 @@
 mod arena;
 mod arithmetic;
 mod casts;
+mod column_values;
 mod columns;
 mod evaluate;
 mod expression;
@@ -20,10 +21,10 @@ mod piped_expr;
 mod rows;
 mod types;
 mod typing;
-mod values;
 mod worked;
 
 pub use arena::{AddError, Arena};
+pub use column_values::ColumnValues;
 pub use expression::{AExpr, IRAggExpr, Node};
 pub use facts::{NodeFacts, facts_at};
 pub use fields::{TypeFault, to_field};
@@ -33,7 +34,6 @@ pub use pipe_columns::Operator;
 pub use piped_expr::PipedExpr;
 pub use types::node_facts;
 pub use typing::{is_input, is_integer, sum_type};
-pub use values::Values;
 
 #[cfg(test)]
 mod cast_tests;

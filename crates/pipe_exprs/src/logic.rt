@@ -1,3 +1,5 @@
+//! Logic of three truths, and choices.
+
 ghost use Rattle.std.specs.Prelude.{◌≡◌};
 ghost use Rattle.pipe_model.specs.Operators.{and_values, chosen as choice, or_values};
 

@@ -2,8 +2,8 @@
 
 ghost use Rattle.std.specs.Prelude.{◌≡◌, option_copied};
 ghost use Rattle.pipe_model.specs.Expr.{name_of};
-ghost use Rattle.pipe_exprs.specs.Nodes.{alias_input, name_giver, own_name};
-ghost use Rattle.pipe_exprs.specs.Trees.{tree};
+ghost use Rattle.pipe_exprs.specs.Nodes.{name_giver, own_name};
+ghost use Rattle.pipe_exprs.specs.Trees.{alias_input, tree};
 
 use crate::arena::Arena;
 use crate::expression::{AExpr, Node};

@@ -1,3 +1,5 @@
+//! The operand of a node, from those of the nodes that it names.
+
 ghost use Rattle.std.specs.Prelude.{◌≡◌, ◌<◌, IfOk, is_some, length, true};
 ghost use Rattle.pipe_columns.specs.Frame.{fields_of, ColumnsFit};
 ghost use Rattle.pipe_exprs.specs.Operands.{AreHeld, HoldsValues, node_types, slot_at, type_at as type_of_node};

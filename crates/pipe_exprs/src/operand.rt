@@ -1,3 +1,5 @@
+//! The values of a node in the rows of a chunk, while it is evaluated.
+
 ghost use Rattle.std.specs.Prelude.{◌≡◌, ◌<◌, IfOk, map, true};
 ghost use Rattle.std.specs.List.{range_with_len};
 ghost use Rattle.pipe_exprs.specs.declared.operand.Operand.TheVariants as operand;

@@ -1,3 +1,5 @@
+//! What operators make of two values.
+
 ghost use Rattle.std.specs.Prelude.{◌≡◌, Bool, is_some, true};
 ghost use Rattle.std.specs.declared.cmp.Ordering.{Ordering as Order};
 ghost use Rattle.pipe_columns.specs.AnyValue.{fits};
@@ -7,8 +9,7 @@ ghost use Rattle.pipe_model.specs.Typing.{operator_type};
 
 use crate::arithmetic::arithmetic;
 use crate::logic::{and, or};
-use pipe_columns::Operator;
-use pipe_columns::{AnyValue, DataType};
+use pipe_columns::{AnyValue, DataType, Operator};
 use std::cmp::Ordering;
 
 /// Whether a comparison holds of an order: what is no comparison holds of none.

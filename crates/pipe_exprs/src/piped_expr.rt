@@ -1,3 +1,5 @@
+//! An expression with a value in each row of a chunk.
+
 ghost use Rattle.std.specs.Prelude.{◌≡◌, ◌<◌, length, IfOk, is_some, true};
 ghost use Rattle.pipe_columns.specs.Frame.{all_fit, fields_of};
 ghost use Rattle.pipe_exprs.specs.Evaluated.{evaluated, items_of, row_values};
@@ -5,18 +7,18 @@ ghost use Rattle.pipe_exprs.specs.Trees.{tree};
 ghost use Rattle.pipe_model.specs.Typing.{is_row_wise, known_type, type_of};
 
 use crate::arena::Arena;
+use crate::column_values::ColumnValues;
 use crate::columns::{is_sorted, recall_types};
 use crate::evaluate::root_operand;
 use crate::expression::Node;
 use crate::node_operand::type_at;
 use crate::operand::Operand;
 use crate::types::node_types;
-use crate::values::Values;
 use pipe_columns::{Column, DataChunk, Text};
 use std::alloc::{AllocError, Global};
 
 /// An expression with a value in each row of a chunk.
-#[derive(Clone, Copy, Debug, PartialEq, Eq)]
+#[derive(Debug, Drop, PartialEq, Eq)]
 pub struct PipedExpr {
     pub node: Node,
 }
@@ -55,7 +57,7 @@ impl PipedExpr {
         alloc: Global,
         arena: &Arena,
         chunk: &'a DataChunk,
-    ) -> Result<Values<'a>, AllocError>
+    ) -> Result<ColumnValues<'a>, AllocError>
         requires in_arena { self.now.node.0 < length arena.now }
         requires row_wise { is_row_wise (tree arena.now self.now.node) ≡ true }
         requires typed { is_some (type_of (tree arena.now self.now.node)
@@ -70,8 +72,8 @@ impl PipedExpr {
         recall_types(columns);
         let types = node_types(alloc, arena, columns)?;
         match root_operand(alloc, arena, self.node, &types, frame)? {
-            Operand::Lent(values) => Ok(Values::Lent(values)),
-            operand => Ok(Values::Own(operand.into_vec(alloc, frame.height())?)),
+            Operand::Lent(values) => Ok(ColumnValues::Lent(values)),
+            operand => Ok(ColumnValues::Own(operand.into_vec(alloc, frame.height())?)),
         }
     }
 }

@@ -1,3 +1,5 @@
+//! Casts, operators and choices over so many rows.
+
 ghost use Rattle.std.specs.Prelude.{◌≡◌, IfOk, is_some, map, true};
 ghost use Rattle.std.specs.List.{range_with_len};
 ghost use Rattle.pipe_exprs.specs.Operands.{has_height, operand_at, OperandFits};
@@ -7,9 +9,8 @@ ghost use Rattle.pipe_model.specs.Typing.{operator_type};
 use crate::casts::cast;
 use crate::logic::chosen;
 use crate::operand::Operand;
-use pipe_columns::Operator;
 use crate::operators::apply;
-use pipe_columns::{AnyValue, DataType};
+use pipe_columns::{AnyValue, DataType, Operator};
 use std::alloc::{AllocError, Global};
 
 /// The values of so many rows in another type.

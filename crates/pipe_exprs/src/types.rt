@@ -1,3 +1,5 @@
+//! What is known of all nodes of an arena, and their types.
+
 ghost use Rattle.std.specs.Prelude.{◌≡◌, IfOk, map};
 ghost use Rattle.pipe_columns.specs.Frame.{fields_of};
 ghost use Rattle.pipe_exprs.specs.NodeFacts.{facts_of};

@@ -2,13 +2,12 @@
 
 ghost use Rattle.std.specs.Prelude.{◌≡◌, ◌&&◌, true, None, Some, option_and_then, if◌then◌else◌};
 ghost use Rattle.pipe_columns.specs.DataType.{sum_type, is_castable, is_input, is_integer, same_type};
-ghost use Rattle.pipe_exprs.specs.NodeFacts.{cast_type};
+ghost use Rattle.pipe_exprs.specs.ExprFacts.{cast_type};
 ghost use Rattle.pipe_exprs.specs.Trees.{aggregation};
 ghost use Rattle.pipe_model.specs.Typing.{aggregate_type, both, mean_type, operator_type, shared_type, where_boolean};
 
 use crate::expression::IRAggExpr;
-use pipe_columns::Operator;
-use pipe_columns::DataType;
+use pipe_columns::{DataType, Operator};
 
 /// Whether two types are the same.
 fn is_same(left: DataType, right: DataType) -> bool

@@ -1,6 +1,6 @@
 use Rattle.std.proofs.Common.{◌≡◌, ◌∙◌, sym, ap}
 use Rattle.std.specs.Prelude.{Some, None, option_copied}
-use Rattle.pipe_exprs.specs.Nodes.{alias_input}
+use Rattle.pipe_exprs.specs.Trees.{alias_input}
 use Rattle.pipe_exprs.proofs.SortedFacts.{alias-below, alias-flag, flag-is}
 use Rattle.pipe_exprs.proofs.columns.is_sorted.Goals as goal
 

@@ -1,5 +1,5 @@
 use Rattle.std.proofs.Common.{◌≡◌}
-use Rattle.pipe_exprs.specs.NodeFacts.{expr_facts}
+use Rattle.pipe_exprs.specs.ExprFacts.{expr_facts}
 use Rattle.pipe_exprs.proofs.PassFacts.{known_more}
 use Rattle.pipe_exprs.proofs.types.node_facts.Goals as goal
 

@@ -1,6 +1,6 @@
 use Rattle.std.proofs.Common.{◌≡◌, ◌∙◌, sym}
 use Rattle.std.specs.Prelude.{option_copied, Some, None}
-use Rattle.pipe_exprs.specs.Nodes.{alias_input}
+use Rattle.pipe_exprs.specs.Trees.{alias_input}
 use Rattle.pipe_aggs.proofs.KnownFacts.{unaliased_below, unaliased_here}
 use Rattle.pipe_aggs.proofs.known.Known.unaliased.Goals as goal
 

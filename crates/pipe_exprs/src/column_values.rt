@@ -1,3 +1,5 @@
+//! The values of an expression in the rows of a chunk.
+
 ghost use Rattle.std.specs.Prelude.{◌≡◌};
 ghost use Rattle.pipe_exprs.specs.Evaluated.{items_of};
 
@@ -5,19 +7,19 @@ use pipe_columns::AnyValue;
 
 /// The values of an expression in the rows of a chunk: those of one of its columns, or of their own.
 #[derive(Drop)]
-pub enum Values<'a> {
+pub enum ColumnValues<'a> {
     Lent(&'a [AnyValue]),
     Own(Vec<AnyValue>),
 }
 
-impl<'a> Values<'a> {
+impl<'a> ColumnValues<'a> {
     /// The values in the order of the rows.
     pub fn as_slice(&self) -> &[AnyValue]
         ensures { result.now ≡ items_of self.now }
     {
         match self {
-            Values::Lent(values) => *values,
-            Values::Own(values) => values,
+            ColumnValues::Lent(values) => *values,
+            ColumnValues::Own(values) => values,
         }
     }
 }
