@@ -1,18 +1,16 @@
 -- The query whose expressions are the trees of an arena's nodes.
-use Rattle.std.specs.Prelude.{ℕ, ℤ, pos, negsuc, List, map, option_map}
-use Rattle.pipe_model.specs.Kind.{Kind}
-use Rattle.pipe_model.specs.Kind as kind
+use Rattle.std.specs.Prelude.{List, map}
 use Rattle.pipe_aggs.specs.declared.query.Query.{Query}
-use Rattle.pipe_model.specs.Convertible.{unaliased}
-use Rattle.pipe_model.specs.Expr.{Aggregation, Expr, name_of}
-use Rattle.pipe_model.specs.Expr as expr
-use Rattle.pipe_model.specs.Query.{AggTree, each, QueryTree, rows_alone, WrittenQuery}
 use Rattle.pipe_exprs.specs.Trees.{tree}
+use Rattle.pipe_model.specs.Expr.{Expr}
+use Rattle.pipe_model.specs.Query.{QueryTree, WrittenQuery}
+use Rattle.pipe_model.specs.WrittenTree.{written_tree}
 
--- the trees of a query's keys, and of its aggregates
+-- the trees of a query's keys
 abbrev pub key_exprs : Query → List Expr
 key_exprs q = map (tree q.arena) q.keys.items
 
+-- the trees of its aggregates
 abbrev pub agg_exprs : Query → List Expr
 agg_exprs q = map (tree q.arena) q.aggs.items
 
@@ -26,5 +24,6 @@ written q = record {
   keeps_order = q.maintain_order;
 }
 
+-- the query with its expressions as trees, and its aggregates by name, kind and input
 abbrev pub query_tree : Query → QueryTree
 query_tree q = written_tree (written q)

@@ -1,3 +1,5 @@
+//! The check of a query.
+
 ghost use Rattle.std.specs.Prelude.{◌≡◌, IfOk, IfNone, IfSome, IsErrOf, OnOk, None, Some, map, nat_lt};
 ghost use Rattle.std.specs.List.{All, list_all};
 ghost use Rattle.pipe_aggs.specs.declared.check.CheckError.TheVariants as error;
@@ -22,7 +24,7 @@ use pipe_running::AggregateFunction;
 use std::alloc::{AllocError, Global};
 
 /// Why a query was not checked to its end: its first fault, or memory is wanting.
-#[derive(Clone, Copy, Debug, PartialEq, Eq)]
+#[derive(Debug, Drop, PartialEq, Eq)]
 pub enum CheckError {
     Fault(QueryFault),
     Memory,

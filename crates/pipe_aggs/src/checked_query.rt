@@ -1,3 +1,5 @@
+//! A query without fault.
+
 ghost use Rattle.std.specs.Prelude.{◌≡◌, All, None, map};
 ghost use Rattle.pipe_aggs.specs.CheckedQuery.{HasShape, input_types, IsChecked, IsSound};
 ghost use Rattle.pipe_aggs.specs.Faults.{first_fault};
@@ -62,7 +64,7 @@ impl<'a> CheckedQuery<'a> {
     }
 
     /// The query itself.
-    pub fn query(&self) -> &Query
+    pub fn query(&self) -> &'a Query
         ensures query { result.now ≡ self.now }
         ensures faultless { first_fault self.now ≡ None }
         ensures shape { HasShape self.now }

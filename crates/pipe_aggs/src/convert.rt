@@ -1,3 +1,5 @@
+//! Which aggregates a table of groups can be asked to keep.
+
 ghost use Rattle.std.specs.Prelude.{◌≡◌, ◌<◌, ◌&&◌, length, IfOk, option_copied};
 ghost use Rattle.pipe_model.specs.Convertible.{convertible, is_some_integer, keeps};
 ghost use Rattle.pipe_aggs.specs.KnownArena.{kept_by};

@@ -1,3 +1,5 @@
+//! The running aggregate that an expression becomes, and what it is fed.
+
 ghost use Rattle.std.specs.Prelude.{◌≡◌, ◌<◌, length, option_copied, false, true, IfOk, is_some};
 ghost use Rattle.pipe_running.specs.declared.min_max.Direction.{Direction};
 ghost use Rattle.pipe_model.specs.Convertible.{convertible, unaliased};

@@ -1,3 +1,5 @@
+//! An arena, with what is known of its nodes over a schema.
+
 ghost use Rattle.std.specs.Prelude.{◌≡◌, IfOk, option_copied, slice_get};
 ghost use Rattle.pipe_model.specs.Convertible.{unaliased};
 ghost use Rattle.pipe_model.specs.Expr.{name_of};
@@ -47,8 +49,8 @@ impl<'a> Known<'a> {
     }
 
     /// What is known of a node.
-    pub(crate) fn facts(&self, node: Node) -> NodeFacts
-        ensures { result ≡ facts_of self.now.fields (tree self.now.exprs node) }
+    pub(crate) fn facts(&self, node: Node) -> &NodeFacts
+        ensures { result.now ≡ facts_of self.now.fields (tree self.now.exprs node) }
     {
         facts_at(&self.facts, node)
     }

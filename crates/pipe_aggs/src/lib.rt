@@ -19,7 +19,8 @@ pub use checked_query::CheckedQuery;
 pub use convert::can_convert_to_hash_agg;
 pub use hash_agg::{AggInput, HashAgg, convert_to_hash_agg};
 pub use pipe_exprs::{
-    AExpr, AddError, Arena, IRAggExpr, Len, Node, Operator, PipedExpr, TypeFault, Values, to_field,
+    AExpr, AddError, Arena, ColumnValues, IRAggExpr, Len, Node, Operator, PipedExpr, TypeFault,
+    to_field,
 };
 pub use pipe_running::{
     AggregateFn, AggregateFunction, CountAgg, Direction, Finalized, FirstAgg, LastAgg, MeanAgg,

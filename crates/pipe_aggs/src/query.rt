@@ -1,3 +1,5 @@
+//! A query, as it is handed on.
+
 use pipe_columns::Schema;
 use pipe_exprs::{Arena, Node};
 

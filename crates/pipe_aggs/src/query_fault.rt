@@ -1,3 +1,5 @@
+//! What can be wrong with a query.
+
 /// What is wrong with a query: the first fault in this order.
 #[derive(Clone, Copy, Debug, PartialEq, Eq)]
 pub enum QueryFault {
