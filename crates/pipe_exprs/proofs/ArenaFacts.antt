@@ -1,6 +1,8 @@
 -- An arena with one more expression.
 use Rattle.std.proofs.Common.{◌≡◌, ◌+◌, ◌&&◌, ℕ, List, [], ◌∷◌, ◌++◌, length, Bool, true, false, if◌then◌else◌, refl, arith, add-zero}
+use Rattle.std.proofs.lemmas.List.Elements.{All-push}
 use Rattle.pipe_exprs.specs.declared.expression.AExpr.{AExpr}
+use Rattle.pipe_exprs.specs.Literals.{HasUtf8Literal, HaveUtf8Literals}
 use Rattle.pipe_exprs.specs.Trees.{IsArena, arena_from, children_below}
 
 and_split : (a b : Bool) → (a && b) ≡ true → (a ≡ true) × (b ≡ true)
@@ -24,3 +26,9 @@ pub arena_pushed : (b : Bool) (es new : List AExpr) (e : AExpr)
 arena_pushed true es new e is h c =
     rw is (arena_added 0 es e h (let zero_more : 0 + length es ≡ length es = omega arith in rw zero_more c))
 arena_pushed false es new e is h c = rw is h
+
+-- its literals are in UTF-8
+pub literals_pushed : (b : Bool) (es new : List AExpr) (e : AExpr)
+    → new ≡ (if b then es ++ (e ∷ []) else es) → HaveUtf8Literals es → HasUtf8Literal e → HaveUtf8Literals new
+literals_pushed true es new e is h l = rw is (All-push HasUtf8Literal es e h l)
+literals_pushed false es new e is h l = rw is h

@@ -81,7 +81,7 @@ arithmetic-fits o t av.Null b i = refl
 arithmetic-fits o t (av.Boolean a) b i = refl
 arithmetic-fits o t (av.Text a) b i = refl
 
-comparison-fits : (test : Ordering → Bool) (a b : AnyValue) → fits (comparison test a b) dt.Boolean ≡ true
+pub comparison-fits : (test : Ordering → Bool) (a b : AnyValue) → fits (comparison test a b) dt.Boolean ≡ true
 comparison-fits test av.Null b = refl
 comparison-fits test (av.Boolean a) b = by_right b where
   by_right : (b : AnyValue) → fits (comparison test (av.Boolean a) b) dt.Boolean ≡ true
@@ -102,10 +102,10 @@ comparison-fits test (av.Text a) b = by_right b where
   by_right (av.Int b) = refl
   by_right (av.Text b) = refl
 
-and-fits : (a b : AnyValue) → fits (and_values a b) dt.Boolean ≡ true
+pub and-fits : (a b : AnyValue) → fits (and_values a b) dt.Boolean ≡ true
 and-fits a b = grind arith
 
-or-fits : (a b : AnyValue) → fits (or_values a b) dt.Boolean ≡ true
+pub or-fits : (a b : AnyValue) → fits (or_values a b) dt.Boolean ≡ true
 or-fits a b = grind arith
 
 -- a type that meets a test

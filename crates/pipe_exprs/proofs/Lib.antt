@@ -3,6 +3,7 @@ pub mod RowFacts
 pub mod NumberFacts
 pub mod TreeFacts
 pub mod FitFacts
+pub mod TextFacts
 pub mod UseFacts
 pub mod OperandFacts
 pub mod ReachFacts

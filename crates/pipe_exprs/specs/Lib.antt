@@ -1,8 +1,10 @@
 pub mod Trees
 pub mod Comparisons
+pub mod Literals
 pub mod Evaluated
 pub mod Operands
 pub mod Uses
 pub mod NodeFacts
 pub mod ExprFacts
 pub mod Nodes
+pub mod Worked

@@ -2,6 +2,7 @@
 
 ghost use Rattle.std.specs.Prelude.{◌≡◌, ◌<◌, ◌++◌, ◌∷◌, ◌↔◌, [], length, IfOk, OnErr, OnOk, IsErrOf, slice_get, option_copied, Some, true, false};
 ghost use Rattle.pipe_exprs.specs.declared.arena.AddError.TheVariants as add_error;
+ghost use Rattle.pipe_exprs.specs.Literals.{HasUtf8Literal, HaveUtf8Literals};
 ghost use Rattle.pipe_exprs.specs.Trees.{children_below, IsArena};
 
 use crate::expression::{AExpr, Node};
@@ -24,21 +25,28 @@ pub struct Arena {
 impl Model for Arena {
     ghost use Rattle.std.specs.Prelude.{List};
     ghost use Rattle.pipe_exprs.specs.declared.expression.AExpr.{AExpr};
+    ghost use Rattle.pipe_exprs.specs.Literals.{HaveUtf8Literals};
     ghost use Rattle.pipe_exprs.specs.Trees.{IsArena};
 
     ghost Value = { List AExpr };
 
     ghost view = { λ a. a.exprs.items };
 
-    ghost invariant = { λ a. IsArena a.exprs.items };
+    ghost invariant = { λ a. IsArena a.exprs.items × HaveUtf8Literals a.exprs.items };
 }
 
-/// Whether an expression names only nodes below a number.
+/// Whether an expression names only nodes below a number. The look at a literal shows that its text
+/// is in UTF-8.
 fn has_children(expr: &AExpr, count: usize) -> bool
-    ensures { result ≡ children_below count expr.now }
+    ensures below { result ≡ children_below count expr.now }
+    ensures utf8 { HasUtf8Literal expr.now }
 {
     match expr {
-        AExpr::Column(_) | AExpr::Literal { .. } | AExpr::Len => true,
+        AExpr::Column(_) | AExpr::Len => true,
+        AExpr::Literal { dtype, value } => {
+            let _fits = value.fits(*dtype);
+            true
+        }
         AExpr::Cast { expr, .. } | AExpr::Sort { expr } => expr.0 < count,
         AExpr::BinaryExpr { left, right, .. } => left.0 < count && right.0 < count,
         AExpr::Ternary {
@@ -66,6 +74,7 @@ impl Arena {
     pub fn len(&self) -> usize
         ensures count { result ≡ length self.now }
         ensures earlier { IsArena self.now }
+        ensures utf8 { HaveUtf8Literals self.now }
     {
         self.exprs.len()
     }
@@ -94,6 +103,7 @@ impl Arena {
         requires { node.0 < length self.now }
         ensures some { slice_get self.now node.0 ≡ Some result.now }
         ensures earlier { IsArena self.now }
+        ensures utf8 { HaveUtf8Literals self.now }
     {
         &self.exprs[node.0]
     }
@@ -102,6 +112,7 @@ impl Arena {
     pub fn find(&self, node: Node) -> Option<&AExpr>
         ensures found { option_copied result ≡ slice_get self.now node.0 }
         ensures earlier { IsArena self.now }
+        ensures utf8 { HaveUtf8Literals self.now }
     {
         self.exprs.get(node.0)
     }

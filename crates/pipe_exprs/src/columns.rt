@@ -4,7 +4,6 @@ ghost use Rattle.std.specs.Prelude.{◌≡◌, option_copied};
 ghost use Rattle.pipe_exprs.specs.Evaluated.{keeps_sorted};
 ghost use Rattle.pipe_exprs.specs.Nodes.{own_flag as flag_of};
 ghost use Rattle.pipe_model.specs.Expr.{column};
-ghost use Rattle.pipe_columns.specs.Frame.{ColumnsFit};
 ghost use Rattle.pipe_exprs.specs.Operands.{HoldsValues};
 ghost use Rattle.pipe_exprs.specs.Trees.{tree};
 ghost use Rattle.pipe_model.specs.Value.{column_named as named};
@@ -34,15 +33,6 @@ pub(crate) fn column_operand<'a>(frame: &'a DataFrame, name: &Text) -> Operand<'
     match column_named(frame.columns(), name) {
         Some(column) => Operand::Lent(column.values()),
         None => Operand::Constant(AnyValue::Null),
-    }
-}
-
-/// Recalls that the values of columns fit their types, by a look at each column.
-pub(crate) fn recall_types(columns: &[Column])
-    ensures { ColumnsFit columns.now }
-{
-    for column in columns {
-        column.values();
     }
 }
 

@@ -3,6 +3,7 @@
 ghost use Rattle.std.specs.Prelude.{◌≡◌, ◌<◌, ◌≤◌, IfOk, OnOk, is_some, length, slice_index, true};
 ghost use Rattle.pipe_columns.specs.Frame.{fields_of, ColumnsFit};
 ghost use Rattle.pipe_exprs.specs.Operands.{AreHeld, HoldsValues, KeepsUsed, node_types as types_of, released, released_all};
+ghost use Rattle.pipe_exprs.specs.Literals.{HaveUtf8Literals};
 ghost use Rattle.pipe_exprs.specs.Trees.{children, children_below, tree};
 ghost use Rattle.pipe_model.specs.Typing.{type_of};
 
@@ -103,7 +104,8 @@ pub(crate) fn root_operand<'a>(
     requires types { types.now ≡ types_of arena.now frame.now.columns }
     requires fit { ColumnsFit frame.now.columns }
     requires typed { is_some (type_of (tree arena.now root) (fields_of frame.now.columns)) ≡ true }
-    ensures { IfOk result (λ o. HoldsValues frame.now (tree arena.now root) o) }
+    ensures values { IfOk result (λ o. HoldsValues frame.now (tree arena.now root) o) }
+    ensures utf8 { OnOk result (HaveUtf8Literals arena.now) }
 {
     let uses = last_uses(alloc, arena, root)?;
     let mut slots = Vec::with_capacity(alloc, uses.len())?;

@@ -1,6 +1,7 @@
 //! The last use of each node that a root reaches.
 
 ghost use Rattle.std.specs.Prelude.{◌≡◌, ◌<◌, IfOk, OnOk, length, true};
+ghost use Rattle.pipe_exprs.specs.Literals.{HaveUtf8Literals};
 ghost use Rattle.pipe_exprs.specs.Trees.{children, children_below, IsArena};
 ghost use Rattle.pipe_exprs.specs.Uses.{AreLastUses, noted, noted_all};
 
@@ -52,6 +53,7 @@ pub(crate) fn last_uses(alloc: Global, arena: &Arena, root: Node) -> Result<Vec<
     requires in_arena { root.0 < length arena.now }
     ensures uses { IfOk result (λ uses. AreLastUses arena.now root 0 uses.items) }
     ensures earlier { OnOk result (IsArena arena.now) }
+    ensures utf8 { OnOk result (HaveUtf8Literals arena.now) }
 {
     let mut uses = Vec::new(alloc);
     for _ in 0..root.0 {

@@ -11,6 +11,7 @@ mod expression;
 mod facts;
 mod fields;
 mod last_uses;
+mod laws;
 mod len;
 mod logic;
 mod names;

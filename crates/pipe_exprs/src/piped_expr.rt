@@ -1,6 +1,7 @@
 //! An expression with a value in each row of a chunk.
 
-ghost use Rattle.std.specs.Prelude.{◌≡◌, ◌<◌, length, IfOk, is_some, true};
+ghost use Rattle.std.specs.Prelude.{◌≡◌, ◌<◌, All, length, IfOk, is_some, true};
+ghost use Rattle.pipe_columns.specs.AnyValue.{HasUtf8};
 ghost use Rattle.pipe_columns.specs.Frame.{all_fit, fields_of};
 ghost use Rattle.pipe_exprs.specs.Evaluated.{evaluated, items_of, row_values};
 ghost use Rattle.pipe_exprs.specs.Trees.{tree};
@@ -8,7 +9,7 @@ ghost use Rattle.pipe_model.specs.Typing.{is_row_wise, known_type, type_of};
 
 use crate::arena::Arena;
 use crate::column_values::ColumnValues;
-use crate::columns::{is_sorted, recall_types};
+use crate::columns::is_sorted;
 use crate::evaluate::root_operand;
 use crate::expression::Node;
 use crate::node_operand::type_at;
@@ -40,7 +41,6 @@ impl PipedExpr {
     {
         let frame = &chunk.frame;
         let columns = frame.columns();
-        recall_types(columns);
         let types = node_types(alloc, arena, columns)?;
         let operand = root_operand(alloc, arena, self.node, &types, frame)?;
         let values = operand.into_vec(alloc, frame.height())?;
@@ -66,10 +66,10 @@ impl PipedExpr {
             ≡ row_values (tree arena.now self.now.node) chunk.now.frame) }
         ensures fit { IfOk result (λ v. all_fit (known_type (tree arena.now self.now.node)
             (fields_of chunk.now.frame.columns)) (items_of v) ≡ true) }
+        ensures utf8 { IfOk result (λ v. All HasUtf8 (items_of v)) }
     {
         let frame = &chunk.frame;
         let columns = frame.columns();
-        recall_types(columns);
         let types = node_types(alloc, arena, columns)?;
         match root_operand(alloc, arena, self.node, &types, frame)? {
             Operand::Lent(values) => Ok(ColumnValues::Lent(values)),

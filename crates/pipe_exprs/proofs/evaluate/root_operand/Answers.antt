@@ -47,8 +47,8 @@ loop-place-preserved c =
 pub unwrap-requires : goal.unwrap-requires
 unwrap-requires c = c.pop.ensures.variant.1 (omega (arith, c.loop-place-test.false, c.len-place-end.ensures, c.in_ok-uses.uses.ok.0, c.in_ok-uses.ensures.uses.size, c.loop-place.invariant.size, c.loop-place.slots.ok.0))
 
-pub returns : goal.returns
-returns c =
+pub returns-clause-values : goal.returns-clause-values
+returns-clause-values c =
     let slots : List Operand = c.loop-place.slots.items in
     let all : c.loop-place.place ≡ length c.in_ok-uses.uses.items = omega (arith, c.loop-place-test.false, c.loop-place.auto.place-end, c.len-place-end.ensures, c.in_ok-uses.uses.ok.0) in
     let some : 0 < vec_len c.loop-place.slots = omega (arith, all, c.in_ok-uses.ensures.uses.size, c.loop-place.invariant.size, c.loop-place.slots.ok.0) in
