@@ -52,7 +52,7 @@ pub key_types_are : (q : Query) (k : KnownArena) → k ≡ record { exprs = q.ar
 key_types_are q k same = rw same (sym (map-map (λ e. known_type e q.schema) (tree q.arena) q.keys.items))
 
 pub input_types_are : (q : Query) (k : KnownArena) → k ≡ record { exprs = q.arena; fields = q.schema }
-    → map (λ n. input_type k.fields (agg_tree (tree k.exprs n)).input) q.aggs.items ≡ input_types q
+    → map (λ n. input_type k.fields (agg_tree (tree k.exprs n)).input) q.aggs.items ≡ input_types (query_tree q)
 input_types_are q k same =
     let inner = map-map agg_tree (tree q.arena) q.aggs.items in
     let outer = map-map (λ a. input_type q.schema a.input) (λ n. agg_tree (tree q.arena n)) q.aggs.items in

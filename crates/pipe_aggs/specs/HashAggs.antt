@@ -1,5 +1,5 @@
 -- The running aggregate that an expression becomes, and what it is fed.
-use Rattle.std.specs.Prelude.{◌&&◌, ◌<◌, Bool, map, not, true, List, length, ⊤}
+use Rattle.std.specs.Prelude.{◌<◌, map, List, length, ⊤}
 use Rattle.pipe_columns.specs.declared.data_type.DataType.{DataType}
 use Rattle.pipe_columns.specs.declared.data_type.DataType.TheVariants as dt
 use Rattle.pipe_native.specs.Native.{native_i32, native_i64, native_u32, native_u64}
@@ -16,7 +16,6 @@ use Rattle.pipe_aggs.specs.declared.hash_agg.AggInput.TheVariants as input
 use Rattle.pipe_model.specs.Output.{input_type}
 use Rattle.pipe_model.specs.Query.{each, Input, QueryTree, rows_alone}
 use Rattle.pipe_exprs.specs.Trees.{tree}
-use Rattle.pipe_columns.specs.DataType.{is_date, is_input, is_integer}
 
 -- a null of a type: what stands where there is no number to add up
 abbrev pub null_function : DataType → AggregateFunction

@@ -7,6 +7,7 @@ ghost use Rattle.pipe_aggs.specs.declared.query_fault.QueryFault.{QueryFault};
 ghost use Rattle.pipe_aggs.specs.CheckedQuery.{HasShape, input_types, IsSound};
 ghost use Rattle.pipe_aggs.specs.Faults.{first_fault, has_nodes, is_negative_slice};
 ghost use Rattle.pipe_aggs.specs.HashAggs.{input_of, IsThere, prototypes};
+ghost use Rattle.pipe_exprs.specs.Literals.{HaveUtf8Literals};
 ghost use Rattle.pipe_model.specs.Output.{key_types};
 ghost use Rattle.pipe_aggs.specs.QueryTrees.{query_tree};
 
@@ -78,7 +79,7 @@ fn input_types_of(
     known: &Known<'_>,
 ) -> Result<Vec<DataType>, AllocError>
     requires { known.now ≡ record { exprs = query.now.arena; fields = query.now.schema } }
-    ensures { IfOk result (λ types. types.items ≡ input_types query.now) }
+    ensures { IfOk result (λ types. types.items ≡ input_types (query_tree query.now)) }
 {
     let mut types = Vec::with_capacity(alloc, query.aggs.len())?;
     for agg in &query.aggs {
@@ -120,7 +121,8 @@ fn prototypes_of(
 impl Query {
     /// Whether the keys and aggregates are in the arena.
     fn has_nodes(&self) -> bool
-        ensures { result ≡ has_nodes self.now }
+        ensures nodes { result ≡ has_nodes self.now }
+        ensures texts { HaveUtf8Literals self.now.arena }
     {
         let count = self.arena.len();
         are_below(&self.keys, count) && are_below(&self.aggs, count)
@@ -130,6 +132,7 @@ impl Query {
     fn shape_fault(&self) -> Option<QueryFault>
         ensures some { IfSome result (λ f. first_fault self.now ≡ Some f) }
         ensures none { IfNone result (HasShape self.now) }
+        ensures texts { IfNone result (HaveUtf8Literals self.now.arena) }
     {
         if has_double(self.schema.fields()) {
             Some(QueryFault::DoubleName)

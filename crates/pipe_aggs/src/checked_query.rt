@@ -91,7 +91,7 @@ impl<'a> CheckedQuery<'a> {
 
     /// The types of what the aggregates are fed. A count of rows is fed nulls of UInt32.
     pub fn input_types(&self) -> &[DataType]
-        ensures { result.now ≡ input_types self.now }
+        ensures { result.now ≡ input_types (query_tree self.now) }
     {
         &self.input_types
     }

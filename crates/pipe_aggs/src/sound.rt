@@ -6,6 +6,7 @@ ghost use Rattle.pipe_aggs.specs.CheckedQuery.{HasShape, IsSound};
 ghost use Rattle.pipe_model.specs.Convertible.{convertible, unaliased};
 ghost use Rattle.pipe_aggs.specs.Faults.{adds_dates, all_exprs, first_fault, is_typed};
 ghost use Rattle.pipe_aggs.specs.QueryTrees.{agg_exprs, key_exprs};
+ghost use Rattle.pipe_exprs.specs.Literals.{HaveUtf8Literals};
 ghost use Rattle.pipe_exprs.specs.Trees.{tree};
 ghost use Rattle.pipe_columns.specs.DataType.{is_input};
 ghost use Rattle.pipe_model.specs.Typing.{is_row_wise, knows_columns, type_of};
@@ -118,6 +119,7 @@ fn has_sum_of_dates(query: &Query, known: &Known<'_>) -> bool
 pub(crate) fn expr_fault(query: &Query, known: &Known<'_>) -> Option<QueryFault>
     requires known { known.now ≡ record { exprs = query.now.arena; fields = query.now.schema } }
     requires shape { HasShape query.now }
+    requires texts { HaveUtf8Literals query.now.arena }
     ensures some { IfSome result (λ f. first_fault query.now ≡ Some f) }
     ensures none { IfNone result (IsSound query.now) }
 {

@@ -1,4 +1,4 @@
--- Which expressions are aggregates that can be kept in a hash table of groups.
+-- Which expressions are convertible: they are aggregates of kinds that tables of groups are made for.
 use Rattle.std.specs.Prelude.{Bool, true, false, not, ◌&&◌, List, Option, Some, None}
 use Rattle.pipe_columns.specs.declared.data_type.DataType.{DataType}
 use Rattle.pipe_columns.specs.declared.schema.Field.{Field}
@@ -25,7 +25,7 @@ abbrev pub is_some_integer : Option DataType → Bool
 is_some_integer None = false
 is_some_integer (Some t) = is_integer t
 
--- whether an aggregate can be kept for an input of a type, or of none
+-- whether an aggregation is of such a kind, of an input of a type or of none
 abbrev pub keeps : Aggregation → Option DataType → Bool
 keeps expr.sum t = true
 keeps expr.first t = true
@@ -37,8 +37,8 @@ keeps (expr.max propagate_nans) t = not propagate_nans && is_some_integer t
 keeps expr.median t = false
 keeps expr.n_unique t = false
 
--- whether an expression is the number of rows, or an aggregate that can be kept of values in each
--- row
+-- whether an expression without alias is convertible: it is the number of rows, or an aggregation of
+-- such a kind of values in each row
 abbrev pub is_kept : Expr → List Field → Bool
 is_kept (expr.column name) schema = false
 is_kept (expr.literal t v) schema = false
@@ -51,6 +51,6 @@ is_kept expr.len schema = true
 is_kept (expr.filter e by) schema = false
 is_kept (expr.sort e) schema = false
 
--- whether an expression is such an aggregate, under one alias or none
+-- whether an expression is convertible, under one alias or none
 abbrev pub convertible : Expr → List Field → Bool
 convertible e schema = is_kept (unaliased e) schema

@@ -5,7 +5,7 @@ use Rattle.pipe_columns.specs.declared.any_value.AnyValue.{AnyValue}
 use Rattle.pipe_columns.specs.declared.operator.Operator.{Operator}
 
 -- how an aggregate sums up the values of its input; a count tells whether nulls count, and a least
--- or greatest value whether it propagates numbers that are none
+-- or greatest value whether it propagates NaNs
 pub data Aggregation : Type 0 where
   sum : Aggregation
   first : Aggregation

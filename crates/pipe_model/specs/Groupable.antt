@@ -20,8 +20,8 @@ abbrev pub is_fed : List Field → Input → Bool
 is_fed schema (each e) = is_valued schema e
 is_fed schema rows_alone = true
 
--- whether a table of groups can keep a kind over values of a type: no sum or mean of dates, and a
--- least or greatest value of integers alone
+-- whether a kind has a running aggregate over values of a type: no sum or mean of dates or of 128
+-- bits, and a least or greatest value of integers alone
 abbrev pub suited : Kind → DataType → Bool
 suited kind.sum t = is_input t && not (is_date t)
 suited kind.mean t = is_input t && not (is_date t)
@@ -32,11 +32,11 @@ suited kind.last t = true
 suited kind.count t = true
 suited kind.len t = true
 
--- whether a table of groups can keep an aggregate
+-- whether an aggregate has a running one over the type of its input
 abbrev pub is_suited : List Field → AggTree → Bool
 is_suited schema a = suited a.kind (input_type schema a.input)
 
--- keys and inputs have values in each row, and a table of groups can keep the aggregates
+-- keys and inputs have values in each row, and each aggregate has a running one
 pub record IsGroupable (q : QueryTree) : Type 0 where
   pub keys : list_all (is_valued q.schema) q.keys ≡ true
   pub inputs : list_all (λ a. is_fed q.schema a.input) q.aggs ≡ true

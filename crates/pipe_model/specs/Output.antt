@@ -20,7 +20,7 @@ input_type schema rows_alone = dt.UInt32
 abbrev pub key_types : QueryTree → List DataType
 key_types q = map (λ e. known_type e q.schema) q.keys
 
--- the two halves of a mean are its exact sum and its count
+-- the columns of a mean: its exact sum and its count, and a sole column for texts
 abbrev pub mean_fields : List ℕ → DataType → List Field
 mean_fields name dt.String = record { name = name; dtype = dt.String } ∷ []
 mean_fields name t =

@@ -5,7 +5,7 @@ use Rattle.std.specs.Ordering.{eq_by_cmp}
 use Rattle.pipe_columns.specs.declared.any_value.AnyValue.{AnyValue}
 use Rattle.pipe_columns.specs.declared.any_value.AnyValue.TheVariants as av
 use Rattle.pipe_columns.specs.declared.data_chunk.DataChunk.{DataChunk}
-use Rattle.pipe_columns.specs.Frame.{FitsSchema, FrameData}
+use Rattle.pipe_columns.specs.Frame.{FitsSchema, FrameData, HoldsTypes}
 use Rattle.pipe_columns.specs.Place.{place_cmp}
 use Rattle.pipe_columns.specs.Row.{Row}
 use Rattle.pipe_model.specs.Value.{value}
@@ -49,8 +49,10 @@ HaveDistinctPlaces rs = IsDistinct (eq_by_cmp place_cmp) (map (λ r. r.place) rs
 abbrev pub total_height : List DataChunk → ℕ
 total_height chunks = sum_by (λ c. c.frame.height) chunks
 
--- chunks that a query may be asked of: each has the columns of its schema, and rows have places
+-- chunks that a query may be asked of: each has the columns of its schema, its values fit their types
+-- and are in UTF-8, and rows have places
 pub record AreChunksOf (q : QueryTree) (chunks : List DataChunk) : Type 0 where
   pub columns : All (λ c. FitsSchema q.schema c.frame) chunks
+  pub typed : All (λ c. HoldsTypes c.frame) chunks
   pub rows : total_height chunks < 2 ^ 32
   pub number : length chunks < 2 ^ 32

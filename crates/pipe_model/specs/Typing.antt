@@ -45,7 +45,7 @@ operator_type op.GtEq a b = truth_type is_input a b
 operator_type op.And a b = truth_type is_boolean a b
 operator_type op.Or a b = truth_type is_boolean a b
 
--- the type of a mean: its exact sum is one of 128 bits
+-- the type of a mean: that of an exact sum for integers and truths, and else the values' own
 abbrev pub mean_type : DataType → DataType
 mean_type t = if is_integer t || is_boolean t then dt.Int128 else t
 
@@ -88,7 +88,7 @@ type_of expr.len schema = Some dt.UInt32
 type_of (expr.filter e by) schema = where_boolean (type_of by schema) (type_of e schema)
 type_of (expr.sort e) schema = type_of e schema
 
--- the type of an expression that has one
+-- the type of an expression, UInt32 for one that has none
 abbrev pub known_type : Expr → List Field → DataType
 known_type e schema = unwrap_or (type_of e schema) dt.UInt32
 

@@ -7,7 +7,7 @@ use Rattle.pipe_model.specs.Expr as expr
 use Rattle.pipe_model.specs.Convertible.{unaliased}
 use Rattle.pipe_model.specs.Query.{AggTree, each, QueryTree, rows_alone, WrittenQuery}
 
--- the kind of an aggregation that can be kept
+-- the kind that an aggregation becomes: `len` where it isn't convertible
 abbrev pub kept_kind : Aggregation → Kind
 kept_kind expr.sum = kind.sum
 kept_kind expr.first = kind.first
