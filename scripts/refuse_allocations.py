@@ -3,7 +3,7 @@
 
 usage: scripts/refuse_allocations.py [--jobs N] [CRATE..], where the crates are those with a file src/memory_tests.rt if none is named.
 `rt try --test --fail-alloc N` builds a crate's tests without a proof and refuses the allocation of number N in each of them. A test of memory_tests
-may then end with the right answer, or with an error that ends in `wants memory` (or is AllocError, in what the test prepares); another answer fails the script.
+may then end with the right answer, with an error that says that the call `wants memory`, or with one of an allocation that prepared the call; another answer fails the script.
 A crate is done where every test gave the right answer in so many runs on end as ENOUGH says: the allocations are then behind us.
 """
 
@@ -16,7 +16,7 @@ import sys
 ROOT = os.path.dirname(os.path.dirname(os.path.abspath(__file__)))
 MOST = 500
 ENOUGH = 6
-RIGHT, WANT = "the right answer", "want of memory"
+RIGHT, WANT, PREPARED = "the right answer", "want of memory", "want of memory before the call"
 TEST = re.compile(r"^test memory_tests::(\w+) \.\.\. (\w+)\n((?:    .*\n)*)", re.M)
 
 
@@ -25,8 +25,10 @@ def ended(verdict, told):
     if verdict == "ok":
         return RIGHT
     error = re.search(r"^    error: (.*)$", told, re.M)
-    if error and re.search(r"wants memory$|^AllocError$", error.group(1)):
+    if error and re.search(r'wants memory"?$', error.group(1)):
         return WANT
+    if error and re.match(r"(AllocError|AllocFailed \{ \.\. \})$", error.group(1)):
+        return PREPARED
     return "another answer: " + (error.group(1) if error else " ".join(told.split()) or verdict)
 
 
@@ -63,10 +65,10 @@ def try_crate(crate, jobs):
     wrong = 0
     for name in sorted({name for run in runs for name in run}):
         answers = [run.get(name, "another answer: it did not run") for run in runs]
-        wrong += sum(answer not in (RIGHT, WANT) for answer in answers)
-        if answers[-1] == WANT:
+        wrong += sum(answer not in (RIGHT, WANT, PREPARED) for answer in answers)
+        if answers[-1] != RIGHT:
             wrong += 1
-            answers.append(f"another answer: it still wants memory where allocation {MOST} is refused")
+            answers.append(f"another answer: not the right one where allocation {len(runs)} is refused")
         for span in spans(answers):
             print(f"{crate} {name}: allocation {span}")
         if WANT not in answers:
