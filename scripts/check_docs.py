@@ -169,10 +169,13 @@ def check_definitions(definitions, write):
             fault(DEFINITIONS, number, f"the row of {d.name} differs from the comment at {d.path}:{d.line}")
         elif line not in rows_old:
             fault(DEFINITIONS, 0, f"no row for {d.name} of {d.path}:{d.line}")
-    known = {tuple(cells(line)[::2]) for line in rows_new}
+    known = {tuple(cells(row(d))[::2]): d.alone for d in definitions}
     for place, number in places.items():
+        name, path = (part.strip("`") for part in place)
         if place not in known:
-            fault(DEFINITIONS, number, f"no definition {place[0].strip('`')} in crates/{place[1].strip('`')}")
+            fault(DEFINITIONS, number, f"no definition {name} in crates/{path}")
+        elif known[place]:
+            fault(DEFINITIONS, number, f"{name} of crates/{path} is of the proofs alone, and wants no row")
     fault(DEFINITIONS, 0, "differs from what is printed; scripts/check_docs.sh --write writes it anew")
 
 
