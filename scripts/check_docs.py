@@ -220,11 +220,11 @@ FUNCTION = re.compile(r"\bfn (\w+)")
 
 
 def functions(text):
-    """Each function of a source file, with the names of its clauses."""
+    """Each function of a source file, with the names of its clauses; a clause without a name has the name ``."""
     found = list(FUNCTION.finditer(text))
     for at, head in enumerate(found):
         end = found[at + 1].start() if at + 1 < len(found) else len(text)
-        yield head.group(1), re.findall(r"\bensures (\w+) \{", text[head.start():end])
+        yield head.group(1), re.findall(r"\bensures (\w*) ?\{", text[head.start():end])
 
 
 def check_clauses(page, line, cell):
@@ -243,9 +243,9 @@ def check_clauses(page, line, cell):
                 fault(page, line, f"no function {function} in {path}")
             if owner and not re.search(rf"\b(impl|trait|struct|enum)\b[^{{]*\b{owner}\b", text):
                 fault(page, line, f"no type {owner} in {path}")
-            for clause in first if second and clauses else []:
+            for clause in (first if second else [""]) if clauses else []:
                 if not any(clause in found for found in clauses):
-                    fault(page, line, f"no clause {clause} of {function} in {path}")
+                    fault(page, line, f"no clause {clause or 'without a name'} of {function} in {path}")
 
 
 def check_names(page, line, cell, definitions):
