@@ -25,6 +25,10 @@ numbers ns = map int ns
 abbrev pub text : List ℕ → AnyValue
 text s = av.Text s
 
+-- a row of two numbers
+abbrev pub row : ℕ → ℕ → List AnyValue
+row k v = int k ∷ int v ∷ []
+
 -- a key k and a value v of two types
 abbrev pub key_value : DataType → DataType → List Field
 key_value k v = record { name = codes "k"; dtype = k } ∷ record { name = codes "v"; dtype = v } ∷ []
@@ -40,7 +44,7 @@ chunk_of k v rows = chunks_of k v (rows ∷ [])
 
 -- rows whose key is each of the numbers and whose value is 1
 abbrev pub each_with_one : List ℕ → List (List AnyValue)
-each_with_one keys = map (λ k. int k ∷ int 1 ∷ []) keys
+each_with_one keys = map (λ k. row k 1) keys
 
 -- ---- aggregates of v
 

@@ -1,12 +1,13 @@
 //! Laws of groups and answers: what groups are, and what does not depend on the order of rows.
 
 ghost use Rattle.std.specs.Prelude.{◌≡◌, ◌<◌, ℕ, List, map, true, false};
-ghost use Rattle.std.specs.List.{flat_map, range_with_len};
+ghost use Rattle.std.specs.List.{flat_map, list_any, range_with_len};
 ghost use Rattle.pipe_columns.specs.declared.any_value.AnyValue.{AnyValue};
 ghost use Rattle.pipe_columns.specs.declared.data_chunk.DataChunk.{DataChunk};
 ghost use Rattle.pipe_columns.specs.Groups.{AreSortedKeys, IsAscending};
 ghost use Rattle.pipe_columns.specs.Place.{place_cmp};
 ghost use Rattle.pipe_columns.specs.Row.{Row};
+ghost use Rattle.pipe_model.specs.Aggregate.{reads_places};
 ghost use Rattle.pipe_model.specs.Answer.{answer, answer_of, answer_reads_places, answer_row, group_cmp, groups};
 ghost use Rattle.pipe_model.specs.Counts.{CountAlike};
 ghost use Rattle.pipe_model.specs.Partitions.{groups_in, rows_in};
@@ -36,7 +37,8 @@ pub fn groups_by_partition()
     ensures rows { (rs : List Row) (q : QueryTree) (partitions : ℕ)
         → q.keeps_order ≡ false → 0 < partitions
         → map (answer_row q rs) (groups rs q partitions)
-        ≡ flat_map (λ p. map (answer_row q (rows_in partitions q p rs)) (groups_in partitions q p rs))
+        ≡ flat_map
+        (λ p. map (answer_row q (rows_in partitions q p rs)) (groups_in partitions q p rs))
         (range_with_len 0 partitions) }
 {}
 
@@ -54,12 +56,17 @@ pub fn places_of_rows()
         → HaveDistinctPlaces (rows chunks q) }
 {}
 
-/// Rows in which every test counts alike have the same groups and one answer. Where groups come in
-/// order, or an aggregate is a first or a last, no place may stand twice.
+/// Rows in which every test counts alike have the same groups, the same row of each, and one
+/// answer. Where groups come in order, or an aggregate is a first or a last, no place may stand
+/// twice.
 pub fn same_counts_same_answer()
     ensures groups { (rs others : List Row) (q : QueryTree) (partitions : ℕ) → CountAlike rs others
         → (q.keeps_order ≡ true → HaveDistinctPlaces rs)
         → groups rs q partitions ≡ groups others q partitions }
+    ensures row { (rs others : List Row) (q : QueryTree) (key : List AnyValue)
+        → CountAlike rs others
+        → (list_any (λ a. reads_places a.kind) q.aggs ≡ true → HaveDistinctPlaces rs)
+        → answer_row q rs key ≡ answer_row q others key }
     ensures answer { (rs others : List Row) (q : QueryTree) (partitions : ℕ) → CountAlike rs others
         → (answer_reads_places q ≡ true → HaveDistinctPlaces rs)
         → answer_of rs q partitions ≡ answer_of others q partitions }

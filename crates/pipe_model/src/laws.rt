@@ -53,8 +53,8 @@ pub fn same_counts_same_aggregates()
         → agg k t (inputs_at j (rows_at rs key)) ≡ agg k t (inputs_at j (rows_at others key)) }
 {}
 
-/// What an aggregate gives of two joined lists follows from what it gives of each; the first entry of
-/// two joined lists is the first of both, and the last one the last.
+/// What an aggregate gives of two joined lists follows from what it gives of each; the first entry
+/// of two joined lists is the first of both, and the last one the last.
 pub fn aggregates_of_joined_lists()
     ensures values { (k : Kind) (t : DataType) (xs ys : List (Place × AnyValue))
         → reads_places k ≡ false → agg k t (xs ++ ys) ≡ merged k t (agg k t xs) (agg k t ys) }

@@ -6,12 +6,12 @@ ghost use Rattle.pipe_columns.specs.declared.data_type.DataType.TheVariants as d
 ghost use Rattle.pipe_columns.specs.declared.any_value.AnyValue.TheVariants as av;
 ghost use Rattle.pipe_columns.specs.Key.{partition};
 ghost use Rattle.pipe_model.specs.Answer.{answer};
-ghost use Rattle.pipe_model.specs.Worked.{all_kinds, both_sums, by_key, chunk_of, chunks_of, first_and_last, int, numbers, shown, sum_alone, sum_and_count, sum_and_mean, sum_min_mean, text};
+ghost use Rattle.pipe_model.specs.Worked.{all_kinds, both_sums, by_key, chunk_of, chunks_of, first_and_last, int, numbers, row, shown, sum_alone, sum_and_count, sum_and_mean, sum_min_mean, text};
 
 /// Keys 1, 2, 1 with values 5, 6, 7.
 pub fn sums_and_counts()
     ensures { shown (answer (chunk_of dt.Int64 dt.Int64
-        ((int 1 ∷ int 5 ∷ []) ∷ (int 2 ∷ int 6 ∷ []) ∷ (int 1 ∷ int 7 ∷ []) ∷ []))
+        (row 1 5 ∷ row 2 6 ∷ row 1 7 ∷ []))
         (by_key dt.Int64 dt.Int64 sum_and_count) 1)
         ≡ numbers (1 ∷ 2 ∷ []) ∷ numbers (12 ∷ 6 ∷ []) ∷ numbers (2 ∷ 1 ∷ []) ∷ [] }
 {}
@@ -31,7 +31,7 @@ pub fn no_rows()
 /// Over two partitions the keys 1 and 3 lie in the first.
 pub fn two_partitions()
     ensures { shown (answer (chunk_of dt.Int64 dt.Int64
-        ((int 1 ∷ int 10 ∷ []) ∷ (int 2 ∷ int 20 ∷ []) ∷ (int 3 ∷ int 30 ∷ []) ∷ (int 4 ∷ int 40 ∷ []) ∷ []))
+        (row 1 10 ∷ row 2 20 ∷ row 3 30 ∷ row 4 40 ∷ []))
         (by_key dt.Int64 dt.Int64 sum_alone) 2)
         ≡ numbers (1 ∷ 3 ∷ 2 ∷ 4 ∷ []) ∷ numbers (10 ∷ 30 ∷ 20 ∷ 40 ∷ []) ∷ [] }
 {}
@@ -45,7 +45,7 @@ pub fn partitions_of_numbers()
 /// Null is a key like others, and the least.
 pub fn null_keys()
     ensures { shown (answer (chunk_of dt.Int64 dt.Int64
-        ((av.Null ∷ int 1 ∷ []) ∷ (int 2 ∷ int 2 ∷ []) ∷ (av.Null ∷ int 3 ∷ []) ∷ []))
+        ((av.Null ∷ int 1 ∷ []) ∷ row 2 2 ∷ (av.Null ∷ int 3 ∷ []) ∷ []))
         (by_key dt.Int64 dt.Int64 sum_and_count) 2)
         ≡ (av.Null ∷ int 2 ∷ []) ∷ numbers (4 ∷ 2 ∷ []) ∷ numbers (2 ∷ 1 ∷ []) ∷ [] }
 {}
@@ -61,7 +61,7 @@ pub fn text_keys()
 /// The values null, 5 under every aggregate.
 pub fn every_aggregate()
     ensures { shown (answer (chunk_of dt.Int64 dt.Int64
-        ((int 1 ∷ av.Null ∷ []) ∷ (int 1 ∷ int 5 ∷ []) ∷ []))
+        ((int 1 ∷ av.Null ∷ []) ∷ row 1 5 ∷ []))
         (by_key dt.Int64 dt.Int64 all_kinds) 1)
         ≡ (int 1 ∷ []) ∷ (av.Null ∷ []) ∷ (int 5 ∷ []) ∷ (int 1 ∷ []) ∷ (int 2 ∷ []) ∷ (int 5 ∷ [])
         ∷ (int 5 ∷ []) ∷ (int 5 ∷ []) ∷ (int 5 ∷ []) ∷ (int 1 ∷ []) ∷ [] }
@@ -70,7 +70,7 @@ pub fn every_aggregate()
 /// Each aggregate is fed by its own input.
 pub fn inputs_of_their_own()
     ensures { shown (answer (chunk_of dt.Int64 dt.Int64
-        ((int 2 ∷ int 5 ∷ []) ∷ (int 2 ∷ int 6 ∷ []) ∷ []))
+        (row 2 5 ∷ row 2 6 ∷ []))
         (by_key dt.Int64 dt.Int64 both_sums) 1)
         ≡ numbers (2 ∷ []) ∷ numbers (4 ∷ []) ∷ numbers (11 ∷ []) ∷ [] }
 {}
@@ -85,7 +85,7 @@ pub fn only_null()
 /// A sum of UInt32 wraps at 2^32.
 pub fn unsigned_sum_wraps()
     ensures { shown (answer (chunk_of dt.Int64 dt.UInt32
-        ((int 1 ∷ int 4294967295 ∷ []) ∷ (int 1 ∷ int 1 ∷ []) ∷ []))
+        (row 1 4294967295 ∷ row 1 1 ∷ []))
         (by_key dt.Int64 dt.UInt32 sum_alone) 1)
         ≡ (int 1 ∷ []) ∷ (int 0 ∷ []) ∷ [] }
 {}
@@ -93,7 +93,7 @@ pub fn unsigned_sum_wraps()
 /// A sum of Int8 is one of Int64.
 pub fn small_sum_is_wide()
     ensures { shown (answer (chunk_of dt.Int64 dt.Int8
-        ((int 1 ∷ int 127 ∷ []) ∷ (int 1 ∷ int 1 ∷ []) ∷ []))
+        (row 1 127 ∷ row 1 1 ∷ []))
         (by_key dt.Int64 dt.Int8 sum_alone) 1)
         ≡ (int 1 ∷ []) ∷ (int 128 ∷ []) ∷ [] }
 {}
@@ -101,7 +101,7 @@ pub fn small_sum_is_wide()
 /// A sum of Int64 wraps at its greatest number.
 pub fn signed_sum_wraps()
     ensures { shown (answer (chunk_of dt.Int64 dt.Int64
-        ((int 1 ∷ int 9223372036854775807 ∷ []) ∷ (int 1 ∷ int 1 ∷ []) ∷ []))
+        (row 1 9223372036854775807 ∷ row 1 1 ∷ []))
         (by_key dt.Int64 dt.Int64 sum_alone) 1)
         ≡ (int 1 ∷ []) ∷ (av.Int (negsuc 9223372036854775807) ∷ []) ∷ [] }
 {}
@@ -124,8 +124,8 @@ pub fn text_has_no_sum()
 /// First and last go by places, over the chunks.
 pub fn first_and_last_of_chunks()
     ensures { shown (answer (chunks_of dt.Int64 dt.Int64
-        (((int 1 ∷ int 3 ∷ []) ∷ (int 4 ∷ int 7 ∷ []) ∷ [])
-        ∷ ((int 1 ∷ int 5 ∷ []) ∷ (int 4 ∷ int 9 ∷ []) ∷ []) ∷ []))
+        ((row 1 3 ∷ row 4 7 ∷ [])
+        ∷ (row 1 5 ∷ row 4 9 ∷ []) ∷ []))
         (by_key dt.Int64 dt.Int64 first_and_last) 1)
         ≡ numbers (1 ∷ 4 ∷ []) ∷ numbers (3 ∷ 7 ∷ []) ∷ numbers (5 ∷ 9 ∷ []) ∷ [] }
 {}
@@ -133,7 +133,7 @@ pub fn first_and_last_of_chunks()
 /// A chunk without rows changes nothing.
 pub fn chunk_without_rows()
     ensures { shown (answer (chunks_of dt.Int64 dt.Int64
-        (((int 1 ∷ int 5 ∷ []) ∷ []) ∷ [] ∷ ((int 1 ∷ int 6 ∷ []) ∷ []) ∷ []))
+        ((row 1 5 ∷ []) ∷ [] ∷ (row 1 6 ∷ []) ∷ []))
         (by_key dt.Int64 dt.Int64 sum_and_count) 2)
         ≡ numbers (1 ∷ []) ∷ numbers (11 ∷ []) ∷ numbers (2 ∷ []) ∷ [] }
 {}
@@ -141,7 +141,7 @@ pub fn chunk_without_rows()
 /// Keys may come in any order, nulls among them.
 pub fn keys_in_any_order()
     ensures { shown (answer (chunk_of dt.Int64 dt.Int64
-        ((int 2 ∷ int 1 ∷ []) ∷ (int 2 ∷ int 2 ∷ []) ∷ (av.Null ∷ int 3 ∷ []) ∷ (int 1 ∷ int 4 ∷ []) ∷ []))
+        (row 2 1 ∷ row 2 2 ∷ (av.Null ∷ int 3 ∷ []) ∷ row 1 4 ∷ []))
         (by_key dt.Int64 dt.Int64 sum_alone) 1)
         ≡ (av.Null ∷ int 1 ∷ int 2 ∷ []) ∷ numbers (3 ∷ 4 ∷ 3 ∷ []) ∷ [] }
 {}

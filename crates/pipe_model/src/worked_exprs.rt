@@ -10,8 +10,8 @@ ghost use Rattle.pipe_model.specs.Typing.{type_of};
 ghost use Rattle.pipe_model.specs.Value.{value};
 ghost use Rattle.pipe_model.specs.WorkedExprs.{alone, field, large, no_truth, small, truth, v};
 
-/// A column has the type of the first field of its name, and its value in a row. Operands of two types
-/// have none together, and names come from the left.
+/// A column has the type of the first field of its name, and its value in a row. Operands of two
+/// types have none together, and names come from the left.
 pub fn worked_types()
     ensures typed { type_of v (field (codes "k") dt.Int64 ∷ field (codes "v") dt.Int8 ∷ [])
         ≡ Some dt.Int8 }
@@ -26,8 +26,8 @@ pub fn worked_types()
     ensures alias_name { name_of (alias v (codes "w")) ≡ codes "w" }
 {}
 
-/// Arithmetic wraps, division rounds down, and a zero divisor gives null; logic is of three truths, a
-/// cast out of range gives null, and a null predicate takes the falsy branch.
+/// Arithmetic wraps, division rounds down, and a zero divisor gives null; logic is of three truths,
+/// a cast out of range gives null, and a null predicate takes the falsy branch.
 pub fn worked_values()
     ensures wraps { alone (binary (small (pos 127)) op.Plus (small (pos 1))) ≡ av.Int (negsuc 127) }
     ensures rounds_down { alone (binary (small (pos 7)) op.FloorDivide (small (negsuc 1)))

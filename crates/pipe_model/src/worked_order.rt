@@ -1,10 +1,10 @@
-//! Worked rows of slices and of kept order, as laws over the definitions: each holds by computation.
+//! Worked rows of slices and kept order, as laws over the definitions: each holds by computation.
 
 ghost use Rattle.std.specs.Prelude.{◌≡◌, ◌∷◌, []};
 ghost use Rattle.std.specs.List.{range_with_len};
 ghost use Rattle.pipe_columns.specs.declared.data_type.DataType.TheVariants as dt;
 ghost use Rattle.pipe_model.specs.Answer.{answer};
-ghost use Rattle.pipe_model.specs.Worked.{by_key, chunk_of, chunks_of, each_with_one, in_order, int, numbers, shown, sum_alone, with_slice};
+ghost use Rattle.pipe_model.specs.Worked.{by_key, chunk_of, chunks_of, each_with_one, in_order, numbers, row, shown, sum_alone, with_slice};
 
 /// Of two partitions with the keys 0 to 10, the groups 3 to 6.
 pub fn slice_across_partitions()
@@ -30,7 +30,7 @@ pub fn slice_of_nothing()
 /// Kept order is that of the first rows, whatever the partitions.
 pub fn order_of_first_rows()
     ensures { shown (answer (chunk_of dt.Int64 dt.Int64
-        ((int 4 ∷ int 1 ∷ []) ∷ (int 1 ∷ int 2 ∷ []) ∷ (int 2 ∷ int 3 ∷ []) ∷ (int 1 ∷ int 4 ∷ []) ∷ []))
+        (row 4 1 ∷ row 1 2 ∷ row 2 3 ∷ row 1 4 ∷ []))
         (in_order (by_key dt.Int64 dt.Int64 sum_alone)) 2)
         ≡ numbers (4 ∷ 1 ∷ 2 ∷ []) ∷ numbers (1 ∷ 6 ∷ 3 ∷ []) ∷ [] }
 {}
@@ -38,7 +38,7 @@ pub fn order_of_first_rows()
 /// A slice of kept order.
 pub fn slice_of_kept_order()
     ensures { shown (answer (chunk_of dt.Int64 dt.Int64
-        ((int 4 ∷ int 1 ∷ []) ∷ (int 1 ∷ int 2 ∷ []) ∷ (int 2 ∷ int 3 ∷ []) ∷ (int 1 ∷ int 4 ∷ []) ∷ []))
+        (row 4 1 ∷ row 1 2 ∷ row 2 3 ∷ row 1 4 ∷ []))
         (with_slice 1 1 (in_order (by_key dt.Int64 dt.Int64 sum_alone))) 2)
         ≡ numbers (1 ∷ []) ∷ numbers (6 ∷ []) ∷ [] }
 {}
@@ -46,7 +46,7 @@ pub fn slice_of_kept_order()
 /// An empty slice of kept order, over two partitions.
 pub fn no_slice_of_kept_order()
     ensures { shown (answer (chunk_of dt.Int64 dt.Int64
-        ((int 4 ∷ int 1 ∷ []) ∷ (int 1 ∷ int 2 ∷ []) ∷ (int 2 ∷ int 3 ∷ []) ∷ (int 1 ∷ int 4 ∷ []) ∷ []))
+        (row 4 1 ∷ row 1 2 ∷ row 2 3 ∷ row 1 4 ∷ []))
         (with_slice 0 0 (in_order (by_key dt.Int64 dt.Int64 sum_alone))) 2)
         ≡ [] ∷ [] ∷ [] }
 {}
@@ -54,8 +54,8 @@ pub fn no_slice_of_kept_order()
 /// Kept order goes over the chunks.
 pub fn order_of_chunks()
     ensures { shown (answer (chunks_of dt.Int64 dt.Int64
-        (((int 5 ∷ int 1 ∷ []) ∷ (int 2 ∷ int 2 ∷ []) ∷ [])
-        ∷ ((int 3 ∷ int 3 ∷ []) ∷ (int 5 ∷ int 4 ∷ []) ∷ []) ∷ []))
+        ((row 5 1 ∷ row 2 2 ∷ [])
+        ∷ (row 3 3 ∷ row 5 4 ∷ []) ∷ []))
         (in_order (by_key dt.Int64 dt.Int64 sum_alone)) 2)
         ≡ numbers (5 ∷ 2 ∷ 3 ∷ []) ∷ numbers (5 ∷ 2 ∷ 3 ∷ []) ∷ [] }
 {}

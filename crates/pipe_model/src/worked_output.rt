@@ -37,5 +37,6 @@ pub fn columns_of_sums()
     ensures unsigned { output_schema (by_key dt.Int64 dt.UInt32 sum_alone)
         ≡ field (codes "k") dt.Int64 ∷ field (codes "s") dt.UInt32 ∷ [] }
     ensures texts { output_schema (by_key dt.Int64 dt.String sum_and_mean)
-        ≡ field (codes "k") dt.Int64 ∷ field (codes "s") dt.String ∷ field (codes "m") dt.String ∷ [] }
+        ≡ field (codes "k") dt.Int64 ∷ field (codes "s") dt.String
+        ∷ field (codes "m") dt.String ∷ [] }
 {}

@@ -16,7 +16,8 @@ pub fn written_queries()
     ensures whole { written_tree (record {
       schema = key_value dt.Int64 dt.Int64;
       keys = column (codes "k") ∷ [];
-      aggs = alias (aggregate sum v) (codes "s") ∷ alias (aggregate (count false) v) (codes "c") ∷ [];
+      aggs = alias (aggregate sum v) (codes "s")
+          ∷ alias (aggregate (count false) v) (codes "c") ∷ [];
       slice = None;
       keeps_order = false;
     }) ≡ by_key dt.Int64 dt.Int64 sum_and_count }
@@ -30,9 +31,12 @@ pub fn written_queries()
 pub fn groupable_queries()
     ensures sums { IsGroupable (by_key dt.Int64 dt.Int64 sum_and_count) }
     ensures unknown_key { is_valued (field (codes "k") dt.Int64 ∷ []) v ≡ false }
-    ensures aggregate_as_key { is_valued (field (codes "v") dt.Int64 ∷ []) (aggregate sum v) ≡ false }
+    ensures aggregate_as_key { is_valued (field (codes "v") dt.Int64 ∷ []) (aggregate sum v)
+        ≡ false }
     ensures rows_alone { is_fed [] rows_alone ≡ true }
-    ensures sum_of_date { is_suited (field (codes "v") dt.Date ∷ []) (agg_of (codes "s") kind.sum) ≡ false }
-    ensures min_of_text { is_suited (field (codes "v") dt.String ∷ []) (agg_of (codes "s") kind.min) ≡ false }
+    ensures sum_of_date { is_suited (field (codes "v") dt.Date ∷ []) (agg_of (codes "s") kind.sum)
+        ≡ false }
+    ensures min_of_text { is_suited (field (codes "v") dt.String ∷ []) (agg_of (codes "s") kind.min)
+        ≡ false }
     ensures first_of_date { is_suited (field (codes "v") dt.Date ∷ []) (agg_of (codes "s") kind.first) ≡ true }
 {}
