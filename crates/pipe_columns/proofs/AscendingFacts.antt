@@ -38,10 +38,12 @@ pub sorted-from : {K : Type 0} (order : K → K → Ordering) (k : K) (ks : List
 sorted-from {K} order k ks m = let P : K → Type 0 = λ x. Has x ks in all_at P (sorted_keys order ks) k (sorted-holds P order ks (all_has ks)) m
 
 module _ {K : Type 0} (P : K → Type 0) (R Q : K → K → Ordering) (same : (a b : K) → P a → P b → R a b ≡ Q a b) where
+  -- orders that agree on a key and on keys put it in the same place
   put-same : (k : K) (ks : List K) → P k → All P ks → put_key R k ks ≡ put_key Q k ks
   put-same k [] p h = refl
   put-same k (x ∷ xs) p h = rw (same k x p (All-head P x xs h), put-same k xs p (All-tail P x xs h)) refl
 
+  -- they sort keys alike behind keys that are sorted
   fold-same : (done ks : List K) → All P done → All P ks → fold (λ sorted k. put_key R k sorted) done ks ≡ fold (λ sorted k. put_key Q k sorted) done ks
   fold-same done [] d h = refl
   fold-same done (k ∷ ks) d h =
@@ -59,6 +61,7 @@ module _ {K : Type 0} (order : K → K → Ordering) where
   abbrev pub Below : K → List K → Type 0
   Below x ys = AllByRecursion (λ y. order x y ≡ Less) ys
 
+  -- what is below keys is below each of them
   below-has : (x y : K) (ys : List K) → Below x ys → Has y ys → order x y ≡ Less
   below-has x y [] b m = absurd m
   below-has x y (z ∷ zs) b (inl e) = rw e b.0
@@ -83,17 +86,20 @@ module _ {K : Type 0} (order : K → K → Ordering) where
     put_at Greater (inl e) next = inl e
     put_at Greater (inr n) next = inr (next n)
 
+  -- keys that are there stay
   fold-keeps : (q : K) (done ks : List K) → Has q done → Has q (fold (λ sorted k. put_key order k sorted) done ks)
   fold-keeps q done [] m = m
   fold-keeps q done (k ∷ ks) m = fold-keeps q (put_key order k done) ks (put-keeps q k done m)
 
 -- by an order of the keys that have P
 module _ {K : Type 0} (P : K → Type 0) (order : K → K → Ordering) (o : IsOrderOn P order) where
+  -- what is below a key is below all that it is below
   pub below_trans_on : (k x : K) (ys : List K) → P k → P x → All P ys → order k x ≡ Less → Below order x ys → Below order k ys
   below_trans_on k x [] p q h e b = tt
   below_trans_on k x (y ∷ ys) p q h e b =
       (o.through k x y p q (All-head P y ys h) e b.0, below_trans_on k x ys p q (All-tail P y ys h) e b.1)
 
+  -- a greater key has the other one below it
   greater-back : (k y : K) → P k → P y → order k y ≡ Greater → order y k ≡ Less
   greater-back k y p q e = o.turns y k q p ∙ ap ordering_reverse e
 
@@ -106,6 +112,7 @@ module _ {K : Type 0} (P : K → Type 0) (order : K → K → Ordering) (o : IsO
     put_at Equal e rest = a
     put_at Greater e rest = (below-put order y k ys (greater-back k y p (All-head P y ys h) e) a.0, rest)
 
+  -- keys put one by one among ascending ones leave them ascending
   fold-ascending : (done ks : List K) → All P done → All P ks → IsAscending order done → IsAscending order (fold (λ sorted k. put_key order k sorted) done ks)
   fold-ascending done [] d h a = a
   fold-ascending done (k ∷ ks) d h a =
@@ -116,6 +123,7 @@ module _ {K : Type 0} (P : K → Type 0) (order : K → K → Ordering) (o : IsO
   pub sorted-ascending_on : (ks : List K) → All P ks → IsAscending order (sorted_keys order ks)
   sorted-ascending_on ks h = fold-ascending [] ks (All-nil P) h tt
 
+  -- no key is below itself
   below-itself : (x : K) → P x → order x x ≡ Less → ⊥
   below-itself x p e = let turned : order x x ≡ ordering_reverse (order x x) = o.turns x x p p in never (order x x) turned e where
     never : (r : Ordering) → r ≡ ordering_reverse r → r ≡ Less → ⊥
@@ -123,12 +131,14 @@ module _ {K : Type 0} (P : K → Type 0) (order : K → K → Ordering) (o : IsO
     never Equal t e = cc
     never Greater t e = cc
 
+  -- ascending keys with the same elements begin alike
   same_first : (x y : K) (xs ys : List K) → P x → P y → Below order x xs → Below order y ys → Has x (y ∷ ys) → Has y (x ∷ xs) → x ≡ y
   same_first x y xs ys p q a b (inl e) m = e
   same_first x y xs ys p q a b (inr m) (inl e) = sym e
   same_first x y xs ys p q a b (inr m) (inr n) =
       absurd (below-itself x p (o.through x y x p q p (below-has order x y xs a n) (below-has order y x ys b m)))
 
+  -- a key behind the first stands behind the first of the other list
   rest-has : (x y k : K) (xs ys : List K) → P x → Below order x xs → x ≡ y → Has k xs → Has k (y ∷ ys) → Has k ys
   rest-has x y k xs ys p a e m (inl f) = absurd (below-itself x p (subst (λ (z : K). order x z ≡ Less) (f ∙ sym e) (below-has order x k xs a m)))
   rest-has x y k xs ys p a e m (inr n) = n
@@ -149,6 +159,7 @@ module _ {K : Type 0} (P : K → Type 0) (order : K → K → Ordering) (o : IsO
 
 -- by one that also sets different keys apart
 module _ {K : Type 0} (P : K → Type 0) (order : K → K → Ordering) (o : IsExactOn P order) where
+  -- a key that is put is there
   put-has : (k : K) (ks : List K) → P k → All P ks → Has k (put_key order k ks)
   put-has k [] p h = inl refl
   put-has k (x ∷ xs) p h = put_at (order k x) refl (put-has k xs p (All-tail P x xs h)) where
@@ -157,6 +168,7 @@ module _ {K : Type 0} (P : K → Type 0) (order : K → K → Ordering) (o : IsE
     put_at Equal e rest = inl (o.exact k x p (All-head P x xs h) e)
     put_at Greater e rest = inr rest
 
+  -- each of the keys that are put one by one is there
   fold-has : (q : K) (done ks : List K) → All P done → All P ks → Has q ks → Has q (fold (λ sorted k. put_key order k sorted) done ks)
   fold-has q done [] d h m = absurd m
   fold-has q done (k ∷ ks) d h (inl e) = fold-keeps order q (put_key order k done) ks (rw e (put-has k done (All-head P k ks h) d))
@@ -196,6 +208,7 @@ sorted_anew_on P R Q o p keys xs h moved a = sorted_sole P Q p keys xs h (record
 abbrev pub AnyKey : {K : Type 0} → K → Type 0
 AnyKey k = ⊤
 
+-- all keys have it
 pub any_keys : {K : Type 0} (ks : List K) → All AnyKey ks
 any_keys ks = λ i d lt. tt
 
@@ -204,9 +217,11 @@ module _ {K : Type 0} (order : K → K → Ordering) where
   pub total_on : IsTotalOrder order → IsOrderOn AnyKey order
   total_on o = record { turns = λ x y p q. o.antisymm x y; through = λ x y z p q r. o.trans x y z }
 
+  -- so is one in which only a key itself ties with it
   pub exact_on : IsTotalOrder order → ((x y : K) → order x y ≡ Equal → x ≡ y) → IsExactOn AnyKey order
   exact_on o exact = record { total = total_on o; exact = λ x y p q. exact x y }
 
+  -- the three facts from above by an order of all keys
   pub below_trans : IsTotalOrder order → (k x : K) (ys : List K) → order k x ≡ Less → Below order x ys → Below order k ys
   below_trans o k x ys e b = below_trans_on AnyKey order (total_on o) k x ys tt tt (any_keys ys) e b
 

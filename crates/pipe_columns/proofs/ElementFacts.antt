@@ -33,6 +33,7 @@ module _ {K : Type 0} where
   has-at (x ∷ xs) k zero lt e = inl (sym e)
   has-at (x ∷ xs) k (suc i) lt e = inr (has-at xs k i (omega (arith, lt)) e)
 
+  -- the two words for an element say the same
   pub has-from_Contains : (xs : List K) (k : K) → Contains xs k → Has k xs
   has-from_Contains xs k c = has-at xs k c.0 c.1 c.2
 
@@ -51,6 +52,7 @@ module _ {K : Type 0} where
     λ c. Contains-from_has xs k (g k (has-from_Contains ys k c)),
   )
 
+  -- an element of one list is one of the other
   pub same-has : (xs ys : List K) → HaveSameElements xs ys → (k : K) → Has k xs → Has k ys
   same-has xs ys e k m = has-from_Contains ys k ((e k).0 (Contains-from_has xs k m))
 

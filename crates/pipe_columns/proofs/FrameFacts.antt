@@ -12,17 +12,20 @@ changed f zero xs = xs
 changed f (suc k) [] = []
 changed f (suc k) (x ∷ xs) = f x ∷ changed f k xs
 
+-- an element whose turn has not come is as before
 pub changed_get : {X : Type 0} (f : X → X) (k : ℕ) (xs : List X) (d : X) → get_or (changed f k xs) k d ≡ get_or xs k d
 changed_get f zero xs d = refl
 changed_get f (suc k) [] d = refl
 changed_get f (suc k) (x ∷ xs) d = changed_get f k xs d
 
+-- one more is changed
 pub changed_more : {X : Type 0} (f : X → X) (k : ℕ) (xs : List X) (d : X) → k < length xs
     → set (changed f k xs) k (f (get_or xs k d)) ≡ changed f (suc k) xs
 changed_more f k [] d lt = absurd (omega arith)
 changed_more f zero (x ∷ xs) d lt = refl
 changed_more f (suc k) (x ∷ xs) d lt = ap (λ ys. f x ∷ ys) (changed_more f k xs d (omega (arith, lt)))
 
+-- at the end all are changed
 pub changed_all : {X : Type 0} (f : X → X) (k : ℕ) (xs : List X) → length xs ≤ k → changed f k xs ≡ map f xs
 changed_all f zero [] le = refl
 changed_all f zero (x ∷ xs) le = absurd (omega arith)
@@ -38,11 +41,6 @@ changed_step f old now i d new lt is made =
     let more : suc i ≡ i + 1 = omega arith in
     step ∙ ap (λ x. set (changed f i old) i x) (made ∙ ap f there) ∙ changed_more f i old d lt ∙ ap (λ k. changed f k old) more
 
-pub changed_length : {X : Type 0} (f : X → X) (k : ℕ) (xs : List X) → length (changed f k xs) ≡ length xs
-changed_length f zero xs = refl
-changed_length f (suc k) [] = refl
-changed_length f (suc k) (x ∷ xs) = ap suc (changed_length f k xs)
-
 -- the next column is as before
 pub appended_get : (ds cs : List ColumnData) (c : ColumnData) → get_or (appended_all ds cs) (length ds) c ≡ get_or cs (length ds) c
 appended_get [] cs c = refl
@@ -56,6 +54,7 @@ appended_more ds [] d c lt = absurd (omega arith)
 appended_more [] (x ∷ cs) d c lt = refl
 appended_more (e ∷ ds) (x ∷ cs) d c lt = ap (λ ys. appended x e ∷ ys) (appended_more ds cs d c (omega (arith, lt)))
 
+-- lists that are the same begin alike
 pub first_same : {X : Type 0} (x y : X) (xs ys : List X) → x ∷ xs ≡ y ∷ ys → x ≡ y
 first_same x y xs ys e = cc e
 
@@ -121,6 +120,7 @@ pair_undone n k done cs now c new tall so_far kept =
     let same : set now k new ≡ now = ap (λ x. set now k x) kept ∙ set-get_or now k c in
     ap (map (truncated n)) (same ∙ so_far) ∙ cut_back n done cs tall
 
+-- to drop more than there is drops all
 pub drop_min : {X : Type 0} (n : ℕ) (xs : List X) → drop (min n (length xs)) xs ≡ drop n xs
 drop_min n [] = drop_all (min n 0) [] (omega arith) ∙ sym (drop_all n [] (omega arith))
 drop_min zero (x ∷ xs) =
@@ -175,6 +175,7 @@ pub empty_more : (i : ℕ) (fs : List Field) (f : Field)
 empty_more i [] f = refl
 empty_more i (g ∷ fs) f = ap (λ cs. record { name = g.name; dtype = g.dtype; sorted = false; values = [] } ∷ cs) (empty_more (i + 1) fs f)
 
+-- columns without values have no row
 pub empty_height : (i : ℕ) (fs : List Field) → all_have_height 0 (columns_from i fs []) ≡ true
 empty_height i [] = refl
 empty_height i (f ∷ fs) = empty_height (i + 1) fs

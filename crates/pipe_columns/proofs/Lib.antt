@@ -3,3 +3,4 @@ pub mod FrameFacts
 pub mod TypeFacts
 pub mod ElementFacts
 pub mod AscendingFacts
+pub mod PieceFacts

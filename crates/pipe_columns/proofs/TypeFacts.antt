@@ -34,6 +34,7 @@ fit_slice t offset len values e =
     list_all-from_AllPass p (take len (drop offset values)) (All-take P len (drop offset values)
     (All-drop P offset values (AllPass-from_list_all p values e)))
 
+-- texts in UTF-8 are so in a slice
 utf8_slice : (offset len : ℕ) (values : List AnyValue) → All HasUtf8 values
     → All HasUtf8 (sliced (Some (offset, len)) values)
 utf8_slice offset len values a =
@@ -58,6 +59,7 @@ values_first t n values a = values_slice t 0 n values a
 abbrev Fit : ColumnData → Type 0
 Fit c = AllFit c.dtype c.values
 
+-- and of its texts
 abbrev Texts : ColumnData → Type 0
 Texts c = All HasUtf8 c.values
 
@@ -87,6 +89,7 @@ sliced_is offset len f a = record {
   };
 }
 
+-- values below values of their types fit
 stacked_fit : (ds cs : List ColumnData) → fields_of ds ≡ fields_of cs → ColumnsFit ds → ColumnsFit cs
     → ColumnsFit (map unsorted (appended_all ds cs))
 stacked_fit [] cs same d c = All-map Fit unsorted cs c
@@ -97,6 +100,7 @@ stacked_fit (d ∷ ds) (c ∷ cs) same e f =
     let here : AllFit c.dtype (c.values ++ d.values) = list_all-append (λ v. fits v c.dtype) c.values d.values ∙ and_from _ _ (All-head Fit c cs f) more in
     All-cons Fit _ _ here (stacked_fit ds cs (cc same) (All-tail Fit d ds e) (All-tail Fit c cs f))
 
+-- texts below texts are in UTF-8
 stacked_utf8 : (ds cs : List ColumnData) → ColumnsHaveUtf8 ds → ColumnsHaveUtf8 cs
     → ColumnsHaveUtf8 (map unsorted (appended_all ds cs))
 stacked_utf8 [] cs d c = All-map Texts unsorted cs c
@@ -116,10 +120,12 @@ stacked_is f g same a b = record {
   };
 }
 
+-- where there is no value, all fit
 empty_fit : (i : ℕ) (fs : List Field) → ColumnsFit (columns_from i fs [])
 empty_fit i [] = All-nil Fit
 empty_fit i (f ∷ fs) = All-cons Fit _ _ refl (empty_fit (i + 1) fs)
 
+-- where there is no text, all are in UTF-8
 empty_utf8 : (i : ℕ) (fs : List Field) → ColumnsHaveUtf8 (columns_from i fs [])
 empty_utf8 i [] = All-nil Texts
 empty_utf8 i (f ∷ fs) = All-cons Texts _ _ (All-nil HasUtf8) (empty_utf8 (i + 1) fs)

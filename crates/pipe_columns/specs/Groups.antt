@@ -30,7 +30,8 @@ abbrev pub HaveSameElements : {K : Type 0} → List K → List K → Type 0
 HaveSameElements {K} xs ys = (k : K) → Contains xs k ↔ Contains ys k
 
 -- keys that ascend, and are those of a list
-pub record AreSortedKeys {K : Type 0} (order : K → K → Ordering) (keys sorted : List K) : Type 0 where
+pub record AreSortedKeys {K : Type 0} (order : K → K → Ordering) (keys sorted : List K)
+    : Type 0 where
   pub ascending : IsAscending order sorted
   pub same : HaveSameElements sorted keys
 

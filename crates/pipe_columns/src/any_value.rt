@@ -1,3 +1,5 @@
+//! Values: null, Booleans, numbers and texts.
+
 ghost use Rattle.std.specs.Prelude.{◌≡◌, IfOk};
 ghost use Rattle.pipe_columns.specs.AnyValue.{fits, fits_number, HasUtf8};
 

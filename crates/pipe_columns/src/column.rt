@@ -1,3 +1,5 @@
+//! Columns: values of one type under a name.
+
 ghost use Rattle.std.specs.Prelude.{◌≡◌, ◌↔◌, IfNone, IfSome, IsTrue, OnErr, OnOk, true, false};
 ghost use Rattle.std.specs.List.{All};
 ghost use Rattle.pipe_columns.specs.AnyValue.{HasUtf8};

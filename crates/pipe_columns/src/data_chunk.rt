@@ -1,3 +1,5 @@
+//! Chunks: frames that are pieces of an input.
+
 use crate::data_frame::DataFrame;
 
 /// A frame that is one piece of an input, with its number there.

@@ -1,3 +1,5 @@
+//! Frames: columns of one height.
+
 ghost use Rattle.std.specs.Prelude.{◌≡◌, ◌+◌, ◌<◌, ◌^◌, ◌↔◌, [], IfNone, IfOk, IfSome, IsTrue, OnErr, OnOk, map, true, false};
 ghost use Rattle.pipe_columns.specs.Frame.{AllHaveHeight, FitsSchema, HoldsTypes, all_have_height, appended_all, fields_of, frame_of, sliced_column, sliced_frame, stacked, truncated, unsorted};
 
@@ -80,8 +82,8 @@ fn clear_all(columns: &mut [Column])
     }
 }
 
-/// Appends to each column of a height the values of its partner. Where memory is wanting, all are as
-/// before.
+/// Appends to each column of a height the values of its partner. Where memory is wanting, all are
+/// as before.
 fn append_all(columns: &mut [Column], others: Vec<Column>, height: usize) -> Result<(), AllocError>
     requires fields { fields_of others.items ≡ fields_of columns.old }
     requires height { AllHaveHeight height columns.old }
@@ -102,7 +104,8 @@ fn append_all(columns: &mut [Column], others: Vec<Column>, height: usize) -> Res
 impl DataFrame {
     /// A frame, or none exactly where a column has another number of values.
     pub fn new(height: usize, columns: Vec<Column>) -> Option<DataFrame>
-        ensures some { IfSome result (λ f. f ≡ record { height = height; columns = columns.items }) }
+        ensures some { IfSome result (λ f.
+            f ≡ record { height = height; columns = columns.items }) }
         ensures fits { IfSome result (λ f. all_have_height height columns.items ≡ true) }
         ensures types { IfSome result HoldsTypes }
         ensures none { IfNone result (all_have_height height columns.items ≡ false) }
@@ -158,8 +161,8 @@ impl DataFrame {
         true
     }
 
-    /// Drops the first rows, and keeps so many of the rest at most. It takes no memory, and a column
-    /// keeps its flag.
+    /// Drops the first rows, and keeps so many of the rest at most. It takes no memory, and a
+    /// column keeps its flag.
     pub fn slice(self, offset: usize, len: usize) -> DataFrame
         ensures { result ≡ sliced_frame offset len self }
     {

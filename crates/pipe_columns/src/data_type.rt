@@ -1,3 +1,5 @@
+//! The types of columns.
+
 /// The type of a column. `Int128` is a type of outputs alone, and a `Date` is a day number.
 #[derive(Clone, Copy, Debug, PartialEq, Eq)]
 pub enum DataType {

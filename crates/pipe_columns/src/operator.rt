@@ -1,3 +1,5 @@
+//! Operators of expressions.
+
 /// An operator of two operands.
 #[derive(Clone, Copy, Debug, PartialEq, Eq)]
 pub enum Operator {

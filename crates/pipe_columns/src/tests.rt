@@ -1,3 +1,5 @@
+//! Each public call once, where all goes well.
+
 ghost use Rattle.std.specs.Prelude.{◌≡◌, ◌∷◌, [], IfOk, codes};
 ghost use Rattle.pipe_columns.specs.declared.data_type.DataType.TheVariants as dt;
 ghost use Rattle.pipe_columns.specs.Frame.{fields_of};

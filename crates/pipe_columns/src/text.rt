@@ -1,3 +1,5 @@
+//! Texts in UTF-8.
+
 ghost use Rattle.std.specs.Prelude.{◌≡◌, IfOk, IfSome, IsUtf8, IsNone, ◌↔◌};
 
 use std::alloc::{AllocError, Global};

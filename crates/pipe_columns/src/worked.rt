@@ -9,6 +9,7 @@ ghost use Rattle.pipe_columns.specs.Frame.{frame_of, row_at};
 ghost use Rattle.pipe_columns.specs.Groups.{sorted_keys, values_of};
 ghost use Rattle.pipe_columns.specs.Key.{code, fold_bytes, partition};
 ghost use Rattle.pipe_columns.specs.Place.{first_entry, last_entry};
+ghost use Rattle.pipe_columns.specs.Pieces.{pieces};
 ghost use Rattle.pipe_columns.specs.Slice.{sliced};
 ghost use Rattle.std.specs.Ordering.{nat_cmp};
 
@@ -16,10 +17,12 @@ ghost use Rattle.std.specs.Ordering.{nat_cmp};
 pub fn key_codes()
     ensures small { code (dt.Int8 ∷ []) (av.Int (negsuc 0) ∷ []) ≡ 0x01 ∷ 0x7f ∷ [] }
     ensures truth { code (dt.Boolean ∷ []) (av.Boolean true ∷ []) ≡ 0x01 ∷ 0x01 ∷ [] }
-    ensures letter { code (dt.String ∷ []) (av.Text (codes "a") ∷ []) ≡ 0x01 ∷ 0x61 ∷ 0x00 ∷ 0x00 ∷ [] }
+    ensures letter { code (dt.String ∷ []) (av.Text (codes "a") ∷ [])
+        ≡ 0x01 ∷ 0x61 ∷ 0x00 ∷ 0x00 ∷ [] }
     ensures zero_byte { code (dt.String ∷ []) (av.Text (0x61 ∷ 0x00 ∷ 0x62 ∷ []) ∷ [])
         ≡ 0x01 ∷ 0x61 ∷ 0x00 ∷ 0x01 ∷ 0x62 ∷ 0x00 ∷ 0x00 ∷ [] }
-    ensures tuple { code (dt.Int64 ∷ dt.Int16 ∷ []) (av.Null ∷ av.Int (pos 258) ∷ []) ≡ 0x00 ∷ 0x01 ∷ 0x81 ∷ 0x02 ∷ [] }
+    ensures tuple { code (dt.Int64 ∷ dt.Int16 ∷ []) (av.Null ∷ av.Int (pos 258) ∷ [])
+        ≡ 0x00 ∷ 0x01 ∷ 0x81 ∷ 0x02 ∷ [] }
 {}
 
 /// The numbers of the texts `a` and `b` as keys, and the partitions in which they lie.
@@ -51,9 +54,11 @@ pub fn edges_of_types()
 
 /// The first entry and the last are those at the least and the greatest place.
 pub fn entries_by_place()
-    ensures first { first_entry {V = ℕ} ((record { chunk = 1; row = 0 }, 7) ∷ (record { chunk = 0; row = 9 }, 8) ∷ [])
+    ensures first { first_entry {V = ℕ}
+        ((record { chunk = 1; row = 0 }, 7) ∷ (record { chunk = 0; row = 9 }, 8) ∷ [])
         ≡ Some (record { chunk = 0; row = 9 }, 8) }
-    ensures last { last_entry {V = ℕ} ((record { chunk = 1; row = 0 }, 7) ∷ (record { chunk = 0; row = 9 }, 8) ∷ [])
+    ensures last { last_entry {V = ℕ}
+        ((record { chunk = 1; row = 0 }, 7) ∷ (record { chunk = 0; row = 9 }, 8) ∷ [])
         ≡ Some (record { chunk = 1; row = 0 }, 7) }
 {}
 
@@ -61,6 +66,12 @@ pub fn entries_by_place()
 pub fn keys_and_values()
     ensures keys { sorted_keys nat_cmp (3 ∷ 1 ∷ 3 ∷ 2 ∷ []) ≡ 1 ∷ 2 ∷ 3 ∷ [] }
     ensures values { values_of {V = ℕ} nat_cmp 3 ((3, 5) ∷ (1, 6) ∷ (3, 7) ∷ []) ≡ 5 ∷ 7 ∷ [] }
+{}
+
+/// A list is cut into pieces, the last perhaps shorter, and an empty one into none.
+pub fn pieces_of_two()
+    ensures some { pieces {A = ℕ} 2 (5 ∷ 6 ∷ 7 ∷ []) ≡ (5 ∷ 6 ∷ []) ∷ (7 ∷ []) ∷ [] }
+    ensures none { pieces {A = ℕ} 2 [] ≡ [] }
 {}
 
 /// A slice drops before it keeps.
@@ -72,7 +83,10 @@ pub fn slices()
 
 /// A frame of rows has them back.
 pub fn rows_of_a_frame()
-    ensures { row_at (frame_of (record { name = codes "k"; dtype = dt.Int64 } ∷ record { name = codes "v"; dtype = dt.String } ∷ [])
-        ((av.Int (pos 1) ∷ av.Null ∷ []) ∷ (av.Int (pos 2) ∷ av.Text (codes "x") ∷ []) ∷ [])).columns 1
+    ensures { row_at (frame_of
+        (record { name = codes "k"; dtype = dt.Int64 }
+        ∷ record { name = codes "v"; dtype = dt.String } ∷ [])
+        ((av.Int (pos 1) ∷ av.Null ∷ [])
+        ∷ (av.Int (pos 2) ∷ av.Text (codes "x") ∷ []) ∷ [])).columns 1
         ≡ av.Int (pos 2) ∷ av.Text (codes "x") ∷ [] }
 {}

@@ -1,4 +1,5 @@
-//! Worked numbers at the edges of their types, as laws over the definitions: each holds by computation.
+//! Worked numbers at the edges of their types, as laws over the definitions: each holds by
+//! computation.
 
 ghost use Rattle.std.specs.Prelude.{◌≡◌, pos, negsuc};
 ghost use Rattle.pipe_columns.specs.declared.data_type.DataType.TheVariants as dt;

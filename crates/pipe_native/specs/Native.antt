@@ -17,30 +17,39 @@ pub record Native (K : Type 0) : Type 0 where
 abbrev pub remainder : ℕ → ℤ → ℕ
 remainder bits n = unsigned_abs (int_rem_euclid n (pos (2 ^ bits)))
 
+-- numbers of 8 bits with a sign
 abbrev pub native_i8 : Native ℤ
 native_i8 = record { number = λ n. n; wrap = int_wrap w8; dtype = dt.Int8 }
 
+-- numbers of 16 bits with a sign
 abbrev pub native_i16 : Native ℤ
 native_i16 = record { number = λ n. n; wrap = int_wrap w16; dtype = dt.Int16 }
 
+-- numbers of 32 bits with a sign
 abbrev pub native_i32 : Native ℤ
 native_i32 = record { number = λ n. n; wrap = int_wrap w32; dtype = dt.Int32 }
 
+-- numbers of 64 bits with a sign
 abbrev pub native_i64 : Native ℤ
 native_i64 = record { number = λ n. n; wrap = int_wrap w64; dtype = dt.Int64 }
 
+-- numbers of 128 bits with a sign
 abbrev pub native_i128 : Native ℤ
 native_i128 = record { number = λ n. n; wrap = int_wrap w128; dtype = dt.Int128 }
 
+-- numbers of 8 bits without a sign
 abbrev pub native_u8 : Native ℕ
 native_u8 = record { number = pos; wrap = remainder 8; dtype = dt.UInt8 }
 
+-- numbers of 16 bits without a sign
 abbrev pub native_u16 : Native ℕ
 native_u16 = record { number = pos; wrap = remainder 16; dtype = dt.UInt16 }
 
+-- numbers of 32 bits without a sign
 abbrev pub native_u32 : Native ℕ
 native_u32 = record { number = pos; wrap = remainder 32; dtype = dt.UInt32 }
 
+-- numbers of 64 bits without a sign
 abbrev pub native_u64 : Native ℕ
 native_u64 = record { number = pos; wrap = remainder 64; dtype = dt.UInt64 }
 

@@ -1,4 +1,4 @@
--- Numbers wrapped into each number type.
+-- Of the proofs alone: numbers wrapped into each number type.
 use Rattle.std.proofs.Common.{◌≡◌, ◌∙◌, ℕ, ◌<◌, ◌^◌, ℤ, pos, negsuc, ◌+ℤ◌, true, refl, sym, ap, arith}
 use Rattle.std.specs.Int.{cast_signed, cast_unsigned, int_rem_euclid, int_wrap, w8, w16, w32, w64, w128}
 use Rattle.std.specs.Int.RustNames.{FitsSigned}
@@ -13,10 +13,12 @@ use Rattle.pipe_native.specs.Native.{IsNative, native_i8, native_i16, native_i32
 
 -- ---- without a sign
 
+-- a remainder has so many bits
 remainder-small : (w : Width) (n : ℤ) → remainder (bits w) n < 2 ^ bits w
 remainder-small w (pos n) = mod-lt n (pow_pos (bits w))
 remainder-small w (negsuc n) = let small : 0 < 2 ^ bits w = pow_pos (bits w) in omega arith
 
+-- a number of so many bits is its own remainder
 remainder-keeps : (b n : ℕ) → n < 2 ^ b → remainder b (pos n) ≡ n
 remainder-keeps b n h = mod-eq_of_lt h
 
@@ -34,26 +36,31 @@ unfolding int_wrap
 int_wrap-remainder w n =
     ap (cast_signed w) (remainder-keeps (bits w) (remainder (bits w) n) (remainder-small w n))
 
+-- to leave a remainder on the way to a sum changes nothing
 remainder-adds : (w : Width) (m n : ℤ)
     → remainder (bits w) (m +ℤ pos (remainder (bits w) n)) ≡ remainder (bits w) (m +ℤ n)
 remainder-adds w m n = same_remainder w _ _
     (sym (int_wrap-add_right w m (pos (remainder (bits w) n)))
     ∙ ap (λ (z : ℤ). int_wrap w (m +ℤ z)) (int_wrap-remainder w n) ∙ int_wrap-add_right w m n)
 
+-- a remainder is the Euclidean one
 remainder_is : (b : ℕ) (n : ℤ) → pos (remainder b n) ≡ int_rem_euclid n (pos (2 ^ b))
 remainder_is b (pos n) = refl
 remainder_is b (negsuc n) = refl
 
+-- a number in the range is kept
 unsigned-keeps : (b : ℕ) (n : ℤ) → is_unsigned b n ≡ true → pos (remainder b n) ≡ n
 unsigned-keeps b (pos n) e = ap pos (remainder-keeps b n (ltb-true n (2 ^ b) e))
 unsigned-keeps b (negsuc n) e = cc
 
 -- ---- with one
 
+-- a number that fits so many bits with a sign is in the range
 signed-fits : (w : Width) (z : ℤ) → FitsSigned w z → is_signed (hbits w) z ≡ true
 signed-fits w (pos n) f = lt-ltb n (2 ^ hbits w) (omega (arith, ints))
 signed-fits w (negsuc n) f = lt-ltb n (2 ^ hbits w) (omega (arith, ints))
 
+-- a number in the range fits so many bits with a sign
 fits-signed : (w : Width) (z : ℤ) → is_signed (hbits w) z ≡ true → FitsSigned w z
 fits-signed w (pos n) e = fits_signed_from_abs w (pos n) (ltb-true n (2 ^ hbits w) e)
 fits-signed w (negsuc n) e =
@@ -61,6 +68,7 @@ fits-signed w (negsuc n) e =
 
 -- ---- the nine
 
+-- `i8` is such a type
 pub is_native_i8 : IsNative native_i8
 is_native_i8 = record {
   adds = int_wrap-add_right w8;
@@ -71,6 +79,7 @@ is_native_i8 = record {
   no_string = refl;
 }
 
+-- `i16` is such a type
 pub is_native_i16 : IsNative native_i16
 is_native_i16 = record {
   adds = int_wrap-add_right w16;
@@ -81,6 +90,7 @@ is_native_i16 = record {
   no_string = refl;
 }
 
+-- `i32` is such a type
 pub is_native_i32 : IsNative native_i32
 is_native_i32 = record {
   adds = int_wrap-add_right w32;
@@ -91,6 +101,7 @@ is_native_i32 = record {
   no_string = refl;
 }
 
+-- `i64` is such a type
 pub is_native_i64 : IsNative native_i64
 is_native_i64 = record {
   adds = int_wrap-add_right w64;
@@ -101,6 +112,7 @@ is_native_i64 = record {
   no_string = refl;
 }
 
+-- `i128` is such a type
 pub is_native_i128 : IsNative native_i128
 is_native_i128 = record {
   adds = int_wrap-add_right w128;
@@ -111,6 +123,7 @@ is_native_i128 = record {
   no_string = refl;
 }
 
+-- `u8` is such a type
 pub is_native_u8 : IsNative native_u8
 is_native_u8 = record {
   adds = remainder-adds w8;
@@ -121,6 +134,7 @@ is_native_u8 = record {
   no_string = refl;
 }
 
+-- `u16` is such a type
 pub is_native_u16 : IsNative native_u16
 is_native_u16 = record {
   adds = remainder-adds w16;
@@ -131,6 +145,7 @@ is_native_u16 = record {
   no_string = refl;
 }
 
+-- `u32` is such a type
 pub is_native_u32 : IsNative native_u32
 is_native_u32 = record {
   adds = remainder-adds w32;
@@ -141,6 +156,7 @@ is_native_u32 = record {
   no_string = refl;
 }
 
+-- `u64` is such a type
 pub is_native_u64 : IsNative native_u64
 is_native_u64 = record {
   adds = remainder-adds w64;

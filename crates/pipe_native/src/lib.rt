@@ -2,6 +2,8 @@
 #![tactic(auto)]
 
 mod native;
+mod signed;
+mod unsigned;
 mod worked;
 
 pub use native::NumericNative;

@@ -1,3 +1,5 @@
+//! Both edges of each number type, and its name.
+
 use crate::NumericNative;
 use pipe_columns::DataType;
 use std::cmp::Ordering;

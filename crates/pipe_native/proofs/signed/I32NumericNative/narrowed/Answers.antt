@@ -1,6 +1,6 @@
 use Rattle.std.proofs.Common.{rules}
 use Rattle.std.specs.Int.{int_wrap}
-use Rattle.pipe_native.proofs.native.I32NumericNative.narrowed.Goals as goal
+use Rattle.pipe_native.proofs.signed.I32NumericNative.narrowed.Goals as goal
 
 pub returns-in-Err : goal.returns-in-Err
 unfolding int_wrap
