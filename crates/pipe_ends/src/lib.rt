@@ -4,6 +4,6 @@
 
 pub use pipe_csv::{ChunkSink, CsvError, frame_text, read_chunks, read_into};
 pub use pipe_io::{
-    FileEnd, InputError, InputFiles, MemoryFiles, MemoryOutput, Output, OutputError, RealFiles,
-    RealOutput, read_file, write_all,
+    FileEnd, InputError, InputFiles, MOST_FILE_BYTES, MemoryFiles, MemoryOutput, Output,
+    OutputError, RealFiles, RealOutput, read_file, write_all,
 };

@@ -1,11 +1,12 @@
 -- Files in memory: the search for a name, and a read.
-use Rattle.std.proofs.Common.{◌≡◌, ◌∙◌, ◌+◌, ◌-◌, ◌<◌, ℕ, List, ◌++◌, length, take, drop, min, Option, Some, true, false, slice_get, get_or, Vec, Global, refl, sym, ap, arith, take-append-drop}
+use Rattle.std.proofs.Common.{◌≡◌, ◌∙◌, ◌+◌, ◌-◌, ◌<◌, ℕ, List, ◌++◌, length, take, drop, min, Option, Some, None, is_some, true, false, slice_get, get_or, Vec, Global, refl, sym, ap, arith, take-append-drop}
 use Rattle.std.proofs.lemmas.List.{at_drop_more, drop-drop, drop_all}
-use Rattle.std.proofs.lemmas.Option.{slice_get-get_or}
+use Rattle.std.proofs.lemmas.Option.{get_or_from_slice_get, slice_get-get_or}
 use Rattle.std.specs.Str.{bytes_eq}
 use Rattle.std.specs.Io.KnownBytes.{Consumes, IsAtEnd}
 use Rattle.pipe_io.specs.Files.{file_of}
-use Rattle.pipe_io.specs.MemoryFiles.{entries, rest_of}
+use Rattle.pipe_io.specs.FilePlace.{rest_of}
+use Rattle.pipe_io.specs.MemoryFiles.{entries}
 
 -- a name and its bytes, as the code holds them
 abbrev Named : Type 0
@@ -35,3 +36,10 @@ copied fs at i n room buf f e size some same = rw (e, same) (
 pub placed : (fs : List Named) (name : List ℕ) (i : ℕ) (d : Named) → i < length fs → file_of (entries fs) name ≡ file_of (entries (drop i fs)) name → bytes_eq (get_or fs i d).0 name ≡ true
     → (bytes : List ℕ) × (rest_of fs 0 i ≡ Some bytes) × (file_of (entries fs) name ≡ Some bytes)
 placed fs name i d h passed same = ((get_or fs i d).1.items, rw (slice_get-get_or fs i d h) refl, passed ∙ hit fs name i d h same)
+
+-- the begun file is the one at its place
+pub begun-there : (fs : List Named) (at i : ℕ) (d : Named) → is_some (rest_of fs at i) ≡ true → d ≡ get_or fs i d → slice_get fs i ≡ Some d
+begun-there fs at i d begun read = by_case (slice_get fs i) refl where
+  by_case : (o : Option Named) → slice_get fs i ≡ o → slice_get fs i ≡ Some d
+  by_case None none = let no : is_some (rest_of fs at i) ≡ false = rw none refl in cc
+  by_case (Some x) some = some ∙ ap Some (sym (get_or_from_slice_get fs i x d some) ∙ sym read)

@@ -1,6 +1,6 @@
 pub mod Files
 pub mod MemoryFiles
+pub mod FilePlace
 pub mod RealFiles
 pub mod Output
 pub mod MemoryOutput
-pub mod RealOutput

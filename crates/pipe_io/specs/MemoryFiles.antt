@@ -1,34 +1,31 @@
--- Files in memory: what they tell, and their calls.
-use Rattle.std.specs.Prelude.{ℕ, List, Bool, map, drop, Option, Some, is_some, option_map, option_and_then, slice_get, Vec}
+-- What contracts see of files in memory.
+use Rattle.std.specs.Prelude.{ℕ, List, Bool, map, Option, Some, is_some, Vec}
 use Rattle.std.specs.declared.alloc.Global.{Global}
 use Rattle.pipe_columns.specs.Calls.{Calls}
 use Rattle.pipe_io.specs.Files.{Files}
-use Rattle.pipe_io.specs.declared.memory_files.MemoryFiles.{MemoryFiles}
+
+-- named files, what is left of the one that is begun, and the calls of begin and read, numbered together
+pub record HeldFiles : Type 0 where
+  pub files : Files
+  pub left : Option (List ℕ)
+  pub calls : Calls
 
 -- the names and bytes of a list of files
 abbrev pub entries : List (List ℕ × Vec ℕ Global) → Files
 entries files = map (λ f. (f.0, f.1.items)) files
 
 -- all files, which are always told
-abbrev pub told_of : MemoryFiles → Option Files
-told_of s = Some (entries s.files.items)
-
--- the bytes of the file at a place, from an offset on
-abbrev pub rest_of : List (List ℕ × Vec ℕ Global) → ℕ → ℕ → Option (List ℕ)
-rest_of files at place = option_map (λ f. drop at f.1.items) (slice_get files place)
+abbrev pub told_of : HeldFiles → Option Files
+told_of s = Some s.files
 
 -- what is left of the begun file
-abbrev pub left_of : MemoryFiles → Option (List ℕ)
-left_of s = option_and_then (rest_of s.files.items s.at) s.current
+abbrev pub left_of : HeldFiles → Option (List ℕ)
+left_of s = s.left
 
 -- whether a file is begun
-abbrev pub begun_of : MemoryFiles → Bool
-begun_of s = is_some s.current
-
--- the calls of `begin` and `read`, numbered together
-abbrev pub calls_of : MemoryFiles → Calls
-calls_of s = s.calls
+abbrev pub begun_of : HeldFiles → Bool
+begun_of s = is_some s.left
 
 -- how many calls failed
-abbrev pub faults_of : MemoryFiles → ℕ
-faults_of s = (calls_of s).faults
+abbrev pub faults_of : HeldFiles → ℕ
+faults_of s = s.calls.faults

@@ -1,20 +1,16 @@
--- An output in memory: its bytes, and its calls.
+-- What contracts see of an output in memory.
 use Rattle.std.specs.Prelude.{ℕ, List, Option, Some}
 use Rattle.pipe_columns.specs.Calls.{Calls}
-use Rattle.pipe_io.specs.declared.memory_output.MemoryOutput.{MemoryOutput}
 
--- the bytes that it was given
-abbrev pub bytes_of : MemoryOutput → List ℕ
-bytes_of s = s.bytes.items
+-- the bytes that it was given, and the calls of write
+pub record HeldBytes : Type 0 where
+  pub bytes : List ℕ
+  pub calls : Calls
 
 -- its bytes, which are always told
-abbrev pub told_of : MemoryOutput → Option (List ℕ)
-told_of s = Some (bytes_of s)
-
--- the calls of `write`
-abbrev pub calls_of : MemoryOutput → Calls
-calls_of s = s.calls
+abbrev pub told_of : HeldBytes → Option (List ℕ)
+told_of s = Some s.bytes
 
 -- how many calls failed
-abbrev pub faults_of : MemoryOutput → ℕ
-faults_of s = (calls_of s).faults
+abbrev pub faults_of : HeldBytes → ℕ
+faults_of s = s.calls.faults

@@ -1,11 +1,15 @@
--- The real files, and standard input.
-use Rattle.std.specs.Prelude.{ℕ, Bool, ◌||◌, is_some}
-use Rattle.pipe_io.specs.declared.real_files.RealFiles.{RealFiles}
+-- What contracts see of the real files and standard input.
+use Rattle.std.specs.Prelude.{ℕ, Bool}
+
+-- whether a file or standard input is begun, and how many calls failed
+pub record SystemFiles : Type 0 where
+  pub begun : Bool
+  pub faults : ℕ
 
 -- whether a file or standard input is begun
-abbrev pub begun_of : {R File Dir S : Type 0} → RealFiles R File Dir S → Bool
-begun_of s = s.reads_stdin || is_some s.file
+abbrev pub begun_of : SystemFiles → Bool
+begun_of s = s.begun
 
 -- how many calls failed
-abbrev pub faults_of : {R File Dir S : Type 0} → RealFiles R File Dir S → ℕ
+abbrev pub faults_of : SystemFiles → ℕ
 faults_of s = s.faults

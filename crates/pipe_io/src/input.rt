@@ -1,4 +1,4 @@
-// Where named files come from.
+//! Where named files come from.
 
 ghost use Rattle.std.specs.Prelude.{◌≡◌, ◌<◌, List, ℕ, Bool, Option, true, false, length, OnOk, OnErr, IsErrOf, []};
 ghost use Rattle.std.specs.Io.{ReadsAtMost};
@@ -10,7 +10,7 @@ ghost use Rattle.pipe_io.specs.declared.input.InputError.TheVariants as input_er
 use pipe_columns::Text;
 
 /// Why an input gave nothing.
-#[derive(Clone, Copy, Debug, PartialEq, Eq)]
+#[derive(Debug, Drop, PartialEq, Eq)]
 pub enum InputError {
     /// An opening or a read failed.
     Failed,

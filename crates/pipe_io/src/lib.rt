@@ -16,7 +16,7 @@ pub use memory_output::MemoryOutput;
 pub use output::{Output, OutputError, write_all};
 pub use real_files::RealFiles;
 pub use real_output::RealOutput;
-pub use whole_file::{FileEnd, read_file};
+pub use whole_file::{FileEnd, MOST_FILE_BYTES, read_file};
 
 #[cfg(test)]
 mod tests;

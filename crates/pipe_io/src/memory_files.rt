@@ -1,19 +1,21 @@
-// Files in memory, which fail at listed calls.
+//! Files in memory, which fail at listed calls.
 
 ghost use Rattle.std.specs.Prelude.{◌≡◌, ◌-◌, min, take, drop, ◌<◌, IfSome, IfNone, length, None, Some, List, ℕ, ◌↔◌, OnOk, OnErr, IsErrOf, IsTrue, true, false, []};
 ghost use Rattle.std.specs.Io.{ReadsAtMost};
 ghost use Rattle.std.specs.Io.KnownBytes.{ReadConsumes};
 ghost use Rattle.pipe_columns.specs.Calls.{after_call, is_listed, no_calls};
 ghost use Rattle.pipe_columns.specs.Causes.{HasCause};
-ghost use Rattle.pipe_io.specs.Files.{file_of, HasNone, IsRead};
-ghost use Rattle.pipe_io.specs.MemoryFiles.{begun_of, calls_of, entries, faults_of, left_of, rest_of, told_of};
+ghost use Rattle.pipe_io.specs.FilePlace.{rest_of};
+ghost use Rattle.pipe_io.specs.Files.{HasNone, IsRead, file_of};
+ghost use Rattle.pipe_io.specs.MemoryFiles.{begun_of, entries, faults_of, left_of, told_of};
 ghost use Rattle.pipe_io.specs.declared.input.InputError.TheVariants as input_error;
 
-use pipe_columns::FailingCalls;
 use crate::input::{InputError, InputFiles};
-use pipe_columns::Text;
+use pipe_columns::{FailingCalls, Text};
+use std::marker::Model;
 
-/// Named bytes, of which one file at a time is read.
+/// Named bytes, of which one file at a time is read. Contracts see the files, what is left of the
+/// begun one, and the calls.
 #[derive(Drop)]
 pub struct MemoryFiles {
     files: Vec<(Text, Vec<u8>)>,
@@ -22,12 +24,26 @@ pub struct MemoryFiles {
     at: usize,
 }
 
+impl Model for MemoryFiles {
+    ghost use Rattle.std.specs.Prelude.{option_and_then};
+    ghost use Rattle.pipe_io.specs.FilePlace.{rest_of};
+    ghost use Rattle.pipe_io.specs.MemoryFiles.{HeldFiles, entries};
+
+    ghost Value = { HeldFiles };
+
+    ghost view = { λ s. record {
+      files = entries s.files.items;
+      left = option_and_then (rest_of s.files.items s.at) s.current;
+      calls = s.calls;
+    } };
+}
+
 impl MemoryFiles {
     /// The calls of `begin` and `read` are numbered together from 0, and those listed fail.
     pub fn new(files: Vec<(Text, Vec<u8>)>, failing: Vec<u64>) -> MemoryFiles
-        ensures told { told_of result ≡ Some (entries files.items) }
-        ensures idle { begun_of result ≡ false }
-        ensures calls { calls_of result ≡ no_calls failing.items }
+        ensures files { result.files ≡ entries files.items }
+        ensures idle { result.left ≡ None }
+        ensures calls { result.calls ≡ no_calls failing.items }
     {
         MemoryFiles {
             files,
@@ -58,9 +74,9 @@ impl InputFiles for MemoryFiles {
         ensures cause { HasCause (faults_of self.old) (faults_of self.new)
             (IsErrOf result input_error.Failed) }
         ensures fails_exactly { IsErrOf result input_error.Failed
-            ↔ IsTrue (is_listed (calls_of self.old)) }
+            ↔ IsTrue (is_listed self.old.calls) }
         ensures no_memory { IsErrOf result input_error.Memory → ⊥ }
-        ensures calls { calls_of self.new ≡ after_call (calls_of self.old) }
+        ensures calls { self.new.calls ≡ after_call self.old.calls }
     {
         self.current = None;
         if self.calls.count() {
@@ -87,20 +103,15 @@ impl InputFiles for MemoryFiles {
         ensures cause { HasCause (faults_of self.old) (faults_of self.new)
             (IsErrOf result input_error.Failed) }
         ensures fails_exactly { IsErrOf result input_error.Failed
-            ↔ IsTrue (is_listed (calls_of self.old)) }
+            ↔ IsTrue (is_listed self.old.calls) }
         ensures no_memory { IsErrOf result input_error.Memory → ⊥ }
-        ensures calls { calls_of self.new ≡ after_call (calls_of self.old) }
+        ensures calls { self.new.calls ≡ after_call self.old.calls }
     {
         if self.calls.count() {
             return Err(InputError::Failed);
         }
-        let Some(place) = self.current else {
-            return Ok(0);
-        };
-        let Some(file) = self.files.get(place) else {
-            return Ok(0);
-        };
-        let count = copy_front(&file.1, self.at, into);
+        let place = self.current.unwrap();
+        let count = copy_front(&self.files[place].1, self.at, into);
         self.at += count;
         Ok(count)
     }

@@ -1,28 +1,37 @@
-// An output in memory, which fails at listed calls.
+//! An output in memory, which fails at listed calls.
 
-ghost use Rattle.std.specs.Prelude.{◌≡◌, ◌<◌, ◌≤◌, ◌↔◌, ℕ, List, [], length, IfOk, IsErrOf, IsTrue};
+ghost use Rattle.std.specs.Prelude.{◌≡◌, ◌<◌, ◌≤◌, ◌↔◌, [], is_some, length, IfOk, IsErrOf, IsTrue};
 ghost use Rattle.std.specs.Io.KnownBytes.{WriteAppends};
 ghost use Rattle.pipe_columns.specs.Calls.{after_call, is_listed, no_calls};
 ghost use Rattle.pipe_columns.specs.Causes.{HasCause};
-ghost use Rattle.pipe_io.specs.MemoryOutput.{bytes_of, calls_of, faults_of, told_of};
+ghost use Rattle.pipe_io.specs.MemoryOutput.{faults_of, told_of};
 ghost use Rattle.pipe_io.specs.declared.output.OutputError.TheVariants as output_error;
 
-use pipe_columns::FailingCalls;
 use crate::output::{Output, OutputError};
+use pipe_columns::FailingCalls;
 use std::alloc::Global;
+use std::marker::Model;
 
-/// Bytes in memory, which take each piece whole.
+/// Bytes in memory, which take each piece whole. Contracts see the bytes and the calls.
 #[derive(Drop)]
 pub struct MemoryOutput {
     bytes: Vec<u8>,
     calls: FailingCalls,
 }
 
+impl Model for MemoryOutput {
+    ghost use Rattle.pipe_io.specs.MemoryOutput.{HeldBytes};
+
+    ghost Value = { HeldBytes };
+
+    ghost view = { λ s. record { bytes = s.bytes.items; calls = s.calls } };
+}
+
 impl MemoryOutput {
     /// The calls of `write` are numbered from 0, and those listed fail.
     pub fn new(alloc: Global, failing: Vec<u64>) -> MemoryOutput
-        ensures empty { bytes_of result ≡ [] }
-        ensures calls { calls_of result ≡ no_calls failing.items }
+        ensures empty { result.bytes ≡ [] }
+        ensures calls { result.calls ≡ no_calls failing.items }
     {
         MemoryOutput {
             bytes: Vec::new(alloc),
@@ -32,7 +41,7 @@ impl MemoryOutput {
 
     /// The bytes that it was given.
     pub fn bytes(&self) -> &[u8]
-        ensures { result.now ≡ bytes_of self.now }
+        ensures { result.now ≡ self.now.bytes }
     {
         &self.bytes
     }
@@ -47,13 +56,14 @@ impl Output for MemoryOutput {
         requires { 0 < length piece.now }
         ensures some { IfOk result (λ n. 0 < n) }
         ensures bound { IfOk result (λ n. n ≤ length piece.now) }
+        ensures tells { is_some (told_of self.new) ≡ is_some (told_of self.old) }
         ensures bytes { WriteAppends (told_of self.old) (told_of self.new) result piece.now }
         ensures cause { HasCause (faults_of self.old) (faults_of self.new)
             (IsErrOf result output_error.Failed) }
         ensures whole { IfOk result (λ n. n ≡ length piece.now) }
         ensures fails_exactly { IsErrOf result output_error.Failed
-            ↔ IsTrue (is_listed (calls_of self.old)) }
-        ensures calls { calls_of self.new ≡ after_call (calls_of self.old) }
+            ↔ IsTrue (is_listed self.old.calls) }
+        ensures calls { self.new.calls ≡ after_call self.old.calls }
     {
         if self.calls.count() {
             return Err(OutputError::Failed);

@@ -1,14 +1,15 @@
-// The real files, and standard input as `-`.
+//! The real files, and standard input as `-`.
 
 ghost use Rattle.std.specs.Prelude.{◌≡◌, false};
-ghost use Rattle.pipe_io.specs.RealFiles.{begun_of, faults_of};
 
 use crate::input::{InputError, InputFiles};
 use pipe_columns::Text;
 use std::fs::{self, Files};
 use std::io::{ErrorKind, Read};
+use std::marker::Model;
 
-/// The files of a runtime, and a reader for the name `-`. It tells none of their bytes.
+/// The files of a runtime, and a reader for the name `-`. It tells none of their bytes. Contracts
+/// see whether one is begun, and the count of faults.
 #[derive(Drop)]
 pub struct RealFiles<'a, R: Files, S> {
     rt: &'a R,
@@ -18,11 +19,20 @@ pub struct RealFiles<'a, R: Files, S> {
     faults: u64,
 }
 
+impl<'a, R: Files, S> Model for RealFiles<'a, R, S> {
+    ghost use Rattle.std.specs.Prelude.{is_some, ◌||◌};
+    ghost use Rattle.pipe_io.specs.RealFiles.{SystemFiles};
+
+    ghost Value = { SystemFiles };
+
+    ghost view = { λ s. record { begun = s.reads_stdin || is_some s.file; faults = s.faults } };
+}
+
 impl<'a, R: Files, S: Read + Drop> RealFiles<'a, R, S> {
     /// Nothing is begun. `stdin` is read where `-` is begun, each time from where it stands.
     pub fn new(rt: &'a R, stdin: S) -> RealFiles<'a, R, S>
-        ensures idle { begun_of result ≡ false }
-        ensures no_fault { faults_of result ≡ 0 }
+        ensures idle { result.begun ≡ false }
+        ensures no_fault { result.faults ≡ 0 }
     {
         RealFiles {
             rt,

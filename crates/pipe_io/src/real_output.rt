@@ -1,23 +1,32 @@
-// Any writer as an output.
+//! Any writer as an output.
 
 ghost use Rattle.std.specs.Prelude.{◌≡◌};
 ghost use Rattle.std.specs.Io.{WritesAtMost};
-ghost use Rattle.pipe_io.specs.RealOutput.{faults_of};
 
 use crate::output::{Output, OutputError};
 use std::io::{ErrorKind, Write};
+use std::marker::Model;
 
-/// A writer, which is flushed in each write. It tells none of its bytes.
+/// A writer, which is flushed in each write. It tells none of its bytes. Contracts see its count of
+/// faults.
 #[derive(Drop)]
 pub struct RealOutput<W> {
     writer: W,
     faults: u64,
 }
 
+impl<W> Model for RealOutput<W> {
+    ghost use Rattle.std.specs.Prelude.{ℕ};
+
+    ghost Value = { ℕ };
+
+    ghost view = { λ s. s.faults };
+}
+
 impl<W: Write + Drop> RealOutput<W> {
     /// No write is made yet.
     pub fn new(writer: W) -> RealOutput<W>
-        ensures { faults_of result ≡ 0 }
+        ensures { result ≡ 0 }
     {
         RealOutput { writer, faults: 0 }
     }
@@ -25,11 +34,10 @@ impl<W: Write + Drop> RealOutput<W> {
 
 impl<W: Write + Drop> Output for RealOutput<W> {
     ghost use Rattle.std.specs.Prelude.{None};
-    ghost use Rattle.pipe_io.specs.RealOutput.{faults_of};
 
     ghost told = { λ s. None };
 
-    ghost faults = { faults_of };
+    ghost faults = { λ n. n };
 
     fn write(&mut self, piece: &[u8]) -> Result<usize, OutputError> {
         match written(&mut self.writer, piece) {

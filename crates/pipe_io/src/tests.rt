@@ -1,4 +1,4 @@
-// What the inputs and outputs do where calls fail, and the real ones at all.
+//! What the inputs and outputs do where calls fail, and the real ones at all.
 
 use crate::input::InputFiles;
 use crate::memory_files::MemoryFiles;

@@ -1,4 +1,4 @@
-// A file, read whole.
+//! A file, read whole.
 
 ghost use Rattle.std.specs.Prelude.{◌≡◌, ◌<◌, ◌≤◌, ◌^◌, ◌+◌, List, ℕ, length, IfOk, IsErrOf, Some};
 ghost use Rattle.pipe_columns.specs.Causes.{HasCause};
@@ -10,19 +10,19 @@ use pipe_columns::Text;
 use std::alloc::Global;
 
 /// The most bytes that a file may have.
-const MOST_BYTES: usize = 1 << 30;
+pub const MOST_FILE_BYTES: usize = 1 << 30;
 
 /// How many bytes are asked for at once.
 const PIECE_BYTES: usize = 1 << 16;
 
 /// Why a file was not read whole.
-#[derive(Clone, Copy, Debug, PartialEq, Eq)]
+#[derive(Debug, Drop, PartialEq, Eq)]
 pub enum FileEnd {
     /// No file has the name.
     Missing,
     /// The input failed.
     Failed,
-    /// The file has more than 2^30 bytes.
+    /// The file has more bytes than `MOST_FILE_BYTES`.
     TooLarge,
     /// Memory ran out.
     Memory,
@@ -50,11 +50,11 @@ pub fn read_file<I: InputFiles>(
 ) -> Result<Vec<u8>, FileEnd>
     ensures told { I.told input.new ≡ I.told input.old }
     ensures bytes { IfOk result (λ v. IsWhole (I.told input.old) name.now v.items) }
-    ensures small { IfOk result (λ v. length v.items ≤ 2 ^ 30) }
+    ensures small { IfOk result (λ v. length v.items ≤ MOST_FILE_BYTES) }
     ensures missing { IsErrOf result file_end.Missing → HasNone (I.told input.old) name.now }
     ensures no_fault { IsErrOf result file_end.Missing → I.faults input.new ≡ I.faults input.old }
     ensures large { IsErrOf result file_end.TooLarge
-        → IsLarger (I.told input.old) name.now (2 ^ 30) }
+        → IsLarger (I.told input.old) name.now MOST_FILE_BYTES }
     ensures cause { HasCause (I.faults input.old) (I.faults input.new)
         (IsErrOf result file_end.Failed) }
 {
@@ -63,11 +63,11 @@ pub fn read_file<I: InputFiles>(
     }
     let mut bytes = Vec::new(alloc);
     let mut piece = [0; PIECE_BYTES];
-    for _turn in 0..MOST_BYTES + 1 {
+    for _turn in 0..MOST_FILE_BYTES + 1 {
         match input.read(&mut piece) {
             Ok(0) => return Ok(bytes),
             Ok(count) => {
-                if bytes.len() + count > MOST_BYTES {
+                if bytes.len() + count > MOST_FILE_BYTES {
                     return Err(FileEnd::TooLarge);
                 }
                 if bytes.extend_from_slice(&piece[..count]).is_err() {

@@ -1,4 +1,4 @@
-use Rattle.std.proofs.Common.{rules, arith, ap, ◌≡◌, ◌≤◌, List, ℕ, length, take, drop, take-add}
+use Rattle.std.proofs.Common.{rules, arith, ap, ◌≡◌, ◌∙◌, ◌≤◌, List, ℕ, length, take, drop, take-add}
 use Rattle.std.proofs.KnownBytes.{Appends-trans}
 use Rattle.std.proofs.lemmas.List.{length-drop, take_rest}
 use Rattle.pipe_io.proofs.output.write_all.Goals as goal
@@ -16,5 +16,6 @@ loop-turn-preserved g c =
       turns = omega (arith, inv.turns, c.in-Ok.ensures.some);
       later = search rules;
       idle = λ none. let some : length bytes ≡ 0 = ap length none in absurd (omega (arith, c.loop-turn-test.true));
+      tells = c.in-Ok.ensures.tells ∙ inv.tells;
       wrote = rw take-add more;
     }

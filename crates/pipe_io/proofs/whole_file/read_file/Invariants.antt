@@ -1,5 +1,6 @@
-use Rattle.std.proofs.Common.{◌≡◌, ◌≤◌, ◌^◌, length, true}
+use Rattle.std.proofs.Common.{◌≡◌, ◌≤◌, length, true}
 use Rattle.pipe_io.specs.Files.{IsRead}
+use Rattle.pipe_io.specs.declared.whole_file.TheConstants.{MOST_FILE_BYTES}
 use Rattle.pipe_io.proofs.whole_file.read_file.Given as goal
 
 abbrev pub invariant-loop-turn : goal.invariant-loop-turn
@@ -11,5 +12,5 @@ invariant-loop-turn g l =
       later : input.faults l.fn.input ≤ input.faults l.input;
       read : IsRead (input.told l.fn.input) l.fn.name (input.left l.input) l.bytes.items;
       turns : l._turn ≤ length l.bytes.items;
-      small : length l.bytes.items ≤ 2 ^ 30;
+      small : length l.bytes.items ≤ MOST_FILE_BYTES;
     }

@@ -1,7 +1,0 @@
--- A writer as an output.
-use Rattle.std.specs.Prelude.{ℕ}
-use Rattle.pipe_io.specs.declared.real_output.RealOutput.{RealOutput}
-
--- how many writes failed
-abbrev pub faults_of : {W : Type 0} → RealOutput W → ℕ
-faults_of s = s.faults
