@@ -18,7 +18,7 @@ signed-128 : (bits : ℕ) (n : ℤ) → 2 ^ bits < 2 ^ 127 → is_signed bits n 
 signed-128 bits (pos k) small h = grind (arith, nat_tests)
 signed-128 bits (negsuc k) small h = grind (arith, nat_tests)
 
--- so does one without
+-- a range without a sign lies in that of 128 bits
 unsigned-128 : (bits : ℕ) (n : ℤ) → 2 ^ bits < 2 ^ 127 → is_unsigned bits n ≡ true → is_signed 127 n ≡ true
 unsigned-128 bits (pos k) small h = grind (arith, nat_tests)
 unsigned-128 bits (negsuc k) small h = cc
@@ -44,7 +44,7 @@ narrowed-twice t n true b e f = rw (fits-128 n t e) refl
 narrowed-twice t n false true e f = rw f refl
 narrowed-twice t n false false e f = rw (e, f) refl
 
--- the same, where there is one
+-- a number, if there is one, narrowed by way of 128 bits
 narrowed-option : (t : DataType) (o : Option ℤ) → option_and_then (narrowed t) o ≡ option_and_then (narrowed t) (option_and_then (λ n. if fits_number n dt.Int128 then Some n else None) o)
 narrowed-option t None = refl
 narrowed-option t (Some n) = narrowed-twice t n (fits_number n t) (fits_number n dt.Int128) refl refl
@@ -84,23 +84,23 @@ narrow-fits : (t : DataType) (n : ℤ) (v : AnyValue) (b : Bool) → fits_number
 narrow-fits t n v true e h = let same : av.Int n ≡ v = same_Some (av.Int n) v (sym (rw e refl) ∙ h) in rw (← same) e
 narrow-fits t n v false e h = let none : None ≡ Some v = sym (rw e refl) ∙ h in absurd (none-some v none)
 
--- so does an integer that reads
+-- an integer that reads fits its type
 int-fits : (t : DataType) (o : Option ℤ) (v : AnyValue) → option_and_then (narrowed t) o ≡ Some v → fits v t ≡ true
 int-fits t None v h = absurd (none-some v h)
 int-fits t (Some n) v h = narrow-fits t n v (fits_number n t) refl h
 
--- so does a truth value
+-- a truth value that reads fits its type
 truth-fits : (a b : Bool) (v : AnyValue) → (if a then Some (av.Boolean true) else (if b then Some (av.Boolean false) else None)) ≡ Some v → fits v dt.Boolean ≡ true
 truth-fits true b v h = let same : av.Boolean true ≡ v = same_Some (av.Boolean true) v h in rw (← same) refl
 truth-fits false true v h = let same : av.Boolean false ≡ v = same_Some (av.Boolean false) v h in rw (← same) refl
 truth-fits false false v h = absurd (none-some v h)
 
--- so does a text
+-- a text that reads fits its type
 text-fits : (a : Bool) (text : List ℕ) (v : AnyValue) → (if a then Some (av.Text text) else None) ≡ Some v → fits v dt.String ≡ true
 text-fits true text v h = let same : av.Text text ≡ v = same_Some (av.Text text) v h in rw (← same) refl
 text-fits false text v h = absurd (none-some v h)
 
--- so does each value of a text that isn't empty
+-- each value that a text which isn't empty reads as fits its type
 some-fits : (t : DataType) (text : List ℕ) (v : AnyValue) → read_some t text ≡ Some v → fits v t ≡ true
 some-fits dt.Boolean text v h = truth-fits (bytes_eq text (codes "true")) (bytes_eq text (codes "false")) v h
 some-fits dt.Int8 text v h = int-fits dt.Int8 (read_number text) v h

@@ -8,7 +8,7 @@ use Rattle.pipe_columns.specs.declared.any_value.AnyValue.{AnyValue}
 use Rattle.pipe_columns.specs.declared.schema.Field.{Field}
 use Rattle.pipe_columns.specs.declared.data_chunk.DataChunk.{DataChunk}
 use Rattle.pipe_columns.specs.Frame.{ColumnData, FitsSchema, columns_from, value_at}
-use Rattle.pipe_csv.specs.CsvChunks.{Values, chunks_from, file_chunks, flagged, flagged_frame}
+use Rattle.pipe_csv.specs.CsvChunks.{chunks_from, file_chunks, flagged, flagged_frame}
 use Rattle.pipe_columns.specs.Pieces.{pieces, pieces_within}
 use Rattle.pipe_csv.specs.Columns.{column_of, columns_of, values_from, with_row}
 
@@ -50,12 +50,12 @@ last-piece {A} n (x ∷ xs) p h =
     ap (λ (y : List A). y ∷ pieces_within (length xs) n (drop n (x ∷ xs))) (take_all n (x ∷ xs) h) ∙ ap (λ (y : List (List A)). (x ∷ xs) ∷ y) (none-left (length xs) n (x ∷ xs) h)
 
 -- there are as many chunks as pieces
-pub length-chunks : (i : ℕ) (fs : List Field) (ps : List (List Values)) → length (chunks_from i fs ps) ≡ length ps
+pub length-chunks : (i : ℕ) (fs : List Field) (ps : List (List (List AnyValue))) → length (chunks_from i fs ps) ≡ length ps
 length-chunks i fs [] = refl
 length-chunks i fs (p ∷ ps) = ap (λ n. suc n) (length-chunks (i + 1) fs ps)
 
 -- one more piece is one more chunk
-pub chunks-push : (i : ℕ) (fs : List Field) (ps : List (List Values)) (p : List Values) → chunks_from i fs (ps ++ (p ∷ [])) ≡ chunks_from i fs ps ++ (record { chunk_index = (i + length ps) % 2 ^ 32; frame = flagged_frame fs p } ∷ [])
+pub chunks-push : (i : ℕ) (fs : List Field) (ps : List (List (List AnyValue))) (p : List (List AnyValue)) → chunks_from i fs (ps ++ (p ∷ [])) ≡ chunks_from i fs ps ++ (record { chunk_index = (i + length ps) % 2 ^ 32; frame = flagged_frame fs p } ∷ [])
 chunks-push i fs [] p = let e : i ≡ i + 0 = omega arith in ap (λ (k : ℕ). record { chunk_index = k % 2 ^ 32; frame = flagged_frame fs p } ∷ []) e
 chunks-push i fs (q ∷ ps) p =
     let e : i + 1 + length ps ≡ i + suc (length ps) = omega arith in
@@ -63,66 +63,66 @@ chunks-push i fs (q ∷ ps) p =
     ∙ ap (λ (k : ℕ). record { chunk_index = i % 2 ^ 32; frame = flagged_frame fs q } ∷ (chunks_from (i + 1) fs ps ++ (record { chunk_index = k % 2 ^ 32; frame = flagged_frame fs p } ∷ []))) e
 
 -- columns by field are the columns of rows, with their flags
-pub columns-flagged : (i : ℕ) (fs : List Field) (rows : List Values) → columns_of fs (values_from i fs rows) ≡ map flagged (columns_from i fs rows)
+pub columns-flagged : (i : ℕ) (fs : List Field) (rows : List (List AnyValue)) → columns_of fs (values_from i fs rows) ≡ map flagged (columns_from i fs rows)
 columns-flagged i [] rows = refl
 columns-flagged i (f ∷ fs) rows = ap (λ (t : List ColumnData). column_of f (map (λ row. value_at row i) rows) ∷ t) (columns-flagged (i + 1) fs rows)
 
 -- no row is one empty column a field
 pub values-none : (i : ℕ) (fs : List Field) → values_from i fs [] ≡ replicate (length fs) []
 values-none i [] = refl
-values-none i (f ∷ fs) = ap (λ (t : List Values). [] ∷ t) (values-none (i + 1) fs)
+values-none i (f ∷ fs) = ap (λ (t : List (List AnyValue)). [] ∷ t) (values-none (i + 1) fs)
 
 -- there are as many columns as fields
-pub length-values : (i : ℕ) (fs : List Field) (rows : List Values) → length (values_from i fs rows) ≡ length fs
+pub length-values : (i : ℕ) (fs : List Field) (rows : List (List AnyValue)) → length (values_from i fs rows) ≡ length fs
 length-values i [] rows = refl
 length-values i (f ∷ fs) rows = ap (λ n. suc n) (length-values (i + 1) fs rows)
 
 -- the first of the values from a place on stands there
-pub value-here : (all : Values) (i : ℕ) (v : AnyValue) (vs : Values) → v ∷ vs ≡ drop i all → v ≡ value_at all i
+pub value-here : (all : List AnyValue) (i : ℕ) (v : AnyValue) (vs : List AnyValue) → v ∷ vs ≡ drop i all → v ≡ value_at all i
 value-here [] zero v vs e = cc
 value-here [] (suc i) v vs e = cc
 value-here (x ∷ xs) zero v vs e = cc
 value-here (x ∷ xs) (suc i) v vs e = value-here xs i v vs e
 
 -- the rest of the values from a place on
-rest-here : (all : Values) (i : ℕ) (v : AnyValue) (vs : Values) → v ∷ vs ≡ drop i all → vs ≡ drop (suc i) all
+rest-here : (all : List AnyValue) (i : ℕ) (v : AnyValue) (vs : List AnyValue) → v ∷ vs ≡ drop i all → vs ≡ drop (suc i) all
 rest-here [] zero v vs e = cc
 rest-here [] (suc i) v vs e = cc
 rest-here (x ∷ xs) zero v vs e = cc
 rest-here (x ∷ xs) (suc i) v vs e = rest-here xs i v vs e
 
--- the same, by the next place
-pub rest-next : (all : Values) (i : ℕ) (v : AnyValue) (vs : Values) → v ∷ vs ≡ drop i all → vs ≡ drop (i + 1) all
+-- the rest of the values from a place on are those from the next place on
+pub rest-next : (all : List AnyValue) (i : ℕ) (v : AnyValue) (vs : List AnyValue) → v ∷ vs ≡ drop i all → vs ≡ drop (i + 1) all
 rest-next all i v vs e = rw add-one (rest-here all i v vs e)
 
 -- the values of a row from a place on go to the ends of the columns from there on
-values-at : (i : ℕ) (fs : List Field) (rows : List Values) (all vs : Values) → vs ≡ drop i all → length vs ≡ length fs → with_row vs (values_from i fs rows) ≡ values_from i fs (rows ++ (all ∷ []))
+values-at : (i : ℕ) (fs : List Field) (rows : List (List AnyValue)) (all vs : List AnyValue) → vs ≡ drop i all → length vs ≡ length fs → with_row vs (values_from i fs rows) ≡ values_from i fs (rows ++ (all ∷ []))
 values-at i [] rows all [] e h = refl
 values-at i [] rows all (v ∷ vs) e h = absurd (omega arith)
 values-at i (f ∷ fs) rows all [] e h = absurd (omega arith)
 values-at i (f ∷ fs) rows all (v ∷ vs) e h =
     let here : v ≡ value_at all i = value-here all i v vs e in
     let tail : vs ≡ drop (i + 1) all = rest-next all i v vs e in
-    let one : map (λ row. value_at row i) (rows ++ (all ∷ [])) ≡ map (λ row. value_at row i) rows ++ (value_at all i ∷ []) = map-append (λ (row : Values). value_at row i) rows (all ∷ []) in
-    ap (λ (t : List Values). (map (λ row. value_at row i) rows ++ (v ∷ [])) ∷ t) (values-at (i + 1) fs rows all vs tail (omega arith))
+    let one : map (λ row. value_at row i) (rows ++ (all ∷ [])) ≡ map (λ row. value_at row i) rows ++ (value_at all i ∷ []) = map-append (λ (row : List AnyValue). value_at row i) rows (all ∷ []) in
+    ap (λ (t : List (List AnyValue)). (map (λ row. value_at row i) rows ++ (v ∷ [])) ∷ t) (values-at (i + 1) fs rows all vs tail (omega arith))
     ∙ ap (λ (x : AnyValue). (map (λ row. value_at row i) rows ++ (x ∷ [])) ∷ values_from (i + 1) fs (rows ++ (all ∷ []))) here
-    ∙ ap (λ (c : Values). c ∷ values_from (i + 1) fs (rows ++ (all ∷ []))) (sym one)
+    ∙ ap (λ (c : List AnyValue). c ∷ values_from (i + 1) fs (rows ++ (all ∷ []))) (sym one)
 
 -- one more row goes to the ends of the columns
-pub values-push : (fs : List Field) (rows : List Values) (row : Values) → length row ≡ length fs → with_row row (values_from 0 fs rows) ≡ values_from 0 fs (rows ++ (row ∷ []))
+pub values-push : (fs : List Field) (rows : List (List AnyValue)) (row : List AnyValue) → length row ≡ length fs → with_row row (values_from 0 fs rows) ≡ values_from 0 fs (rows ++ (row ∷ []))
 values-push fs rows row h = values-at 0 fs rows row row refl h
 
 -- columns of rows have the names and the types of their fields
-names-kept : (i : ℕ) (fs : List Field) (rows : List Values) → map (λ (c : ColumnData). let f : Field = record { name = c.name; dtype = c.dtype } in f) (map flagged (columns_from i fs rows)) ≡ fs
+names-kept : (i : ℕ) (fs : List Field) (rows : List (List AnyValue)) → map (λ (c : ColumnData). let f : Field = record { name = c.name; dtype = c.dtype } in f) (map flagged (columns_from i fs rows)) ≡ fs
 names-kept i [] rows = refl
 names-kept i (f ∷ fs) rows = ap (λ (t : List Field). f ∷ t) (names-kept (i + 1) fs rows)
 
 -- the frame of rows has the names and the types of the schema
-pub frame-fits : (fs : List Field) (rows : List Values) → FitsSchema fs (flagged_frame fs rows)
+pub frame-fits : (fs : List Field) (rows : List (List AnyValue)) → FitsSchema fs (flagged_frame fs rows)
 frame-fits fs rows = names-kept 0 fs rows
 
 -- pieces together have as many rows as there are
-heights : (m n i : ℕ) (fs : List Field) (rows : List Values) → sum_by (λ c. c.frame.height) (chunks_from i fs (pieces_within m n rows)) ≤ length rows
+heights : (m n i : ℕ) (fs : List Field) (rows : List (List AnyValue)) → sum_by (λ c. c.frame.height) (chunks_from i fs (pieces_within m n rows)) ≤ length rows
 heights zero n i fs rows = omega arith
 heights (suc m) n i fs [] = omega arith
 heights (suc m) n i fs (r ∷ rs) =
@@ -131,7 +131,7 @@ heights (suc m) n i fs (r ∷ rs) =
     omega (arith, sum_by-cons (λ (c : DataChunk). c.frame.height) first rest, heights m n (i + 1) fs (drop n (r ∷ rs)), length-take n (r ∷ rs), length-drop n (r ∷ rs))
 
 -- chunks together have no more rows than there are
-pub rows-of-chunks : (n : ℕ) (fs : List Field) (rows : List Values) → sum_by (λ c. c.frame.height) (file_chunks 0 n fs rows) ≤ length rows
+pub rows-of-chunks : (n : ℕ) (fs : List Field) (rows : List (List AnyValue)) → sum_by (λ c. c.frame.height) (file_chunks 0 n fs rows) ≤ length rows
 rows-of-chunks n fs rows = heights (length rows) n 0 fs rows
 
 -- there are no more pieces than turns
@@ -141,14 +141,14 @@ few-pieces (suc m) n [] = omega arith
 few-pieces (suc m) n (x ∷ xs) = omega (arith, few-pieces m n (drop n (x ∷ xs)))
 
 -- there are no more chunks than rows
-pub number-of-chunks : (n : ℕ) (fs : List Field) (rows : List Values) → length (file_chunks 0 n fs rows) ≤ length rows
+pub number-of-chunks : (n : ℕ) (fs : List Field) (rows : List (List AnyValue)) → length (file_chunks 0 n fs rows) ≤ length rows
 number-of-chunks n fs rows = omega (arith, length-chunks 0 fs (pieces n rows), few-pieces (length rows) n rows)
 
 -- each chunk of some pieces has the names and the types of the schema
-frames-fit : (i : ℕ) (fs : List Field) (ps : List (List Values)) → All (λ (c : DataChunk). FitsSchema fs c.frame) (chunks_from i fs ps)
+frames-fit : (i : ℕ) (fs : List Field) (ps : List (List (List AnyValue))) → All (λ (c : DataChunk). FitsSchema fs c.frame) (chunks_from i fs ps)
 frames-fit i fs [] = All-nil (λ (c : DataChunk). FitsSchema fs c.frame)
 frames-fit i fs (p ∷ ps) = All-cons (λ (c : DataChunk). FitsSchema fs c.frame) (record { chunk_index = i % 2 ^ 32; frame = flagged_frame fs p }) (chunks_from (i + 1) fs ps) (frame-fits fs p) (frames-fit (i + 1) fs ps)
 
 -- each chunk has the names and the types of the schema
-pub chunks-fit : (n : ℕ) (fs : List Field) (rows : List Values) → All (λ (c : DataChunk). FitsSchema fs c.frame) (file_chunks 0 n fs rows)
+pub chunks-fit : (n : ℕ) (fs : List Field) (rows : List (List AnyValue)) → All (λ (c : DataChunk). FitsSchema fs c.frame) (file_chunks 0 n fs rows)
 chunks-fit n fs rows = frames-fit 0 fs (pieces n rows)

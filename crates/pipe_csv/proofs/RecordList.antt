@@ -25,7 +25,7 @@ either_state : (b : Bool) → IsBetween (if b then st.AfterCr else st.StartRecor
 either_state true = tt
 either_state false = tt
 
--- so it does after each terminator
+-- after each terminator a reader stands between two records
 after_end-between : (t : Terminator) (c : ℕ) → IsBetween (after_end t c)
 after_end-between term.CRLF c = either_state (c == carriage_return)
 after_end-between (term.Any t) c = tt

@@ -1,8 +1,8 @@
 -- The rows of a frame, one more at a time.
-use Rattle.std.proofs.Common.{◌≡◌, ◌∙◌, ◌==◌, ◌&&◌, ◌+◌, ◌<◌, ◌∷◌, ◌++◌, [], ℕ, zero, suc, List, Some, length, take, map, get_or, true, false, refl, sym, ap, arith, append_assoc, append-nil}
+use Rattle.std.proofs.Common.{◌≡◌, ◌∙◌, ◌==◌, ◌+◌, ◌<◌, ◌∷◌, ◌++◌, [], ℕ, zero, suc, List, Some, length, take, map, get_or, true, false, refl, sym, ap, arith, append_assoc, append-nil}
 use Rattle.std.specs.List.{flat_map, range_with_len, slice_get}
 use Rattle.std.proofs.lemmas.Grind.{flat_map-append}
-use Rattle.std.proofs.lemmas.Bool.{eqb-true}
+use Rattle.std.proofs.lemmas.Bool.{and_parts, eqb-true}
 use Rattle.std.proofs.lemmas.List.{map-append, take_more}
 use Rattle.std.proofs.lemmas.List.Folds.{flat_map-map}
 use Rattle.std.proofs.lemmas.List.FromFn.{map-range_with_len_more}
@@ -10,25 +10,17 @@ use Rattle.pipe_columns.specs.declared.any_value.AnyValue.{AnyValue}
 use Rattle.pipe_columns.specs.Frame.{ColumnData, all_have_height, row_at, value_at}
 use Rattle.pipe_csv.specs.Texts.{field_of}
 
--- the first of two tests that hold together
-and-first : (a b : _) → (a && b) ≡ true → a ≡ true
-and-first true b both = refl
-and-first false b both = cc both
-
--- and the second
-and-second : (a b : _) → (a && b) ≡ true → b ≡ true
-and-second true b both = both
-and-second false b both = cc both
-
 -- a column of a frame has a value for each row
 pub length-column : (height : ℕ) (columns : List ColumnData) (i : ℕ) (column : ColumnData)
     → all_have_height height columns ≡ true → i < length columns → column ≡ get_or columns i column
     → length column.values ≡ height
 length-column height [] i column all within is = absurd (omega arith)
 length-column height (c ∷ cs) zero column all within is =
-    let first : (length c.values == height) ≡ true = and-first _ _ all in
-    ap (λ (x : ColumnData). length x.values) is ∙ eqb-true _ _ first
-length-column height (c ∷ cs) (suc i) column all within is = length-column height cs i column (and-second _ _ all) (omega arith) is
+    let parts = and_parts (length c.values == height) (all_have_height height cs) all in
+    ap (λ (x : ColumnData). length x.values) is ∙ eqb-true _ _ parts.0
+length-column height (c ∷ cs) (suc i) column all within is =
+    let parts = and_parts (length c.values == height) (all_have_height height cs) all in
+    length-column height cs i column parts.1 (omega arith) is
 
 -- one more column of a row
 pub row_at-more : (columns : List ColumnData) (i n : ℕ) (column : ColumnData) (value : AnyValue)

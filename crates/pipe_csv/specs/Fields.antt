@@ -16,7 +16,8 @@ number_of digits = fold (λ n d. n * 10 + (d - 48)) 0 digits
 -- one or more digits, as their number
 abbrev pub read_digits : List ℕ → Option ℕ
 read_digits [] = None
-read_digits (d ∷ ds) = if list_all is_ascii_digit (d ∷ ds) then Some (number_of (d ∷ ds)) else None
+read_digits (d ∷ ds) =
+    if list_all is_ascii_digit (d ∷ ds) then Some (number_of (d ∷ ds)) else None
 
 -- digits after one `+` or `-` at most
 abbrev pub read_number : List ℕ → Option ℤ
@@ -28,7 +29,8 @@ read_number (b ∷ bs) =
 
 -- a number in the range of a type
 abbrev pub read_int : DataType → List ℕ → Option AnyValue
-read_int t text = option_and_then (λ n. if fits_number n t then Some (av.Int n) else None) (read_number text)
+read_int t text =
+    option_and_then (λ n. if fits_number n t then Some (av.Int n) else None) (read_number text)
 
 -- the text of a truth value
 abbrev pub read_boolean : List ℕ → Option AnyValue

@@ -1,4 +1,4 @@
--- The numbers that 128 bits hold, as digits write them.
+-- Of the proofs alone: the numbers that 128 bits hold, as digits write them.
 use Rattle.std.specs.Prelude.{ℕ, ◌^◌, ℤ, List, Option, Some, None, option_and_then, if◌then◌else◌, nat_le}
 use Rattle.pipe_columns.specs.declared.data_type.DataType.TheVariants as dt
 use Rattle.pipe_columns.specs.declared.data_type.DataType.{DataType}

@@ -1,4 +1,4 @@
--- The records that a reader of a text has left.
+-- Of the proofs alone: the records that a reader of a text has left.
 use Rattle.std.specs.Prelude.{◌≡◌, ◌+◌, ℕ, List, [], ◌∷◌, length, Bool, true, false, Option, Some, None, ⊤}
 use Rattle.std.specs.Borrow.{Bor}
 use Rattle.csv.specs.Reading.{Ready, default_config, records_from, source_of}
@@ -47,6 +47,7 @@ pub record IsReading (reader : Reader (Bor (List ℕ))) : Type 0 where
   pub bytes : (xs : List ℕ) × (bytes_left reader ≡ Some xs)
 
 -- a read took the first record that was left, or there was none
-abbrev pub Takes : Reader (Bor (List ℕ)) → Reader (Bor (List ℕ)) → Bool → List (List ℕ) → Type 0
+abbrev pub Takes :
+    Reader (Bor (List ℕ)) → Reader (Bor (List ℕ)) → Bool → List (List ℕ) → Type 0
 Takes old new true fields = IsReading new × (records_left old ≡ fields ∷ records_left new)
 Takes old new false fields = records_left old ≡ []

@@ -18,7 +18,7 @@ field_of (av.Text s) = s
 abbrev pub line_of : List (List ℕ) → List ℕ
 line_of fields = row_text default_writer fields
 
--- the record of names, where it is wanted
+-- the record of the names of columns
 abbrev pub header_text : FrameData → List ℕ
 header_text frame = line_of (map (λ c. c.name) frame.columns)
 

@@ -1,4 +1,4 @@
-// What takes chunks.
+//! What takes chunks.
 
 ghost use Rattle.std.specs.Prelude.{◌≡◌, ◌+◌, ◌<◌, ◌^◌, ◌∷◌, ◌++◌, [], List, IfOk, length, sum_by};
 ghost use Rattle.pipe_columns.specs.declared.schema.Field.{Field};
@@ -16,9 +16,10 @@ pub trait ChunkSink: Drop {
     /// The chunks that it has taken.
     ghost taken: { Self → List DataChunk };
 
-    /// What of it stays as it is.
+    /// The type of what stays as it is.
     ghost Kept: { Type 0 };
 
+    /// What stays as it is, whatever it takes.
     ghost kept: { Self → Kept };
 
     /// Takes one more chunk. Where memory is wanting it is dropped, with what it has taken.

@@ -1,10 +1,13 @@
-ghost use Rattle.std.specs.Prelude.{[], ◌≡◌, IfErr, IfOk, Ok, length, map, replicate, vec_len};
+//! Columns that grow by the fields of records, and the chunks that they become.
+
+ghost use Rattle.std.specs.Prelude.{[], ◌≡◌, IfErr, IfOk, List, Ok, length, map, replicate, vec_len};
 ghost use Rattle.std.specs.Ordering.{is_lt};
 ghost use Rattle.csv.specs.Records.{fields_of};
+ghost use Rattle.pipe_columns.specs.declared.any_value.AnyValue.{AnyValue};
 ghost use Rattle.pipe_columns.specs.AnyValue.{value_cmp};
 ghost use Rattle.pipe_columns.specs.Frame.{AllFit};
 ghost use Rattle.pipe_csv.specs.Columns.{DoHold, column_of, columns_of, with_row};
-ghost use Rattle.pipe_csv.specs.CsvChunks.{Values, is_ascending, read_row};
+ghost use Rattle.pipe_csv.specs.CsvChunks.{is_ascending, read_row};
 ghost use Rattle.pipe_csv.specs.CsvError.{StopsBy};
 
 use crate::csv_error::CsvError;
@@ -41,7 +44,7 @@ pub fn push_record(
     row: usize,
 ) -> Result<(), CsvError>
     requires { vec_len columns.old ≡ length fields.now }
-    ensures pushed { IfOk result (λ _. (values : Values)
+    ensures pushed { IfOk result (λ _. (values : List AnyValue)
         × (read_row file row fields.now (fields_of entry.now) ≡ Ok values)
         × (map (λ c. c.items) columns.new.items
         ≡ with_row values (map (λ c. c.items) columns.old.items))) }
@@ -53,25 +56,21 @@ pub fn push_record(
         return Err(CsvError::Width { file, row });
     }
     for (i, field) in fields.iter().enumerate() {
-        match read_field(alloc, field.dtype, entry.get(i).unwrap()) {
-            Ok(Some(value)) => {
-                if columns[i].push(value).is_err() {
-                    return Err(CsvError::Memory);
-                }
-            }
-            Ok(None) => {
-                return Err(CsvError::Field {
-                    file,
-                    row,
-                    column: i + 1,
-                });
-            }
-            Err(_) => return Err(CsvError::Memory),
+        let Some(value) = read_field(alloc, field.dtype, entry.get(i).unwrap())? else {
+            return Err(CsvError::Field {
+                file,
+                row,
+                column: i + 1,
+            });
+        };
+        if columns[i].push(value).is_err() {
+            return Err(CsvError::Memory);
         }
     }
     Ok(())
 }
 
+/// Whether a value is less than another.
 fn is_less(a: &AnyValue, b: &AnyValue) -> bool
     ensures { result ≡ is_lt (value_cmp a.now b.now) }
 {
@@ -90,6 +89,7 @@ fn is_ascending(values: &[AnyValue]) -> bool
     true
 }
 
+/// A column of a field, marked as sorted where its values ascend.
 fn make_column(alloc: Global, field: &Field, values: Vec<AnyValue>) -> Result<Column, AllocError>
     requires { AllFit field.now.dtype values.items }
     ensures { IfOk result (λ c. c ≡ column_of field.now values.items) }

@@ -1,9 +1,13 @@
+//! The chunks of rows that a text holds.
+
 ghost use Rattle.std.specs.Prelude.{[], ◌+◌, ◌++◌, ◌<◌, ◌≡◌, ◌≤◌, ◌^◌, ◌∷◌, IfErr, IfOk, List, Ok, length, map, sum_by, vec_len};
 ghost use Rattle.std.specs.List.{All};
+ghost use Rattle.pipe_columns.specs.declared.any_value.AnyValue.{AnyValue};
 ghost use Rattle.pipe_columns.specs.declared.schema.Field.{Field};
 ghost use Rattle.pipe_columns.specs.Frame.{FitsSchema};
+ghost use Rattle.pipe_io.specs.declared.whole_file.TheConstants.{MOST_FILE_BYTES};
 ghost use Rattle.pipe_csv.specs.Columns.{DoHold};
-ghost use Rattle.pipe_csv.specs.CsvChunks.{Values, file_chunks, read_rows, text_rows};
+ghost use Rattle.pipe_csv.specs.CsvChunks.{file_chunks, read_rows, text_rows};
 ghost use Rattle.pipe_csv.specs.CsvError.{StopsBy};
 ghost use Rattle.pipe_csv.specs.RowChunks.{AllRead, next_chunk};
 ghost use Rattle.pipe_csv.specs.RecordsLeft.{IsReading, records_left};
@@ -19,9 +23,6 @@ use std::alloc::{AllocError, Global};
 
 /// A column gets room for so many values at most before they are there.
 const MOST_ROOM: usize = 65536;
-
-/// Rows are numbered below this.
-const MOST_ROWS: usize = 4294967296;
 
 /// Hands a sink the chunk of the values of columns, which are left empty.
 fn hand_over<S: ChunkSink>(
@@ -45,13 +46,8 @@ fn hand_over<S: ChunkSink>(
     ensures kept { IfOk result (λ s. S.kept s ≡ S.kept sink) }
     ensures memory { IfErr result (λ e. e ≡ csv_error.Memory) }
 {
-    let Ok(chunk) = make_chunk(alloc, fields, columns, height, number) else {
-        return Err(CsvError::Memory);
-    };
-    let Ok(next) = sink.take(chunk) else {
-        return Err(CsvError::Memory);
-    };
-    Ok(next)
+    let chunk = make_chunk(alloc, fields, columns, height, number)?;
+    Ok(sink.take(chunk)?)
 }
 
 /// Hands a sink the chunks of the rows that a reader has left.
@@ -64,6 +60,7 @@ fn read_rows<S: ChunkSink>(
     sink: S,
 ) -> Result<S, CsvError>
     requires reading { IsReading reader.old }
+    requires rows { length (records_left reader.old) < 2 ^ 32 }
     requires size { 0 < chunk_size }
     requires fields { S.fields sink ≡ fields.now }
     requires empty { S.taken sink ≡ [] }
@@ -77,34 +74,25 @@ fn read_rows<S: ChunkSink>(
     let room = chunk_size.min(MOST_ROOM);
     let mut entry = ByteRecord::new(alloc);
     let mut sink = sink;
-    let Ok(mut columns) = empty_columns(alloc, fields.len(), room) else {
-        return Err(CsvError::Memory);
-    };
+    let mut columns = empty_columns(alloc, fields.len(), room)?;
+    let mut row = 1;
     let mut height = 0;
     let mut number = 0;
-    for row in 1..MOST_ROWS {
-        let Ok(found) = next_record(reader, &mut entry) else {
-            return Err(CsvError::Memory);
-        };
-        if !found {
-            if height == 0 {
-                return Ok(sink);
-            }
-            return hand_over(alloc, sink, fields, &mut columns, height, number);
-        }
+    'rows: while next_record(reader, &mut entry)? {
         push_record(alloc, &mut columns, fields, &entry, file, row)?;
+        row += 1;
         height += 1;
         if height == chunk_size {
             sink = hand_over(alloc, sink, fields, &mut columns, height, number)?;
-            let Ok(fresh) = empty_columns(alloc, fields.len(), room) else {
-                return Err(CsvError::Memory);
-            };
-            columns = fresh;
+            columns = empty_columns(alloc, fields.len(), room)?;
             height = 0;
             number += 1;
         }
     }
-    Err(CsvError::Memory)
+    if height == 0 {
+        return Ok(sink);
+    }
+    hand_over(alloc, sink, fields, &mut columns, height, number)
 }
 
 /// Hands a sink the chunks of the text of a file as they are read, each of `chunk_size` rows but
@@ -117,10 +105,11 @@ pub fn read_into<S: ChunkSink>(
     chunk_size: usize,
     sink: S,
 ) -> Result<S, CsvError>
+    requires small { length text.now ≤ MOST_FILE_BYTES }
     requires size { 0 < chunk_size }
     requires fields { S.fields sink ≡ schema.now }
     requires empty { S.taken sink ≡ [] }
-    ensures chunks { IfOk result (λ s. (rows : List Values)
+    ensures chunks { IfOk result (λ s. (rows : List (List AnyValue))
         × (text_rows file schema.now text.now ≡ Ok rows)
         × (S.taken s ≡ file_chunks 0 chunk_size schema.now rows)) }
     ensures stop { IfErr result (λ e. StopsBy e (text_rows file schema.now text.now)) }
@@ -133,9 +122,7 @@ pub fn read_into<S: ChunkSink>(
     let fields = schema.fields();
     let mut reader = open_text(alloc, text);
     let mut entry = ByteRecord::new(alloc);
-    let Ok(found) = next_record(&mut reader, &mut entry) else {
-        return Err(CsvError::Memory);
-    };
+    let found = next_record(&mut reader, &mut entry)?;
     if !found || !is_header(fields, &entry) {
         return Err(CsvError::Header { file });
     }
@@ -176,8 +163,9 @@ pub fn read_chunks(
     schema: &Schema,
     chunk_size: usize,
 ) -> Result<Vec<DataChunk>, CsvError>
-    requires { 0 < chunk_size }
-    ensures chunks { IfOk result (λ v. (rows : List Values)
+    requires small { length text.now ≤ MOST_FILE_BYTES }
+    requires size { 0 < chunk_size }
+    ensures chunks { IfOk result (λ v. (rows : List (List AnyValue))
         × (text_rows file schema.now text.now ≡ Ok rows)
         × (v.items ≡ file_chunks 0 chunk_size schema.now rows)) }
     ensures stop { IfErr result (λ e. StopsBy e (text_rows file schema.now text.now)) }

@@ -1,3 +1,10 @@
+//! Why the text of a file was not read.
+
+ghost use Rattle.std.specs.Prelude.{◌≡◌};
+ghost use Rattle.pipe_csv.specs.declared.csv_error.CsvError.TheVariants.{Memory};
+
+use std::alloc::AllocError;
+
 /// Why the chunks of CSV files were not read. Files, rows and columns are counted from 1, and the
 /// header is no row.
 #[derive(Debug, Drop)]
@@ -27,4 +34,12 @@ pub enum CsvError {
     Missing {
         file: usize,
     },
+}
+
+impl From<AllocError> for CsvError {
+    ghost from_gives = { λ _ e. e ≡ Memory };
+
+    fn from(_error: AllocError) -> CsvError {
+        CsvError::Memory
+    }
 }

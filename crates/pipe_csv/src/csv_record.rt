@@ -1,4 +1,4 @@
-// A CSV record, written field by field by the writer with the default settings.
+//! A CSV record, written field by field by the writer with the default settings.
 
 ghost use Rattle.std.specs.Fmt.{signed_decimal};
 ghost use Rattle.pipe_csv.specs.Texts.{field_of};

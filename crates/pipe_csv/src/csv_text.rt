@@ -1,3 +1,5 @@
+//! The text of a frame.
+
 ghost use Rattle.std.specs.Prelude.{◌≡◌, ◌<◌, IfOk, map};
 ghost use Rattle.pipe_columns.specs.Frame.{row_at};
 ghost use Rattle.pipe_csv.specs.Texts.{csv_text, field_of};

@@ -1,3 +1,5 @@
+//! The values that fields read as.
+
 ghost use Rattle.std.specs.Prelude.{◌≡◌, IfOk};
 ghost use Rattle.pipe_csv.specs.Fields.{read_boolean, read_field, read_int, read_text};
 ghost use Rattle.pipe_csv.specs.Numbers.{narrowed};
@@ -14,6 +16,7 @@ fn narrow(dtype: DataType, number: i128) -> Option<AnyValue>
     if value.fits(dtype) { Some(value) } else { None }
 }
 
+/// The number that a text writes, as a value of a type.
 fn read_integer(dtype: DataType, text: &[u8]) -> Option<AnyValue>
     ensures { result ≡ read_int dtype text.now }
 {
@@ -23,6 +26,7 @@ fn read_integer(dtype: DataType, text: &[u8]) -> Option<AnyValue>
     }
 }
 
+/// The truth value that a text writes.
 fn read_boolean(text: &[u8]) -> Option<AnyValue>
     ensures { result ≡ read_boolean text.now }
 {

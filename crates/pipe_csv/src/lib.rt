@@ -16,4 +16,3 @@ pub use chunk_sink::ChunkSink;
 pub use csv_chunks::{read_chunks, read_into};
 pub use csv_error::CsvError;
 pub use csv_text::frame_text;
-

@@ -1,3 +1,5 @@
+//! The numbers that digits write.
+
 ghost use Rattle.std.specs.Prelude.{◌^◌, ◌≡◌, ◌≤◌, IfSome, Some, length, neg_ℤ, option_and_then, pos};
 ghost use Rattle.pipe_csv.specs.Fields.{read_digits};
 ghost use Rattle.pipe_csv.specs.Numbers.{read_int128, read_magnitude, within_int128};
@@ -51,6 +53,7 @@ fn read_long(digits: &[u8]) -> Option<u128>
     Some(number)
 }
 
+/// The number of any digits, by way of 64 bits where they are few.
 fn read_unsigned(digits: &[u8]) -> Option<u128>
     ensures { result ≡ read_magnitude digits.now }
 {

@@ -4,7 +4,7 @@ use Rattle.std.specs.declared.alloc.Global.{Global}
 use Rattle.pipe_columns.specs.Calls.{Calls}
 use Rattle.pipe_io.specs.Files.{Files}
 
--- named files, what is left of the one that is begun, and the calls of begin and read, numbered together
+-- named files, what is left of the one that is begun, and the calls of begin and read together
 pub record HeldFiles : Type 0 where
   pub files : Files
   pub left : Option (List ℕ)

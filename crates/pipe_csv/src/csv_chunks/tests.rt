@@ -1,3 +1,5 @@
+//! Texts and fields, and what they read as.
+
 use crate::csv_chunks::read_chunks;
 use crate::field::read_field;
 use pipe_columns::{AnyValue, DataChunk, DataType, Field, Schema, Text};
@@ -5,6 +7,7 @@ use std::alloc::{AllocError, Global};
 use std::process::Abort;
 use std::test::Fail;
 
+/// A field of a schema.
 fn field_named(alloc: Global, name: &str, dtype: DataType) -> Result<Field, AllocError> {
     Ok(Field {
         name: Text::new(alloc, name)?,
@@ -23,6 +26,7 @@ fn schema_of_two(alloc: Global) -> Result<Schema, AllocError> {
     Ok(Schema::new(fields))
 }
 
+/// A value in short: a null is `_`, and a text has quotes.
 fn show_value(alloc: Global, value: &AnyValue) -> Result<String, AllocError> {
     match value {
         AnyValue::Null => format!(in alloc; "_"),

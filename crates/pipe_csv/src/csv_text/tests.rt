@@ -1,9 +1,10 @@
-// What the text of a frame is: quotes stand where a field needs them, and nowhere else.
+//! What the text of a frame is: quotes stand where a field needs them, and nowhere else.
 
 use crate::csv_text::frame_text;
 use pipe_columns::{AnyValue, Column, DataFrame, DataType, Text};
 use std::alloc::{AllocError, Global};
 
+/// A text as a value.
 fn word(alloc: Global, text: &str) -> Result<AnyValue, AllocError> {
     Ok(AnyValue::Text(Text::new(alloc, text)?))
 }

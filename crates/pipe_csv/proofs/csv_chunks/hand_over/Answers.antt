@@ -7,6 +7,6 @@ use Rattle.pipe_csv.proofs.csv_chunks.hand_over.Goals as goal
 
 pub take-requires-clause-fits : goal.take-requires-clause-fits
 take-requires-clause-fits g c =
-    ap (λ (d : DataChunk). fields_of d.frame.columns) c.in-Ok.ensures
+    ap (λ (d : DataChunk). fields_of d.frame.columns) c.in_ok-chunk.ensures
     ∙ columns-fit c.args.height c.args.fields.now (items_of c.args.columns.now.items) c.requires.hold
     ∙ sym c.requires.fields

@@ -2,5 +2,6 @@ use Rattle.std.proofs.Common.{[], List, ℕ, map, take}
 use Rattle.pipe_csv.specs.Written.{HasWritten}
 use Rattle.pipe_csv.proofs.csv_text.write_header.Given as goal
 
+-- the names so far are the fields of the record
 abbrev pub invariant-loop-column : goal.invariant-loop-column
 invariant-loop-column l = (text : List ℕ) → HasWritten l.fn.writer text [] → HasWritten l.writer text (map (λ c. c.name) (take l.column-index l.columns))

@@ -3,6 +3,7 @@ use Rattle.pipe_io.specs.Files.{IsRead}
 use Rattle.pipe_io.specs.declared.whole_file.TheConstants.{MOST_FILE_BYTES}
 use Rattle.pipe_io.proofs.whole_file.read_file.Given as goal
 
+-- the bytes so far were read, and more may be left
 abbrev pub invariant-loop-turn : goal.invariant-loop-turn
 invariant-loop-turn g l =
     let input = g.I.InputFiles in
