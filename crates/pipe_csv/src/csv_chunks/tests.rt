@@ -3,6 +3,7 @@
 use crate::csv_chunks::read_chunks;
 use crate::field::read_field;
 use pipe_columns::{AnyValue, DataChunk, DataType, Field, Schema, Text};
+use pipe_io::MOST_FILE_BYTES;
 use std::alloc::{AllocError, Global};
 use std::process::Abort;
 use std::test::Fail;
@@ -57,6 +58,7 @@ fn show_chunks(alloc: Global, chunks: &[DataChunk]) -> Result<String, AllocError
 
 /// Reads a text as file 3, in chunks of two rows.
 fn check_text(rt: &impl Abort, alloc: Global, text: &[u8], want: &str) -> Result<(), Fail> {
+    assert!(rt; text.len() <= MOST_FILE_BYTES);
     let schema = schema_of_two(alloc)?;
     let shown = match read_chunks(alloc, text, 3, &schema, 2) {
         Ok(chunks) => show_chunks(alloc, &chunks)?,

@@ -1,4 +1,4 @@
-use Rattle.std.proofs.Common.{◌≡◌, ◌+◌, ◌<◌, ℕ, length, map, vec_len}
+use Rattle.std.proofs.Common.{◌≡◌, ◌+◌, ◌<◌, length, map, vec_len}
 use Rattle.std.specs.List.{sum_by}
 use Rattle.pipe_csv.specs.CsvChunks.{read_rows}
 use Rattle.pipe_csv.specs.RecordsLeft.{IsReading, records_left}
