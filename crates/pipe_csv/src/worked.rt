@@ -1,14 +1,13 @@
 //! Worked texts, as laws over the definitions: each holds by computation.
 
-ghost use Rattle.std.specs.Prelude.{◌≡◌, ◌∷◌, [], false, true, negsuc, pos, codes, Err, Ok, None, Some, ℕ, length};
+ghost use Rattle.std.specs.Prelude.{◌≡◌, ◌∷◌, [], false, true, negsuc, pos, codes, Err, Ok, None, Some};
 ghost use Rattle.pipe_columns.specs.declared.data_type.DataType.TheVariants as dt;
 ghost use Rattle.pipe_columns.specs.declared.any_value.AnyValue.TheVariants as av;
 ghost use Rattle.pipe_columns.specs.Frame.{frame_of};
-ghost use Rattle.pipe_csv.specs.CsvChunks.{csv_chunks, field, flagged_frame, header, missing, text_rows, width};
-ghost use Rattle.pipe_columns.specs.Pieces.{pieces};
+ghost use Rattle.pipe_csv.specs.CsvChunks.{csv_chunks, field, header, missing, text_rows, width};
 ghost use Rattle.pipe_csv.specs.Fields.{read_field};
 ghost use Rattle.pipe_csv.specs.Texts.{csv_text};
-ghost use Rattle.pipe_csv.specs.Worked.{int, key_value};
+ghost use Rattle.pipe_csv.specs.Worked.{int, key_value, numbered};
 
 /// Rows, and the first place that doesn't fit.
 pub fn rows_of_texts()
@@ -34,26 +33,23 @@ pub fn fields_of_types()
     ensures other_truth { read_field dt.Boolean (codes "True") ≡ None }
 {}
 
-/// A list is cut into pieces, the last perhaps shorter.
-pub fn pieces_of_two()
-    ensures { pieces {A = ℕ} 2 (5 ∷ 6 ∷ 7 ∷ []) ≡ (5 ∷ 6 ∷ []) ∷ (7 ∷ []) ∷ [] }
-{}
-
 /// Two files are read in order, and a third that is missing stops the reading.
 pub fn chunks_of_files()
-    ensures { csv_chunks ((codes "a", codes "k,v\n1,5\n2,6\n3,7\n") ∷ (codes "b", codes "k,v\n4,8\n") ∷ [])
+    ensures { csv_chunks
+        ((codes "a", codes "k,v\n1,5\n2,6\n3,7\n") ∷ (codes "b", codes "k,v\n4,8\n") ∷ [])
         (codes "a" ∷ codes "b" ∷ codes "c" ∷ []) key_value (record { chunk_size = 2 })
         ≡ record {
           chunks =
-              record { chunk_index = 0; frame = flagged_frame key_value ((int 1 ∷ int 5 ∷ []) ∷ (int 2 ∷ int 6 ∷ []) ∷ []) } ∷
-              record { chunk_index = 1; frame = flagged_frame key_value ((int 3 ∷ int 7 ∷ []) ∷ []) } ∷
-              record { chunk_index = 2; frame = flagged_frame key_value ((int 4 ∷ int 8 ∷ []) ∷ []) } ∷ [];
+              numbered 0 ((int 1 ∷ int 5 ∷ []) ∷ (int 2 ∷ int 6 ∷ []) ∷ [])
+              ∷ numbered 1 ((int 3 ∷ int 7 ∷ []) ∷ [])
+              ∷ numbered 2 ((int 4 ∷ int 8 ∷ []) ∷ []) ∷ [];
           stop = Some (missing 3);
         } }
 {}
 
 /// A frame's text.
 pub fn text_of_a_frame()
-    ensures { csv_text (frame_of key_value ((int 1 ∷ int 12 ∷ []) ∷ (av.Null ∷ av.Int (negsuc 5) ∷ []) ∷ []))
+    ensures { csv_text (frame_of key_value
+        ((int 1 ∷ int 12 ∷ []) ∷ (av.Null ∷ av.Int (negsuc 5) ∷ []) ∷ []))
         ≡ codes "k,v\n1,12\n,-6\n" }
 {}
