@@ -1,7 +1,7 @@
 -- The keys that a worker keeps.
 use Rattle.std.specs.Prelude.{ℕ, ◌+◌, Bool, not, List, [], ◌∷◌, map, take, if◌then◌else◌}
 use Rattle.std.specs.List.{filter}
-use Rattle.std.specs.Ordering.{is_eq}
+use Rattle.std.specs.Ordering.{eq_by_cmp}
 use Rattle.std.specs.Set.{is_member}
 use Rattle.pipe_columns.specs.declared.any_value.AnyValue.{AnyValue}
 use Rattle.pipe_columns.specs.Row.{Row}
@@ -20,7 +20,7 @@ first_distinct same n xs = take n (distinct same xs)
 
 -- whether two keys are one
 abbrev pub same_key : List AnyValue → List AnyValue → Bool
-same_key a b = is_eq (tuple_cmp a b)
+same_key a b = eq_by_cmp tuple_cmp a b
 
 -- the keys of some rows, in order
 abbrev pub keys_of : List Row → List (List AnyValue)

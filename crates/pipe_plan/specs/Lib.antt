@@ -4,4 +4,5 @@ pub mod Overflow
 pub mod Payloads
 pub mod Plan
 pub mod Replay
+pub mod Later
 pub mod WorkedRuns

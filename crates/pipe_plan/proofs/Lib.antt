@@ -1,0 +1,6 @@
+pub mod Filtering
+pub mod Cutting
+pub mod Keeping
+pub mod ChunkRows
+pub mod Longer
+pub mod Turning
