@@ -4,3 +4,8 @@ pub mod Keeping
 pub mod ChunkRows
 pub mod Longer
 pub mod Turning
+pub mod Planning
+pub mod Reaching
+pub mod NextEvent
+pub mod AtRow
+pub mod AtEnd

@@ -5,4 +5,5 @@ pub mod Payloads
 pub mod Plan
 pub mod Replay
 pub mod Later
+pub mod Progress
 pub mod WorkedRuns

@@ -1,0 +1,29 @@
+-- How far a worker has come in a turn.
+use Rattle.std.specs.Prelude.{◌≡◌, ◌+◌, ◌-◌, ◌/◌, ℕ, true, List, ◌∷◌, ◌++◌, length, slice_get, Some}
+use Rattle.std.specs.List.{filter}
+use Rattle.pipe_columns.specs.declared.data_chunk.DataChunk.{DataChunk}
+use Rattle.pipe_columns.specs.Row.{Row}
+use Rattle.pipe_model.specs.Rows.{chunk_rows}
+use Rattle.pipe_plan.specs.Later.{until}
+use Rattle.pipe_plan.specs.Overflow.{overflows}
+use Rattle.pipe_plan.specs.Plan.{events_before, full_before}
+use Rattle.pipe_plan.specs.Run.{is_turn_of, of_worker, Run}
+
+-- in its turn at a position, with some of its rows taken, a worker comes to a row
+pub record IsAtRow (r : Run) (w i : ℕ) (taken : List Row) (x : Row) : Type 0 where
+  pub chunk : DataChunk
+  pub at : slice_get r.chunks i ≡ Some chunk
+  pub turn : is_turn_of r w i ≡ true
+  pub front : List Row
+  pub back : List Row
+  pub rows : chunk_rows r.query i chunk.frame ≡ front ++ x ∷ back
+  pub taken_is : taken ≡ of_worker (until r i) w ++ front
+
+-- which of the rows taken a worker has sent to a partition
+abbrev pub sent_of : Run → ℕ → ℕ → List Row → List Row
+sent_of r w p taken = filter (overflows r w p) taken
+
+-- how many events a worker has made in a partition, in the turn at a position, when so many rows are sent
+abbrev pub events_made : Run → ℕ → ℕ → ℕ → ℕ → ℕ
+events_made r w p i sent =
+    length (events_before r w p i) + (sent / r.limits.buffer_size - full_before r w p i)
