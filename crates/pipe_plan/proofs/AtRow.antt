@@ -10,11 +10,11 @@ use Rattle.std.proofs.Math.Seq.{get_or-append_seam}
 use Rattle.pipe_columns.specs.declared.any_value.AnyValue.{AnyValue}
 use Rattle.pipe_columns.specs.Pieces.{pieces}
 use Rattle.pipe_columns.specs.Row.{Row}
-use Rattle.pipe_model.specs.Rows.{chunk_rows}
+use Rattle.pipe_model.specs.Rows.{chunk_rows, keys_of}
 use Rattle.pipe_plan.specs.declared.event.PartitionEvent.{PartitionEvent}
 use Rattle.pipe_plan.specs.declared.event.PartitionEvent.TheVariants as event
 use Rattle.pipe_plan.specs.declared.limits.Limits.{Limits}
-use Rattle.pipe_plan.specs.Kept.{distinct, first_distinct, is_kept, kept_keys, keys_of, same_key}
+use Rattle.pipe_plan.specs.Kept.{distinct, first_distinct, is_kept, kept_keys, same_key}
 use Rattle.pipe_plan.specs.Later.{IsFront, until}
 use Rattle.pipe_plan.specs.Overflow.{overflow, overflows}
 use Rattle.pipe_plan.specs.Payloads.{full_pieces, payloads, rest_of}

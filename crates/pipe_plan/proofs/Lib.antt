@@ -9,3 +9,6 @@ pub mod Reaching
 pub mod NextEvent
 pub mod AtRow
 pub mod AtEnd
+pub mod Adding
+pub mod Replaying
+pub mod AllRows

@@ -12,9 +12,9 @@ use Rattle.pipe_columns.specs.declared.any_value.AnyValue.{AnyValue}
 use Rattle.pipe_columns.specs.declared.data_chunk.DataChunk.{DataChunk}
 use Rattle.pipe_columns.specs.Row.{Row}
 use Rattle.pipe_model.specs.Answer.{tuple_cmp}
-use Rattle.pipe_model.specs.Rows.{rows_from}
+use Rattle.pipe_model.specs.Rows.{rows_from, keys_of}
 use Rattle.pipe_plan.specs.declared.limits.Limits.{Limits}
-use Rattle.pipe_plan.specs.Kept.{distinct, first_distinct, is_kept, kept, kept_keys, keys_of, same_key}
+use Rattle.pipe_plan.specs.Kept.{distinct, first_distinct, is_kept, kept, kept_keys, same_key}
 use Rattle.pipe_plan.specs.Later.{IsFront, later}
 use Rattle.pipe_plan.specs.Overflow.{overflow, overflows, partition_of}
 use Rattle.pipe_plan.specs.Run.{is_generic, is_turn_of, of_worker, Run, StoreSeen}

@@ -1,11 +1,12 @@
 -- The keys that a worker keeps.
-use Rattle.std.specs.Prelude.{ℕ, ◌+◌, Bool, not, List, [], ◌∷◌, map, take, if◌then◌else◌}
+use Rattle.std.specs.Prelude.{ℕ, ◌+◌, Bool, not, List, [], ◌∷◌, take, if◌then◌else◌}
 use Rattle.std.specs.List.{filter}
 use Rattle.std.specs.Ordering.{eq_by_cmp}
 use Rattle.std.specs.Set.{is_member}
 use Rattle.pipe_columns.specs.declared.any_value.AnyValue.{AnyValue}
 use Rattle.pipe_columns.specs.Row.{Row}
 use Rattle.pipe_model.specs.Answer.{tuple_cmp}
+use Rattle.pipe_model.specs.Rows.{keys_of}
 use Rattle.pipe_plan.specs.declared.limits.Limits.{Limits}
 use Rattle.pipe_plan.specs.Run.{is_generic, of_worker, Run}
 
@@ -21,10 +22,6 @@ first_distinct same n xs = take n (distinct same xs)
 -- whether two keys are one
 abbrev pub same_key : List AnyValue → List AnyValue → Bool
 same_key a b = eq_by_cmp tuple_cmp a b
-
--- the keys of some rows, in order
-abbrev pub keys_of : List Row → List (List AnyValue)
-keys_of rows = map (λ x. x.key) rows
 
 -- the keys that are kept of some rows: the first spill_size + 1 distinct ones; in a typed sink all
 abbrev pub kept_keys : Limits → List Row → List (List AnyValue)

@@ -6,4 +6,5 @@ pub mod Plan
 pub mod Replay
 pub mod Later
 pub mod Progress
+pub mod Whole
 pub mod WorkedRuns

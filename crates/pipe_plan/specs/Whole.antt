@@ -1,0 +1,41 @@
+-- What workers and partitions hold together, where the plans are whole.
+use Rattle.std.specs.Prelude.{◌<◌, ℕ, List, [], ◌++◌}
+use Rattle.std.specs.List.{filter, flat_map, range_with_len, slice_index_or}
+use Rattle.pipe_columns.specs.Row.{Row}
+use Rattle.pipe_plan.specs.declared.event.PartitionEvent.{PartitionEvent}
+use Rattle.pipe_plan.specs.Kept.{is_kept}
+use Rattle.pipe_plan.specs.Later.{IsWhole}
+use Rattle.pipe_plan.specs.Overflow.{overflow}
+use Rattle.pipe_plan.specs.Replay.{joined, replay, Replayed}
+use Rattle.pipe_plan.specs.Run.{of_worker, Run}
+
+-- all rows of a partition: those merged, those that wait, and those in frames
+abbrev pub rows_of : Replayed → List Row
+rows_of s = s.merged ++ (joined s.waiting ++ joined s.frames)
+
+-- the rows that all workers send to a partition
+abbrev pub sent_to : Run → ℕ → List Row
+sent_to r p = flat_map (λ w. overflow r w p) (range_with_len 0 r.limits.workers)
+
+-- a worker's rows whose keys it keeps
+abbrev pub kept_rows : Run → ℕ → List Row
+kept_rows r w = filter (is_kept r w) (of_worker r w)
+
+-- the journal of partition p among those of all partitions
+abbrev pub journal_of : List (List PartitionEvent) → ℕ → List PartitionEvent
+journal_of journals p = slice_index_or journals p []
+
+-- the rows that partitions hold after their journals
+abbrev pub replayed_rows : Run → List (List PartitionEvent) → List Row
+replayed_rows r journals =
+    flat_map (λ p. rows_of (replay r p (journal_of journals p)))
+    (range_with_len 0 r.limits.partitions)
+
+-- the rows that workers keep, and those that partitions hold
+abbrev pub rows_held : Run → List (List PartitionEvent) → List Row
+rows_held r journals =
+    flat_map (kept_rows r) (range_with_len 0 r.limits.workers) ++ replayed_rows r journals
+
+-- each partition's journal holds each worker's whole plan, and nothing else
+abbrev pub AreWhole : Run → List (List PartitionEvent) → Type 0
+AreWhole r journals = (p : ℕ) → p < r.limits.partitions → IsWhole r p (journal_of journals p)
