@@ -12,3 +12,4 @@ pub mod AtEnd
 pub mod Adding
 pub mod Replaying
 pub mod AllRows
+pub mod Fronts
