@@ -1,7 +1,7 @@
 -- The rows that workers keep and those that partitions hold are all rows, each once.
 use Rattle.std.proofs.Common.{◌≡◌, ◌≢◌, ℕ, zero, suc, ◌+◌, ◌/◌, ◌%◌, ◌<◌, ◌≤◌, ◌==◌, Bool, true, false, not, ◌&&◌, cond, List, [], ◌∷◌, ◌++◌, length, take, refl, ap, sym, ◌∙◌, subst, arith, length-append, ⊎_elim}
 use Rattle.std.specs.Prelude.{if◌then◌else◌}
-use Rattle.std.specs.List.{count_by, filter, flat_map, range_with_len}
+use Rattle.std.specs.List.{AllByRecursion, count_by, filter, flat_map, range_with_len}
 use Rattle.std.specs.Set.{is_member}
 use Rattle.std.proofs.lemmas.Bool.{cases_Bool, eq-eqb, ne_eqb}
 use Rattle.std.proofs.lemmas.List.{append-nil, take_all}
@@ -27,6 +27,7 @@ use Rattle.pipe_plan.specs.Run.{all_rows, is_generic, is_turn_of, of_worker, Run
 use Rattle.pipe_plan.specs.Whole.{AreWhole, journal_of, kept_rows, replayed_rows, rows_held, rows_of, sent_to}
 use Rattle.pipe_plan.proofs.Adding.{count-over, sum_to, sum_to-both, sum_to-one, sum_to-same, sum_to-swap, sum_to-zero}
 use Rattle.pipe_plan.proofs.AtEnd.{last-none, last-one, last-open}
+use Rattle.pipe_plan.proofs.ChunkRows.{each-any}
 use Rattle.pipe_plan.proofs.Cutting.{full-short, joined-pieces, last_piece, length-full, pieces-full_rest}
 use Rattle.pipe_plan.proofs.Filtering.{count-filter, filter-filter, filter-no, filter-none, filter-same, filter-yes}
 use Rattle.pipe_plan.proofs.Keeping.{is_member-distinct}
@@ -124,16 +125,16 @@ count-both {A = A} test keep (x ∷ xs) =
     (cases_Bool (keep x))
 
 -- parts by a number below a bound are all
-pub count-parts : {A : Type 0} (test : A → Bool) (part : A → ℕ) (n : ℕ) (xs : List A) → ((x : A) → part x < n) → sum_to n (λ k. count_by test (filter (λ x. part x == k) xs)) ≡ count_by test xs
+pub count-parts : {A : Type 0} (test : A → Bool) (part : A → ℕ) (n : ℕ) (xs : List A) → AllByRecursion (λ x. part x < n) xs → sum_to n (λ k. count_by test (filter (λ x. part x == k) xs)) ≡ count_by test xs
 count-parts test part n [] within = sum_to-zero n
 count-parts {A = A} test part n (x ∷ xs) within =
     let after : ℕ → ℕ = λ k. count_by test (filter (λ x. part x == k) (x ∷ xs)) in
     let before : ℕ → ℕ = λ k. count_by test (filter (λ x. part x == k) xs) in
     let own : after (part x) ≡ before (part x) + cond (test x) 1 0 =
       ap (λ (l : List A). count_by test l) (filter-yes (λ y. part y == part x) x xs (eq-eqb (part x) (part x) refl)) ∙ omega (arith, count-cons test x (filter (λ y. part y == part x) xs)) in
-    let one = sum_to-one n after before (part x) (cond (test x) 1 0) (within x) own
+    let one = sum_to-one n after before (part x) (cond (test x) 1 0) within.0 own
       (λ k apart. ap (λ (l : List A). count_by test l) (filter-no (λ y. part y == k) x xs (ne_eqb (part x) k (λ is. apart (sym is))))) in
-    omega (arith, one, count-parts test part n xs within, count-cons test x xs)
+    omega (arith, one, count-parts test part n xs within.1, count-cons test x xs)
 
 -- a worker's rows are kept, or overflow into some partition
 worker-parts : (test : Row → Bool) (r : Run) (w : ℕ) → 0 < r.limits.partitions
@@ -144,7 +145,7 @@ worker-parts test r w some =
       filter-same (overflows r w p) (λ x. not (is_kept r w x) && (partition_of r x == p)) (of_worker r w) (λ x. and-swap (partition_of r x == p) (not (is_kept r w x)))
       ∙ sym (filter-filter (λ x. partition_of r x == p) (λ x. not (is_kept r w x)) (of_worker r w)) in
     let all = sum_to-same r.limits.partitions (λ p. count_by test (overflow r w p)) (λ p. count_by test (filter (λ x. partition_of r x == p) left)) (λ p lt. ap (λ (l : List Row). count_by test l) (part p))
-      ∙ count-parts test (partition_of r) r.limits.partitions left (λ x. mod-lt _ some) in
+      ∙ count-parts test (partition_of r) r.limits.partitions left (each-any (λ x. partition_of r x < r.limits.partitions) left (λ x. mod-lt _ some)) in
     omega (arith, all, count-both test (is_kept r w) (of_worker r w))
   where
     and-swap : (a b : Bool) → (a && b) ≡ (b && a)
@@ -162,7 +163,7 @@ kept-sent r workers partitions = λ test.
     let sent : count_by test (flat_map (sent_to r) (range_with_len 0 r.limits.partitions)) ≡ sum_to r.limits.partitions (λ p. sum_to r.limits.workers (λ w. over w p)) =
       count-over test (sent_to r) r.limits.partitions ∙ sum_to-same r.limits.partitions _ _ (λ p lt. count-over test (λ w. overflow r w p) r.limits.workers) in
     let each = sum_to-same r.limits.workers (λ w. keep w + sum_to r.limits.partitions (over w)) (λ w. count_by test (of_worker r w)) (λ w lt. worker-parts test r w partitions) in
-    let dealt = count-parts test (λ (x : Row). x.place.chunk % r.limits.workers) r.limits.workers (all_rows r) (λ x. mod-lt x.place.chunk workers) in
+    let dealt = count-parts test (λ (x : Row). x.place.chunk % r.limits.workers) r.limits.workers (all_rows r) (each-any (λ (x : Row). x.place.chunk % r.limits.workers < r.limits.workers) (all_rows r) (λ x. mod-lt x.place.chunk workers)) in
     omega (
       arith,
       count-append test (flat_map (kept_rows r) (range_with_len 0 r.limits.workers)) (flat_map (sent_to r) (range_with_len 0 r.limits.partitions)),

@@ -25,6 +25,14 @@ pub each-map : {A B : Type 0} (P : B → Type 0) (f : A → B) (xs : List A) →
 each-map P f [] all = tt
 each-map P f (x ∷ xs) all = (all x, each-map P f xs all)
 
+pub each-any : {A : Type 0} (P : A → Type 0) (xs : List A) → ((x : A) → P x) → AllByRecursion P xs
+each-any P [] all = tt
+each-any P (x ∷ xs) all = (all x, each-any P xs all)
+
+pub each-front : {A : Type 0} (P : A → Type 0) (xs ys : List A) → AllByRecursion P (xs ++ ys) → AllByRecursion P xs
+each-front P [] ys all = tt
+each-front P (x ∷ xs) ys all = (all.0, each-front P xs ys all.1)
+
 pub each-more : {A : Type 0} (P Q : A → Type 0) (xs : List A) → ((x : A) → P x → Q x) → AllByRecursion P xs → AllByRecursion Q xs
 each-more P Q [] more all = tt
 each-more P Q (x ∷ xs) more all = (more x all.0, each-more P Q xs more all.1)

@@ -13,3 +13,5 @@ pub mod Adding
 pub mod Replaying
 pub mod AllRows
 pub mod Fronts
+pub mod Counting
+pub mod Naming

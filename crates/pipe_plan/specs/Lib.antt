@@ -7,4 +7,5 @@ pub mod Replay
 pub mod Later
 pub mod Progress
 pub mod Whole
+pub mod Frames
 pub mod WorkedRuns

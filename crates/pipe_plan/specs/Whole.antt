@@ -1,11 +1,12 @@
 -- What workers and partitions hold together, where the plans are whole.
-use Rattle.std.specs.Prelude.{◌<◌, ℕ, List, [], ◌++◌}
-use Rattle.std.specs.List.{filter, flat_map, range_with_len, slice_index_or}
+use Rattle.std.specs.Prelude.{◌<◌, ℕ, List, [], ◌++◌, length}
+use Rattle.std.specs.List.{filter, flat_map, range_with_len, slice_index_or, sum_by}
 use Rattle.pipe_columns.specs.Row.{Row}
 use Rattle.pipe_plan.specs.declared.event.PartitionEvent.{PartitionEvent}
 use Rattle.pipe_plan.specs.Kept.{is_kept}
-use Rattle.pipe_plan.specs.Later.{IsWhole}
+use Rattle.pipe_plan.specs.Later.{IsWhole, IsWithin}
 use Rattle.pipe_plan.specs.Overflow.{overflow}
+use Rattle.pipe_plan.specs.Plan.{plan}
 use Rattle.pipe_plan.specs.Replay.{joined, replay, Replayed}
 use Rattle.pipe_plan.specs.Run.{of_worker, Run}
 
@@ -39,3 +40,18 @@ rows_held r journals =
 -- each partition's journal holds each worker's whole plan, and nothing else
 abbrev pub AreWhole : Run → List (List PartitionEvent) → Type 0
 AreWhole r journals = (p : ℕ) → p < r.limits.partitions → IsWhole r p (journal_of journals p)
+
+-- each partition's journal holds a front of each worker's plan, and nothing else
+abbrev pub AreWithin : Run → List (List PartitionEvent) → Type 0
+AreWithin r journals = (p : ℕ) → p < r.limits.partitions → IsWithin r p (journal_of journals p)
+
+-- how many events all plans have
+abbrev pub planned_count : Run → ℕ
+planned_count r =
+    sum_by (λ p. sum_by (λ w. length (plan r w p)) (range_with_len 0 r.limits.workers))
+    (range_with_len 0 r.limits.partitions)
+
+-- how many events the journals of all partitions hold
+abbrev pub journal_count : Run → List (List PartitionEvent) → ℕ
+journal_count r journals =
+    sum_by (λ p. length (journal_of journals p)) (range_with_len 0 r.limits.partitions)
