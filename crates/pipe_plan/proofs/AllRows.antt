@@ -24,7 +24,7 @@ use Rattle.pipe_plan.specs.Payloads.{full_pieces, payloads, rest_of}
 use Rattle.pipe_plan.specs.Plan.{events_before, last_events, plan}
 use Rattle.pipe_plan.specs.Replay.{arrivals, events_by, is_arrival, joined, replay}
 use Rattle.pipe_plan.specs.Run.{all_rows, is_generic, is_turn_of, of_worker, Run}
-use Rattle.pipe_plan.specs.Whole.{AreWhole, journal_of, kept_rows, replayed_rows, rows_held, rows_of, sent_to}
+use Rattle.pipe_plan.specs.Whole.{all_kept, AreWhole, journal_of, kept_rows, replayed_rows, rows_held, rows_of, sent_to}
 use Rattle.pipe_plan.proofs.Adding.{count-over, sum_to, sum_to-both, sum_to-one, sum_to-same, sum_to-swap, sum_to-zero}
 use Rattle.pipe_plan.proofs.AtEnd.{last-none, last-one, last-open}
 use Rattle.pipe_plan.proofs.ChunkRows.{each-any}
@@ -115,7 +115,7 @@ partition-whole r p journal some shut whole = λ test.
 -- ---- all of them
 
 -- what passes a test and what doesn't are all
-count-both : {A : Type 0} (test keep : A → Bool) (xs : List A) → count_by test (filter keep xs) + count_by test (filter (λ x. not (keep x)) xs) ≡ count_by test xs
+pub count-both : {A : Type 0} (test keep : A → Bool) (xs : List A) → count_by test (filter keep xs) + count_by test (filter (λ x. not (keep x)) xs) ≡ count_by test xs
 count-both test keep [] = refl
 count-both {A = A} test keep (x ∷ xs) =
     let rest = count-both test keep xs in
@@ -156,7 +156,7 @@ worker-parts test r w some =
 
 -- workers keep, and partitions are sent, all rows
 pub kept-sent : (r : Run) → 0 < r.limits.workers → 0 < r.limits.partitions
-    → CountAlike (flat_map (kept_rows r) (range_with_len 0 r.limits.workers) ++ flat_map (sent_to r) (range_with_len 0 r.limits.partitions)) (all_rows r)
+    → CountAlike (all_kept r ++ flat_map (sent_to r) (range_with_len 0 r.limits.partitions)) (all_rows r)
 kept-sent r workers partitions = λ test.
     let keep : ℕ → ℕ = λ w. count_by test (kept_rows r w) in
     let over : ℕ → ℕ → ℕ = λ w p. count_by test (overflow r w p) in
@@ -166,7 +166,7 @@ kept-sent r workers partitions = λ test.
     let dealt = count-parts test (λ (x : Row). x.place.chunk % r.limits.workers) r.limits.workers (all_rows r) (each-any (λ (x : Row). x.place.chunk % r.limits.workers < r.limits.workers) (all_rows r) (λ x. mod-lt x.place.chunk workers)) in
     omega (
       arith,
-      count-append test (flat_map (kept_rows r) (range_with_len 0 r.limits.workers)) (flat_map (sent_to r) (range_with_len 0 r.limits.partitions)),
+      count-append test (all_kept r) (flat_map (sent_to r) (range_with_len 0 r.limits.partitions)),
       count-over test (kept_rows r) r.limits.workers,
       sent,
       sum_to-swap r.limits.workers r.limits.partitions over,
@@ -179,11 +179,10 @@ kept-sent r workers partitions = λ test.
 pub all-held : (r : Run) (journals : List (List PartitionEvent)) → 0 < r.limits.workers → 0 < r.limits.partitions → 0 < r.limits.buffer_size → r.is_open ≡ false
     → AreWhole r journals → CountAlike (rows_held r journals) (all_rows r)
 all-held r journals workers partitions some shut whole = λ test.
-    let keep = flat_map (kept_rows r) (range_with_len 0 r.limits.workers) in
     let held = count-over test (λ p. rows_of (replay r p (journal_of journals p))) r.limits.partitions
       ∙ sum_to-same r.limits.partitions _ (λ p. count_by test (sent_to r p)) (λ p lt. partition-whole r p (journal_of journals p) some shut (whole p lt) test)
       ∙ sym (count-over test (sent_to r) r.limits.partitions) in
-    omega (arith, held, count-append test keep (replayed_rows r journals), count-append test keep (flat_map (sent_to r) (range_with_len 0 r.limits.partitions)), kept-sent r workers partitions test)
+    omega (arith, held, count-append test (all_kept r) (replayed_rows r journals), count-append test (all_kept r) (flat_map (sent_to r) (range_with_len 0 r.limits.partitions)), kept-sent r workers partitions test)
 
 -- so their answer is that of the chunks
 pub answer-held : (r : Run) (journals : List (List PartitionEvent)) (partitions : ℕ) → 0 < r.limits.workers → 0 < r.limits.partitions → 0 < r.limits.buffer_size → r.is_open ≡ false

@@ -1,6 +1,6 @@
 -- What a worker does at the end of a turn, and of its chunks.
 use Rattle.std.proofs.Common.{◌≡◌, ℕ, zero, suc, ◌+◌, ◌-◌, ◌/◌, ◌%◌, ◌<◌, ◌≤◌, ◌==◌, Bool, true, false, ◌&&◌, ◌||◌, List, [], ◌∷◌, ◌++◌, length, take, Some, slice_get, refl, ap, sym, ◌∙◌, arith, append_assoc, length-append}
-use Rattle.std.specs.Prelude.{if◌then◌else◌, replicate}
+use Rattle.std.specs.Prelude.{if◌then◌else◌, nat_lt, replicate}
 use Rattle.std.specs.List.{slice_index_or}
 use Rattle.std.proofs.lemmas.Bool.{eqb-true, ne_eqb, eq-eqb}
 use Rattle.std.proofs.lemmas.List.{append-nil, length-replicate, take_all}
@@ -10,10 +10,11 @@ use Rattle.pipe_columns.specs.Row.{Row}
 use Rattle.pipe_model.proofs.CountFacts.{count-append, count-cons}
 use Rattle.pipe_plan.specs.declared.event.PartitionEvent.{PartitionEvent}
 use Rattle.pipe_plan.specs.declared.event.PartitionEvent.TheVariants as event
-use Rattle.pipe_plan.specs.Later.{IsFront, until}
+use Rattle.pipe_plan.specs.declared.event.SpillAction.{SpillAction}
+use Rattle.pipe_plan.specs.declared.event.SpillAction.TheVariants as action
 use Rattle.pipe_plan.specs.Overflow.{overflow, overflows}
 use Rattle.pipe_plan.specs.Payloads.{full_pieces, payloads, rest_of}
-use Rattle.pipe_plan.specs.Plan.{action_at, events_before, events_of, full_before, is_pick, last_events, picked_partition, plan, sent_before, turn_events}
+use Rattle.pipe_plan.specs.Plan.{action_at, asks, events_before, events_of, full_before, height_at, is_pick, last_events, picked_partition, plan, sent_before, turn_events}
 use Rattle.pipe_plan.specs.Progress.{events_made}
 use Rattle.pipe_plan.specs.Replay.{arrivals, is_arrival, next_piece}
 use Rattle.pipe_plan.specs.Run.{is_generic, is_turn_of, Run}
@@ -32,13 +33,29 @@ pick-next r w p i e generic lt turn pick here one =
     next-pick r w p i e generic lt turn
     (ap (λ b. if b && (picked_partition r w i == p) then events_of w (action_at r i) else []) pick ∙ ap (λ b. if b then events_of w (action_at r i) else []) (eq-eqb (picked_partition r w i) p here) ∙ one)
 
+-- a pick has one event where it takes the partition
+length-picked : (r : Run) (w p i : ℕ) → length (picked r w p i) ≡ (if is_pick r i && (picked_partition r w i == p) then 1 else 0)
+length-picked r w p i = by (nat_lt 0 (height_at r i)) (action_at r i) (picked_partition r w i == p)
+  where
+    by : (h : Bool) (a : SpillAction) (here : Bool) → length (if (h && asks a) && here then events_of w a else []) ≡ (if (h && asks a) && here then 1 else 0)
+    by false a here = refl
+    by true action.EarlyMerge true = refl
+    by true action.EarlyMerge false = refl
+    by true action.Dump true = refl
+    by true action.Dump false = refl
+    by true action.None here = refl
+
+-- as the turn begins, the events are those before it
+pub made-begun : (r : Run) (w p i : ℕ) → events_made r w p i (sent_before r w p i) ≡ length (events_before r w p i)
+made-begun r w p i = omega arith
+
 -- after the turn the events are those before it, its arrivals and its pick
 pub made-turn : (r : Run) (w p i : ℕ) → is_turn_of r w i ≡ true
-    → length (events_before r w p (i + 1)) ≡ events_made r w p i (sent_before r w p (i + 1)) + length (picked r w p i)
+    → length (events_before r w p (i + 1)) ≡ events_made r w p i (sent_before r w p (i + 1)) + (if is_pick r i && (picked_partition r w i == p) then 1 else 0)
 made-turn r w p i turn =
     let made = replicate (fills r w p i) (event.Arrive w) in
     ap (λ (l : List PartitionEvent). length l) (events-yes r w p i turn)
-    ∙ omega (arith, length-append (events_before r w p i) (turn_events r w p i), length-append made (picked r w p i), length-replicate (fills r w p i) (event.Arrive w))
+    ∙ omega (arith, length-append (events_before r w p i) (turn_events r w p i), length-append made (picked r w p i), length-replicate (fills r w p i) (event.Arrive w), length-picked r w p i)
 
 -- ---- the end of the chunks
 
@@ -94,8 +111,13 @@ rest-arrives r w p some generic shut any =
     one [] lt = absurd (omega arith)
     one (x ∷ l) lt = refl
 
--- ---- as many arrivals as pieces
+-- the plan where a rest is left, and where none is
+pub plan-last : (r : Run) (w p : ℕ) → 0 < r.limits.buffer_size → is_generic r.limits.sink ≡ true → r.is_open ≡ false → 0 < length (rest_of r.limits.buffer_size (overflow r w p))
+    → plan r w p ≡ events_before r w p (length r.chunks) ++ event.Arrive w ∷ []
+plan-last r w p some generic shut any =
+    plan-generic r w p generic ∙ ap (λ (l : List PartitionEvent). events_before r w p (length r.chunks) ++ l) (last-one r w p some shut any)
 
-pub length-payloads_open : (r : Run) (w p : ℕ) → 0 < r.limits.buffer_size → r.is_open ≡ true → length (payloads r w p) ≡ length (overflow r w p) / r.limits.buffer_size
-length-payloads_open r w p some is =
-    ap (λ o. length (if o then full_pieces r.limits.buffer_size (overflow r w p) else pieces r.limits.buffer_size (overflow r w p))) is ∙ length-full r.limits.buffer_size (overflow r w p) some
+pub plan-none : (r : Run) (w p : ℕ) → 0 < r.limits.buffer_size → is_generic r.limits.sink ≡ true → rest_of r.limits.buffer_size (overflow r w p) ≡ []
+    → plan r w p ≡ events_before r w p (length r.chunks)
+plan-none r w p some generic none =
+    plan-generic r w p generic ∙ ap (λ (l : List PartitionEvent). events_before r w p (length r.chunks) ++ l) (last-none r w p some none) ∙ append-nil (events_before r w p (length r.chunks))

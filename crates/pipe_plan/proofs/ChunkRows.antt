@@ -55,6 +55,14 @@ pub range-before : (a n : ℕ) → AllByRecursion (λ i. i < a + n) (range_with_
 range-before a zero = tt
 range-before a (suc n) = (omega arith, each-more (λ i. i < a + 1 + n) (λ i. i < a + suc n) (range_with_len (a + 1) n) (λ i lt. omega arith) (range-before (a + 1) n))
 
+pub range-behind : (a n : ℕ) → AllByRecursion (λ i. a ≤ i) (range_with_len a n)
+range-behind a zero = tt
+range-behind a (suc n) = (omega arith, each-more (λ i. a + 1 ≤ i) (λ i. a ≤ i) (range_with_len (a + 1) n) (λ i le. omega arith) (range-behind (a + 1) n))
+
+-- a number of a range lies within
+pub range-at : (n : ℕ) (front back : List ℕ) (i : ℕ) → range_with_len 0 n ≡ front ++ i ∷ back → i < n
+range-at n front back i is = let lt : i < 0 + n = each-at (λ i. i < 0 + n) (range_with_len 0 n) front back i (range-before 0 n) is in omega arith
+
 -- ---- positions
 
 -- the rows of a chunk stand at its position

@@ -3,7 +3,7 @@ use Rattle.std.proofs.Common.{◌≡◌, ℕ, ◌+◌, ◌<◌, ◌≤◌, ◌==
 use Rattle.std.specs.Prelude.{if◌then◌else◌, count_by}
 use Rattle.std.specs.List.{filter, slice_index_or}
 use Rattle.std.proofs.lemmas.Bool.{cases_Bool, eq-eqb}
-use Rattle.std.proofs.lemmas.List.{append-nil, get_or_append_left}
+use Rattle.std.proofs.lemmas.List.{append-nil, get_or_append_left, length-take-le}
 use Rattle.std.proofs.lemmas.List.Elements.{filter-append, recursion_from_All}
 use Rattle.pipe_columns.specs.declared.data_chunk.DataChunk.{DataChunk}
 use Rattle.pipe_columns.specs.Pieces.{pieces}
@@ -11,20 +11,23 @@ use Rattle.pipe_columns.specs.Row.{Row}
 use Rattle.pipe_model.proofs.CountFacts.{count-append}
 use Rattle.pipe_plan.specs.declared.event.PartitionEvent.{PartitionEvent}
 use Rattle.pipe_plan.specs.declared.event.PartitionEvent.TheVariants as event
-use Rattle.pipe_plan.specs.Later.{AreOfWorkers, closed, IsFront, IsWithin, later}
+use Rattle.pipe_plan.specs.Later.{AreOfWorkers, closed, IsFront, IsWithin, later, until}
 use Rattle.pipe_plan.specs.Overflow.{overflow}
 use Rattle.pipe_plan.specs.Payloads.{full_pieces, payloads, rest_of}
 use Rattle.pipe_plan.specs.Plan.{events_before, last_events, plan}
 use Rattle.pipe_plan.specs.Replay.{arrivals, events_by, is_arrival, next_piece, nothing_yet, replay, worker_of}
-use Rattle.pipe_plan.specs.Run.{is_generic, Run, StoreSeen}
+use Rattle.pipe_plan.specs.Kept.{is_kept}
+use Rattle.pipe_plan.specs.Run.{is_generic, of_worker, Run, StoreSeen}
+use Rattle.pipe_plan.specs.Whole.{kept_rows}
 use Rattle.pipe_plan.proofs.AllRows.{arrivals-plan}
 use Rattle.pipe_plan.proofs.AtEnd.{last-open}
 use Rattle.pipe_plan.proofs.AtRow.{payloads-full}
 use Rattle.pipe_plan.proofs.ChunkRows.{each-at}
 use Rattle.pipe_plan.proofs.Cutting.{full-append}
 use Rattle.pipe_plan.proofs.Filtering.{filter-yes}
-use Rattle.pipe_plan.proofs.Longer.{more_overflow, overflow-later}
+use Rattle.pipe_plan.proofs.Longer.{kept-same, more_overflow, more_rows, overflow-later, worker-later}
 use Rattle.pipe_plan.proofs.NextEvent.{events-front, front-trans, plan-front, plan-generic, plan-typed}
+use Rattle.pipe_plan.proofs.Reaching.{events-until}
 use Rattle.pipe_plan.proofs.Replaying.{arrivals-own, events_by-push, replay_from-same}
 use Rattle.pipe_plan.proofs.Turning.{events-later}
 
@@ -37,13 +40,35 @@ payloads-open : (r : Run) (w p : ℕ) → r.is_open ≡ true → payloads r w p 
 payloads-open r w p opened = ap (λ o. if o then full_pieces r.limits.buffer_size (overflow r w p) else pieces r.limits.buffer_size (overflow r w p)) opened
 
 -- and its plan the events of its turns
-plan-open : (r : Run) (w p : ℕ) → r.is_open ≡ true → is_generic r.limits.sink ≡ true → plan r w p ≡ events_before r w p (length r.chunks)
+pub plan-open : (r : Run) (w p : ℕ) → r.is_open ≡ true → is_generic r.limits.sink ≡ true → plan r w p ≡ events_before r w p (length r.chunks)
 plan-open r w p opened generic =
     plan-generic r w p generic ∙ ap (λ (l : List PartitionEvent). events_before r w p (length r.chunks) ++ l) (last-open r w p opened) ∙ append-nil (events_before r w p (length r.chunks))
 
--- nothing is a front of nothing
+-- so the plans of a run so far are the events of the turns so far
+pub plan-until : (r : Run) (w p n : ℕ) → is_generic r.limits.sink ≡ true → n ≤ length r.chunks → plan (until r n) w p ≡ events_before r w p n
+plan-until r w p n generic le =
+    plan-open (until r n) w p refl generic
+    ∙ ap (λ k. events_before (until r n) w p k) (length-take-le n r.chunks le)
+    ∙ events-until r n w p le
+
+-- nothing is a front of anything
 typed-front : (r s : Run) (w p : ℕ) → is_generic r.limits.sink ≡ false → IsFront (plan r w p) (plan s w p)
 typed-front r s w p typed = record { rest = plan s w p; is = ap (λ (l : List PartitionEvent). l ++ plan s w p) (sym (plan-typed r w p typed)) }
+
+module _ (r : Run) (o : Bool) (chunks : List DataChunk) (stores : List StoreSeen) (w : ℕ) where
+  pub rows-front : IsFront (of_worker r w) (of_worker (later r o chunks stores) w)
+  rows-front = record { rest = more_rows r w chunks; is = worker-later r o chunks stores w }
+
+  pub kept-front : IsFront (kept_rows r w) (kept_rows (later r o chunks stores) w)
+  kept-front =
+      let s = later r o chunks stores in
+      record {
+        rest = filter (is_kept s w) (more_rows r w chunks);
+        is =
+            ap (λ (l : List Row). filter (is_kept s w) l) (worker-later r o chunks stores w)
+            ∙ filter-append (is_kept s w) (of_worker r w) (more_rows r w chunks)
+            ∙ ap (λ (l : List Row). l ++ filter (is_kept s w) (more_rows r w chunks)) (kept-same r o chunks stores w);
+      }
 
 module _ (r : Run) (o : Bool) (chunks : List DataChunk) (stores : List StoreSeen) (w p : ℕ) where
   pub overflow-front : IsFront (overflow r w p) (overflow (later r o chunks stores) w p)

@@ -79,7 +79,7 @@ held-full {A = A} same n xs ys le =
     ap (λ (l : List A). take n l) (distinct-append same xs ys) ∙ take-append-le n (distinct same xs) (filter (λ y. not (is_member same xs y)) (distinct same ys)) le
 
 -- as many are held as there are distinct ones, up to n
-full_or_all : {A : Type 0} (same : A → A → Bool) (n : ℕ) (xs : List A) → n ≤ length (first_distinct same n xs) → n ≤ length (distinct same xs)
+pub full_or_all : {A : Type 0} (same : A → A → Bool) (n : ℕ) (xs : List A) → n ≤ length (first_distinct same n xs) → n ≤ length (distinct same xs)
 full_or_all same n xs le = omega (arith, length-take n (distinct same xs))
 
 -- what is held begins what is held later

@@ -15,3 +15,6 @@ pub mod AllRows
 pub mod Fronts
 pub mod Counting
 pub mod Naming
+pub mod ByPartition
+pub mod Dealing
+pub mod KeptKeys

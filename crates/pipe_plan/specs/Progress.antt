@@ -1,13 +1,19 @@
 -- How far a worker has come in a turn.
-use Rattle.std.specs.Prelude.{◌≡◌, ◌+◌, ◌-◌, ◌/◌, ℕ, true, List, ◌∷◌, ◌++◌, length, slice_get, Some}
+use Rattle.std.specs.Prelude.{◌≡◌, ◌+◌, ◌-◌, ◌/◌, ℕ, true, List, [], ◌∷◌, ◌++◌, length, slice_get, Some}
 use Rattle.std.specs.List.{filter}
+use Rattle.std.specs.Option.{option_map_or}
 use Rattle.pipe_columns.specs.declared.data_chunk.DataChunk.{DataChunk}
 use Rattle.pipe_columns.specs.Row.{Row}
 use Rattle.pipe_model.specs.Rows.{chunk_rows}
 use Rattle.pipe_plan.specs.Later.{until}
 use Rattle.pipe_plan.specs.Overflow.{overflows}
+use Rattle.pipe_plan.specs.Payloads.{rest_of}
 use Rattle.pipe_plan.specs.Plan.{events_before, full_before}
 use Rattle.pipe_plan.specs.Run.{is_turn_of, of_worker, Run}
+
+-- the rows of the chunk at a position
+abbrev pub turn_rows : Run → ℕ → List Row
+turn_rows r i = option_map_or (λ c. chunk_rows r.query i c.frame) (slice_get r.chunks i) []
 
 -- in its turn at a position, with some of its rows taken, a worker comes to a row
 pub record IsAtRow (r : Run) (w i : ℕ) (taken : List Row) (x : Row) : Type 0 where
@@ -22,6 +28,12 @@ pub record IsAtRow (r : Run) (w i : ℕ) (taken : List Row) (x : Row) : Type 0 w
 -- which of the rows taken a worker has sent to a partition
 abbrev pub sent_of : Run → ℕ → ℕ → List Row → List Row
 sent_of r w p taken = filter (overflows r w p) taken
+
+-- the row that a worker comes to fills a piece of a partition
+pub record FillsPiece (r : Run) (w p i : ℕ) (taken : List Row) (x : Row) : Type 0 where
+  pub at : IsAtRow r w i taken x
+  pub sent : overflows r w p x ≡ true
+  pub full : length (rest_of r.limits.buffer_size (sent_of r w p taken)) + 1 ≡ r.limits.buffer_size
 
 -- how many events a worker has made in a partition, in the turn at a position, when so many rows are sent
 abbrev pub events_made : Run → ℕ → ℕ → ℕ → ℕ → ℕ

@@ -1,5 +1,5 @@
 -- A run, and the rows that it hands to each worker.
-use Rattle.std.specs.Prelude.{ℕ, Bool, true, false, ◌==◌, ◌%◌, List, Option, is_some}
+use Rattle.std.specs.Prelude.{◌≡◌, ◌<◌, ℕ, Bool, true, false, ◌==◌, ◌%◌, List, Option, is_some}
 use Rattle.std.specs.List.{filter}
 use Rattle.pipe_columns.specs.declared.data_chunk.DataChunk.{DataChunk}
 use Rattle.pipe_columns.specs.Row.{Row}
@@ -35,6 +35,17 @@ abbrev pub is_generic : SinkKind → Bool
 is_generic sink_kind.Generic = true
 is_generic sink_kind.Primitive = false
 is_generic sink_kind.Text = false
+
+-- limits with at least one worker, one partition, and one row to a buffer
+pub record AreLimits (l : Limits) : Type 0 where
+  pub workers : 0 < l.workers
+  pub partitions : 0 < l.partitions
+  pub buffer : 0 < l.buffer_size
+
+-- a run whose workers keep some keys and send the rows of others
+pub record Spills (r : Run) : Type 0 where
+  pub limits : AreLimits r.limits
+  pub generic : is_generic r.limits.sink ≡ true
 
 -- the rows of a run, in order
 abbrev pub all_rows : Run → List Row

@@ -2,6 +2,7 @@
 use Rattle.std.specs.Prelude.{◌<◌, ℕ, List, [], ◌++◌, length}
 use Rattle.std.specs.List.{filter, flat_map, range_with_len, slice_index_or, sum_by}
 use Rattle.pipe_columns.specs.Row.{Row}
+use Rattle.pipe_model.specs.Partitions.{rows_in}
 use Rattle.pipe_plan.specs.declared.event.PartitionEvent.{PartitionEvent}
 use Rattle.pipe_plan.specs.Kept.{is_kept}
 use Rattle.pipe_plan.specs.Later.{IsWhole, IsWithin}
@@ -32,10 +33,19 @@ replayed_rows r journals =
     flat_map (λ p. rows_of (replay r p (journal_of journals p)))
     (range_with_len 0 r.limits.partitions)
 
+-- the rows that all workers keep
+abbrev pub all_kept : Run → List Row
+all_kept r = flat_map (kept_rows r) (range_with_len 0 r.limits.workers)
+
 -- the rows that workers keep, and those that partitions hold
 abbrev pub rows_held : Run → List (List PartitionEvent) → List Row
-rows_held r journals =
-    flat_map (kept_rows r) (range_with_len 0 r.limits.workers) ++ replayed_rows r journals
+rows_held r journals = all_kept r ++ replayed_rows r journals
+
+-- the rows of partition p: those that workers keep of it, and those that it holds
+abbrev pub partition_rows : Run → List (List PartitionEvent) → ℕ → List Row
+partition_rows r journals p =
+    rows_in r.limits.partitions r.query p (all_kept r)
+    ++ rows_of (replay r p (journal_of journals p))
 
 -- each partition's journal holds each worker's whole plan, and nothing else
 abbrev pub AreWhole : Run → List (List PartitionEvent) → Type 0

@@ -3,6 +3,12 @@
 #![tactic(auto)]
 
 mod event;
+mod laws_events;
+mod laws_keys;
+mod laws_pieces;
+mod laws_rounds;
+mod laws_turns;
+mod laws_whole;
 mod limits;
 mod worked;
 mod worked_edges;

@@ -1,0 +1,47 @@
+//! Laws of turns: where a worker's chunks stand, and which rows it takes in them.
+
+ghost use Rattle.std.specs.Prelude.{◌≡◌, ◌+◌, ◌*◌, ◌/◌, ◌<◌, ◌≤◌, ℕ, List, [], ◌∷◌, ◌++◌, length, true, if◌then◌else◌};
+ghost use Rattle.std.specs.List.{flat_map};
+ghost use Rattle.pipe_columns.specs.Row.{Row};
+ghost use Rattle.pipe_plan.specs.Later.{IsFront, until};
+ghost use Rattle.pipe_plan.specs.Overflow.{overflow};
+ghost use Rattle.pipe_plan.specs.Plan.{is_pick, picks_before, sent_before, turns_before};
+ghost use Rattle.pipe_plan.specs.Progress.{IsAtRow, sent_of, turn_rows};
+ghost use Rattle.pipe_plan.specs.Run.{is_turn_of, of_worker, Run};
+
+/// Turn j of worker w is the chunk at position w + j * workers. Before the first there is none, and
+/// none between two that follow each other.
+pub fn positions_of_turns()
+    ensures turn { (r : Run) (w j : ℕ) → w < r.limits.workers
+        → is_turn_of r w (w + j * r.limits.workers) ≡ true }
+    ensures number { (r : Run) (w j : ℕ) → w < r.limits.workers
+        → (w + j * r.limits.workers) / r.limits.workers ≡ j }
+    ensures next { (r : Run) (w i : ℕ) → 0 < r.limits.workers
+        → is_turn_of r w i ≡ true → is_turn_of r w (i + r.limits.workers) ≡ true }
+    ensures first { (r : Run) (w n : ℕ) → w < r.limits.workers → n ≤ w → turns_before r w n ≡ [] }
+    ensures after { (r : Run) (w i n : ℕ) → 0 < r.limits.workers
+        → is_turn_of r w i ≡ true → i < n → n ≤ i + r.limits.workers
+        → turns_before r w n ≡ turns_before r w i ++ i ∷ [] }
+    ensures picks { (r : Run) (w i : ℕ) → is_turn_of r w i ≡ true
+        → picks_before r w (i + 1) ≡ picks_before r w i + (if is_pick r i then 1 else 0) }
+{}
+
+/// A worker's rows are those of its turns, in order; what it took before a position, and then the
+/// next row, is the front of them.
+pub fn rows_of_turns()
+    ensures turns { (r : Run) (w n : ℕ) → n ≤ length r.chunks
+        → of_worker (until r n) w ≡ flat_map (turn_rows r) (turns_before r w n) }
+    ensures all { (r : Run) (w n : ℕ) → length r.chunks ≤ n → of_worker (until r n) w ≡ of_worker r w }
+    ensures next { (r : Run) (w i : ℕ) (taken : List Row) (x : Row) → IsAtRow r w i taken x
+        → IsFront (taken ++ x ∷ []) (of_worker r w) }
+{}
+
+/// What a worker sends of the rows that it took before a position is counted by the chunks' positions.
+pub fn rows_sent_by_turn()
+    ensures sent { (r : Run) (w p n : ℕ)
+        → overflow (until r n) w p ≡ sent_of r w p (of_worker (until r n) w) }
+    ensures count { (r : Run) (w p n : ℕ) → n ≤ length r.chunks
+        → sent_before r w p n ≡ length (overflow (until r n) w p) }
+    ensures all { (r : Run) (w p : ℕ)
+        → sent_before r w p (length r.chunks) ≡ length (overflow r w p) }
+{}
