@@ -1,16 +1,14 @@
 -- The rows that workers keep and those that partitions hold are all rows, each once.
-use Rattle.std.proofs.Common.{◌≡◌, ◌≢◌, ℕ, zero, suc, ◌+◌, ◌/◌, ◌%◌, ◌<◌, ◌≤◌, ◌==◌, Bool, true, false, not, ◌&&◌, cond, List, [], ◌∷◌, ◌++◌, length, take, refl, ap, sym, ◌∙◌, subst, arith, length-append, ⊎_elim}
+use Rattle.std.proofs.Common.{◌≡◌, ℕ, ◌+◌, ◌/◌, ◌%◌, ◌<◌, ◌==◌, Bool, true, false, not, ◌&&◌, cond, List, [], ◌∷◌, ◌++◌, length, refl, ap, sym, ◌∙◌, subst, arith, length-append, ⊎_elim}
 use Rattle.std.specs.Prelude.{if◌then◌else◌}
 use Rattle.std.specs.List.{AllByRecursion, count_by, filter, flat_map, range_with_len}
 use Rattle.std.specs.Set.{is_member}
 use Rattle.std.proofs.lemmas.Bool.{cases_Bool, eq-eqb, ne_eqb}
-use Rattle.std.proofs.lemmas.List.{append-nil, take_all}
+use Rattle.std.proofs.lemmas.List.{take_all}
 use Rattle.std.proofs.Math.Nat.{mod-lt}
-use Rattle.pipe_columns.specs.declared.any_value.AnyValue.{AnyValue}
-use Rattle.pipe_columns.specs.Frame.{FrameData}
 use Rattle.pipe_columns.specs.Pieces.{pieces}
 use Rattle.pipe_columns.specs.Row.{Row}
-use Rattle.pipe_model.specs.Answer.{answer, answer_of, groups}
+use Rattle.pipe_model.specs.Answer.{answer, answer_of}
 use Rattle.pipe_model.specs.Counts.{CountAlike}
 use Rattle.pipe_model.specs.Rows.{keys_of, rows}
 use Rattle.pipe_model.proofs.CountFacts.{count-append, count-cons}
@@ -23,13 +21,13 @@ use Rattle.pipe_plan.specs.Overflow.{overflow, overflows, partition_of}
 use Rattle.pipe_plan.specs.Payloads.{full_pieces, payloads, rest_of}
 use Rattle.pipe_plan.specs.Plan.{events_before, last_events, plan}
 use Rattle.pipe_plan.specs.Replay.{arrivals, events_by, is_arrival, joined, replay}
-use Rattle.pipe_plan.specs.Run.{all_rows, is_generic, is_turn_of, of_worker, Run}
+use Rattle.pipe_plan.specs.Run.{all_rows, is_generic, of_worker, Run}
 use Rattle.pipe_plan.specs.Whole.{all_kept, AreWhole, journal_of, kept_rows, replayed_rows, rows_held, rows_of, sent_to}
 use Rattle.pipe_plan.proofs.Adding.{count-over, sum_to, sum_to-both, sum_to-one, sum_to-same, sum_to-swap, sum_to-zero}
 use Rattle.pipe_plan.proofs.AtEnd.{last-none, last-one, last-open}
 use Rattle.pipe_plan.proofs.ChunkRows.{each-any}
 use Rattle.pipe_plan.proofs.Cutting.{full-short, joined-pieces, last_piece, length-full, pieces-full_rest}
-use Rattle.pipe_plan.proofs.Filtering.{count-filter, filter-filter, filter-no, filter-none, filter-same, filter-yes}
+use Rattle.pipe_plan.proofs.Filtering.{filter-filter, filter-no, filter-none, filter-same, filter-yes}
 use Rattle.pipe_plan.proofs.Keeping.{is_member-distinct}
 use Rattle.pipe_plan.proofs.Longer.{keys-has, keys_exact}
 use Rattle.pipe_plan.proofs.NextEvent.{plan-generic, plan-typed}

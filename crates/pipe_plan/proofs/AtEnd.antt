@@ -1,26 +1,25 @@
 -- What a worker does at the end of a turn, and of its chunks.
-use Rattle.std.proofs.Common.{◌≡◌, ℕ, zero, suc, ◌+◌, ◌-◌, ◌/◌, ◌%◌, ◌<◌, ◌≤◌, ◌==◌, Bool, true, false, ◌&&◌, ◌||◌, List, [], ◌∷◌, ◌++◌, length, take, Some, slice_get, refl, ap, sym, ◌∙◌, arith, append_assoc, length-append}
+use Rattle.std.proofs.Common.{◌≡◌, ℕ, ◌+◌, ◌/◌, ◌%◌, ◌<◌, ◌==◌, Bool, true, false, ◌&&◌, ◌||◌, List, [], ◌∷◌, ◌++◌, length, take, Some, slice_get, refl, ap, sym, ◌∙◌, arith, length-append}
 use Rattle.std.specs.Prelude.{if◌then◌else◌, nat_lt, replicate}
 use Rattle.std.specs.List.{slice_index_or}
-use Rattle.std.proofs.lemmas.Bool.{eqb-true, ne_eqb, eq-eqb}
-use Rattle.std.proofs.lemmas.List.{append-nil, length-replicate, take_all}
+use Rattle.std.proofs.lemmas.Bool.{ne_eqb, eq-eqb}
+use Rattle.std.proofs.lemmas.List.{append-nil, length-replicate}
 use Rattle.std.proofs.Math.Seq.{get_or-append_seam, take-append_seam}
 use Rattle.pipe_columns.specs.Pieces.{pieces}
 use Rattle.pipe_columns.specs.Row.{Row}
-use Rattle.pipe_model.proofs.CountFacts.{count-append, count-cons}
 use Rattle.pipe_plan.specs.declared.event.PartitionEvent.{PartitionEvent}
 use Rattle.pipe_plan.specs.declared.event.PartitionEvent.TheVariants as event
 use Rattle.pipe_plan.specs.declared.event.SpillAction.{SpillAction}
 use Rattle.pipe_plan.specs.declared.event.SpillAction.TheVariants as action
-use Rattle.pipe_plan.specs.Overflow.{overflow, overflows}
+use Rattle.pipe_plan.specs.Overflow.{overflow}
 use Rattle.pipe_plan.specs.Payloads.{full_pieces, payloads, rest_of}
-use Rattle.pipe_plan.specs.Plan.{action_at, asks, events_before, events_of, full_before, height_at, is_pick, last_events, picked_partition, plan, sent_before, turn_events}
+use Rattle.pipe_plan.specs.Plan.{action_at, asks, events_before, events_of, height_at, is_pick, last_events, picked_partition, plan, sent_before, turn_events}
 use Rattle.pipe_plan.specs.Progress.{events_made}
-use Rattle.pipe_plan.specs.Replay.{arrivals, is_arrival, next_piece}
+use Rattle.pipe_plan.specs.Replay.{arrivals, next_piece}
 use Rattle.pipe_plan.specs.Run.{is_generic, is_turn_of, Run}
 use Rattle.pipe_plan.proofs.Cutting.{last_piece, length-full, length-rest, pieces-full_rest}
-use Rattle.pipe_plan.proofs.NextEvent.{fills, next-last, next-pick, picked, plan-generic, plan-typed}
-use Rattle.pipe_plan.proofs.Planning.{arrivals-before, events-yes, full-le}
+use Rattle.pipe_plan.proofs.NextEvent.{fills, next-last, next-pick, picked, plan-generic}
+use Rattle.pipe_plan.proofs.Planning.{arrivals-before, events-yes}
 use Rattle.pipe_plan.proofs.Turning.{sent-all}
 
 -- ---- the end of a turn

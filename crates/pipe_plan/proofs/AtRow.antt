@@ -1,7 +1,7 @@
 -- What a worker does at a row: it keeps the key, waits for a full piece, or sends one.
-use Rattle.std.proofs.Common.{◌≡◌, ◌≢◌, ℕ, ◌+◌, ◌-◌, ◌/◌, ◌%◌, ◌<◌, ◌≤◌, Bool, true, false, ◌||◌, List, [], ◌∷◌, ◌++◌, length, take, drop, Some, slice_get, refl, ap, sym, ◌∙◌, arith, append_assoc, length-append}
+use Rattle.std.proofs.Common.{◌≡◌, ◌≢◌, ℕ, ◌+◌, ◌-◌, ◌/◌, ◌<◌, ◌≤◌, Bool, true, false, ◌||◌, List, [], ◌∷◌, ◌++◌, length, take, drop, Some, slice_get, ap, sym, ◌∙◌, arith, append_assoc, length-append}
 use Rattle.std.specs.Prelude.{if◌then◌else◌, nat_lt}
-use Rattle.std.specs.List.{filter, slice_index_or}
+use Rattle.std.specs.List.{slice_index_or}
 use Rattle.std.specs.Set.{is_member}
 use Rattle.std.proofs.lemmas.List.{append-nil, map-append}
 use Rattle.std.proofs.lemmas.List.Elements.{filter-append}
@@ -10,10 +10,8 @@ use Rattle.std.proofs.Math.Seq.{get_or-append_seam}
 use Rattle.pipe_columns.specs.declared.any_value.AnyValue.{AnyValue}
 use Rattle.pipe_columns.specs.Pieces.{pieces}
 use Rattle.pipe_columns.specs.Row.{Row}
-use Rattle.pipe_model.specs.Rows.{chunk_rows, keys_of}
-use Rattle.pipe_plan.specs.declared.event.PartitionEvent.{PartitionEvent}
+use Rattle.pipe_model.specs.Rows.{keys_of}
 use Rattle.pipe_plan.specs.declared.event.PartitionEvent.TheVariants as event
-use Rattle.pipe_plan.specs.declared.limits.Limits.{Limits}
 use Rattle.pipe_plan.specs.Kept.{distinct, first_distinct, is_kept, kept_keys, same_key}
 use Rattle.pipe_plan.specs.Later.{IsFront, until}
 use Rattle.pipe_plan.specs.Overflow.{overflow, overflows}

@@ -1,5 +1,5 @@
 -- Partition by partition: the rows kept of it and those that it holds give its groups.
-use Rattle.std.proofs.Common.{◌≡◌, ℕ, ◌+◌, ◌%◌, ◌<◌, ◌==◌, Bool, true, false, not, ◌&&◌, cond, List, [], ◌∷◌, ◌++◌, map, refl, ap, sym, ◌∙◌, subst, arith, ⊎_elim}
+use Rattle.std.proofs.Common.{◌≡◌, ℕ, ◌+◌, ◌%◌, ◌<◌, ◌==◌, Bool, true, false, not, ◌&&◌, cond, List, [], ◌∷◌, map, refl, ap, sym, ◌∙◌, arith, ⊎_elim}
 use Rattle.std.specs.List.{AllByRecursion, count_by, filter, flat_map, IsDistinct, range_with_len}
 use Rattle.std.specs.Ordering.{eq_by_cmp}
 use Rattle.std.proofs.lemmas.Bool.{cases_Bool, false≢true}
@@ -11,7 +11,7 @@ use Rattle.pipe_columns.specs.Row.{Row}
 use Rattle.pipe_model.specs.Answer.{answer_row, groups, tuple_cmp}
 use Rattle.pipe_model.specs.Counts.{CountAlike}
 use Rattle.pipe_model.specs.Partitions.{groups_in, rows_in}
-use Rattle.pipe_model.specs.Rows.{HaveDistinctPlaces, keys_of, rows}
+use Rattle.pipe_model.specs.Rows.{HaveDistinctPlaces, keys_of}
 use Rattle.pipe_model.proofs.CountFacts.{count-append, count-cons}
 use Rattle.pipe_model.proofs.GroupFacts.{groups-alike}
 use Rattle.pipe_model.proofs.PartitionFacts.{answers-joined, groups-alone, groups-joined}
@@ -22,8 +22,8 @@ use Rattle.pipe_plan.specs.Kept.{is_kept}
 use Rattle.pipe_plan.specs.Overflow.{overflow, overflows, partition_of}
 use Rattle.pipe_plan.specs.Replay.{replay}
 use Rattle.pipe_plan.specs.Run.{all_rows, of_worker, Run}
-use Rattle.pipe_plan.specs.Whole.{all_kept, AreWhole, journal_of, kept_rows, partition_rows, rows_of, sent_to}
-use Rattle.pipe_plan.proofs.Adding.{count-over, sum_to, sum_to-both, sum_to-same}
+use Rattle.pipe_plan.specs.Whole.{all_kept, AreWhole, journal_of, kept_rows, partition_rows, rows_of}
+use Rattle.pipe_plan.proofs.Adding.{count-over, sum_to-both, sum_to-same}
 use Rattle.pipe_plan.proofs.AllRows.{count-both, count-parts, partition-whole}
 use Rattle.pipe_plan.proofs.ChunkRows.{each-any, range-at}
 use Rattle.pipe_plan.proofs.Filtering.{count-filter, count-none, count-same, filter-yes}

@@ -1,8 +1,8 @@
 -- What filters keep, and how they count.
-use Rattle.std.proofs.Common.{◌≡◌, ℕ, zero, suc, ◌+◌, Bool, true, false, not, ◌&&◌, ◌||◌, cond, List, [], ◌∷◌, ◌++◌, length, refl, ap, sym, ◌∙◌, subst, arith}
+use Rattle.std.proofs.Common.{◌≡◌, ◌+◌, Bool, true, false, ◌&&◌, cond, List, [], ◌∷◌, ◌++◌, length, refl, ap, sym, ◌∙◌, arith}
 use Rattle.std.specs.List.{count_by, filter}
 use Rattle.std.proofs.lemmas.List.Sums.{length-filter}
-use Rattle.pipe_model.proofs.CountFacts.{count-append, count-cons}
+use Rattle.pipe_model.proofs.CountFacts.{count-cons}
 
 -- the step of a filter, by the test of the first element
 pub filter-yes : {A : Type 0} (test : A → Bool) (x : A) (xs : List A) → test x ≡ true → filter test (x ∷ xs) ≡ x ∷ filter test xs

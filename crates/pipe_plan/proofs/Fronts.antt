@@ -1,6 +1,6 @@
 -- What an open run has is the front of what it has over more chunks, and closed.
-use Rattle.std.proofs.Common.{◌≡◌, ℕ, ◌+◌, ◌<◌, ◌≤◌, ◌==◌, Bool, true, false, ◌||◌, List, [], ◌∷◌, ◌++◌, length, refl, ap, sym, ◌∙◌, subst, arith, append_assoc, length-append, ⊎_elim}
-use Rattle.std.specs.Prelude.{if◌then◌else◌, count_by}
+use Rattle.std.proofs.Common.{◌≡◌, ℕ, ◌+◌, ◌<◌, ◌≤◌, ◌==◌, Bool, true, false, List, [], ◌∷◌, ◌++◌, length, refl, ap, sym, ◌∙◌, subst, arith, length-append, ⊎_elim}
+use Rattle.std.specs.Prelude.{if◌then◌else◌}
 use Rattle.std.specs.List.{filter, slice_index_or}
 use Rattle.std.proofs.lemmas.Bool.{cases_Bool, eq-eqb}
 use Rattle.std.proofs.lemmas.List.{append-nil, get_or_append_left, length-take-le}
@@ -14,8 +14,8 @@ use Rattle.pipe_plan.specs.declared.event.PartitionEvent.TheVariants as event
 use Rattle.pipe_plan.specs.Later.{AreOfWorkers, closed, IsFront, IsWithin, later, until}
 use Rattle.pipe_plan.specs.Overflow.{overflow}
 use Rattle.pipe_plan.specs.Payloads.{full_pieces, payloads, rest_of}
-use Rattle.pipe_plan.specs.Plan.{events_before, last_events, plan}
-use Rattle.pipe_plan.specs.Replay.{arrivals, events_by, is_arrival, next_piece, nothing_yet, replay, worker_of}
+use Rattle.pipe_plan.specs.Plan.{events_before, plan}
+use Rattle.pipe_plan.specs.Replay.{arrivals, events_by, is_arrival, nothing_yet, replay, worker_of}
 use Rattle.pipe_plan.specs.Kept.{is_kept}
 use Rattle.pipe_plan.specs.Run.{is_generic, of_worker, Run, StoreSeen}
 use Rattle.pipe_plan.specs.Whole.{kept_rows}
@@ -26,9 +26,9 @@ use Rattle.pipe_plan.proofs.ChunkRows.{each-at}
 use Rattle.pipe_plan.proofs.Cutting.{full-append}
 use Rattle.pipe_plan.proofs.Filtering.{filter-yes}
 use Rattle.pipe_plan.proofs.Longer.{kept-same, more_overflow, more_rows, overflow-later, worker-later}
-use Rattle.pipe_plan.proofs.NextEvent.{events-front, front-trans, plan-front, plan-generic, plan-typed}
+use Rattle.pipe_plan.proofs.NextEvent.{front-trans, plan-front, plan-generic, plan-typed}
 use Rattle.pipe_plan.proofs.Reaching.{events-until}
-use Rattle.pipe_plan.proofs.Replaying.{arrivals-own, events_by-push, replay_from-same}
+use Rattle.pipe_plan.proofs.Replaying.{replay_from-same}
 use Rattle.pipe_plan.proofs.Turning.{events-later}
 
 -- a front of an equal list

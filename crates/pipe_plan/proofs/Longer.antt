@@ -1,5 +1,5 @@
 -- A run over more chunks keeps what the shorter one had: its workers' rows, and what overflows of them.
-use Rattle.std.proofs.Common.{◌≡◌, ℕ, ◌+◌, Bool, true, false, not, ◌&&◌, ◌||◌, List, [], ◌∷◌, ◌++◌, length, map, refl, ap, sym, ◌∙◌, arith}
+use Rattle.std.proofs.Common.{◌≡◌, ℕ, ◌+◌, Bool, true, false, not, ◌&&◌, ◌||◌, List, ◌∷◌, ◌++◌, length, refl, ap, sym, ◌∙◌}
 use Rattle.std.specs.Prelude.{if◌then◌else◌, ◌==◌}
 use Rattle.std.specs.Cmp.{Equal-is, tied_itself}
 use Rattle.std.specs.List.{filter}
@@ -14,13 +14,13 @@ use Rattle.pipe_columns.specs.Row.{Row}
 use Rattle.pipe_model.specs.Answer.{tuple_cmp}
 use Rattle.pipe_model.specs.Rows.{rows_from, keys_of}
 use Rattle.pipe_plan.specs.declared.limits.Limits.{Limits}
-use Rattle.pipe_plan.specs.Kept.{distinct, first_distinct, is_kept, kept, kept_keys, same_key}
-use Rattle.pipe_plan.specs.Later.{IsFront, later}
+use Rattle.pipe_plan.specs.Kept.{distinct, first_distinct, is_kept, kept_keys, same_key}
+use Rattle.pipe_plan.specs.Later.{later}
 use Rattle.pipe_plan.specs.Overflow.{overflow, overflows, partition_of}
 use Rattle.pipe_plan.specs.Run.{is_generic, is_turn_of, of_worker, Run, StoreSeen}
 use Rattle.pipe_plan.proofs.ChunkRows.{rows-append}
 use Rattle.pipe_plan.proofs.Filtering.{filter-within}
-use Rattle.pipe_plan.proofs.Keeping.{distinct-has, held-decided, IsExact, is_member-append, is_member-distinct}
+use Rattle.pipe_plan.proofs.Keeping.{held-decided, IsExact, is_member-append, is_member-distinct}
 
 -- keys are one exactly where they are equal
 pub keys_exact : IsExact same_key

@@ -1,19 +1,17 @@
 -- The frames of a replay by the names of their pieces: each name comes once.
-use Rattle.std.proofs.Common.{◌≡◌, ◌≢◌, ℕ, ◌+◌, ◌<◌, ◌≤◌, ◌==◌, Bool, true, false, ◌&&◌, List, [], ◌∷◌, ◌++◌, length, map, refl, ap, sym, ◌∙◌, subst, arith, append_assoc, ⊎_elim}
-use Rattle.std.specs.Prelude.{if◌then◌else◌, nat_lt, All}
+use Rattle.std.proofs.Common.{◌≡◌, ◌≢◌, ℕ, ◌<◌, ◌≤◌, ◌==◌, Bool, true, false, ◌&&◌, List, [], ◌∷◌, ◌++◌, length, map, refl, ap, sym, ◌∙◌, subst, arith, append_assoc, ⊎_elim}
+use Rattle.std.specs.Prelude.{if◌then◌else◌, nat_lt}
 use Rattle.std.specs.List.{AllByRecursion, flat_map, IsDistinct}
 use Rattle.std.proofs.lemmas.Bool.{cases_eq, ne_eqb}
 use Rattle.std.proofs.lemmas.List.{append-nil, map-append}
 use Rattle.std.proofs.lemmas.List.Elements.{All-from_recursion, All-head, All-tail}
 use Rattle.std.proofs.lemmas.List.Folds.{flat_map-map}
-use Rattle.std.proofs.lemmas.Grind.{flat_map-append}
 use Rattle.pipe_columns.specs.Row.{Row}
 use Rattle.pipe_plan.specs.declared.event.PartitionEvent.{PartitionEvent}
 use Rattle.pipe_plan.specs.declared.event.PartitionEvent.TheVariants as event
 use Rattle.pipe_plan.specs.Frames.{AreOfPieces, IsPiece, piece_rows, PieceName, same_piece}
 use Rattle.pipe_plan.specs.Later.{AreOfWorkers, IsWithin}
-use Rattle.pipe_plan.specs.Payloads.{payloads}
-use Rattle.pipe_plan.specs.Replay.{after_dump, after_event, arrivals, events_by, is_arrival, joined, nothing_yet, replay, replay_from, Replayed, worker_of}
+use Rattle.pipe_plan.specs.Replay.{after_event, arrivals, events_by, joined, nothing_yet, replay, replay_from, Replayed, worker_of}
 use Rattle.pipe_plan.specs.Run.{Run}
 use Rattle.pipe_plan.proofs.ChunkRows.{each-append, each-front, each-more}
 use Rattle.pipe_plan.proofs.Fronts.{arrivals-within}

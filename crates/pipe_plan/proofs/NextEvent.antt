@@ -1,20 +1,18 @@
 -- The next event of a plan, and which piece arrives with it.
-use Rattle.std.proofs.Common.{◌≡◌, ◌≢◌, ℕ, zero, suc, ◌+◌, ◌-◌, ◌/◌, ◌%◌, ◌<◌, ◌≤◌, ◌==◌, Bool, true, false, ◌&&◌, ◌||◌, List, [], ◌∷◌, ◌++◌, length, take, Some, slice_get, refl, ap, sym, ◌∙◌, arith, append_assoc, length-append}
+use Rattle.std.proofs.Common.{◌≡◌, ℕ, zero, suc, ◌+◌, ◌-◌, ◌<◌, ◌≤◌, ◌==◌, true, false, ◌&&◌, List, [], ◌∷◌, ◌++◌, length, take, Some, slice_get, refl, ap, ◌∙◌, arith, append_assoc}
 use Rattle.std.specs.Prelude.{if◌then◌else◌, replicate}
-use Rattle.std.specs.List.{filter, flat_map, range_with_len, slice_index_or}
-use Rattle.std.proofs.lemmas.List.{append-nil, length-replicate, take-append-le, take-replicate}
+use Rattle.std.specs.List.{filter, flat_map, range_with_len}
+use Rattle.std.proofs.lemmas.List.{length-replicate, take-append-le, take-replicate}
 use Rattle.std.proofs.lemmas.Grind.{flat_map-append}
-use Rattle.std.proofs.Math.Seq.{get_or-append_seam, take-append-add}
-use Rattle.pipe_columns.specs.Row.{Row}
+use Rattle.std.proofs.Math.Seq.{take-append-add}
 use Rattle.pipe_model.proofs.CountFacts.{count-append}
 use Rattle.pipe_plan.specs.declared.event.PartitionEvent.{PartitionEvent}
 use Rattle.pipe_plan.specs.declared.event.PartitionEvent.TheVariants as event
 use Rattle.pipe_plan.specs.Later.{IsFront}
 use Rattle.pipe_plan.specs.Plan.{action_at, events_before, events_of, full_before, is_pick, last_events, picked_partition, plan, turn_events}
-use Rattle.pipe_plan.specs.Progress.{events_made}
 use Rattle.pipe_plan.specs.Replay.{arrivals, is_arrival}
 use Rattle.pipe_plan.specs.Run.{is_generic, is_turn_of, Run}
-use Rattle.pipe_plan.proofs.Planning.{arrivals-before, arrivals-replicate, events-yes, full-le}
+use Rattle.pipe_plan.proofs.Planning.{arrivals-before, arrivals-replicate, events-yes}
 use Rattle.pipe_plan.proofs.Turning.{turns-append}
 
 -- ---- lists

@@ -1,24 +1,20 @@
 -- A plan step by step: its turns, how many pieces arrive, and its next event.
-use Rattle.std.proofs.Common.{◌≡◌, ◌≢◌, ℕ, zero, suc, ◌+◌, ◌-◌, ◌/◌, ◌%◌, ◌<◌, ◌≤◌, ◌==◌, Bool, true, false, ◌&&◌, ◌||◌, cond, List, [], ◌∷◌, ◌++◌, length, take, Some, slice_get, refl, ap, sym, ◌∙◌, subst, arith, append_assoc, length-append, ⊎_elim}
+use Rattle.std.proofs.Common.{◌≡◌, ◌≢◌, ℕ, zero, suc, ◌+◌, ◌-◌, ◌/◌, ◌<◌, ◌≤◌, ◌==◌, Bool, true, false, ◌&&◌, cond, List, [], ◌∷◌, ◌++◌, refl, ap, sym, ◌∙◌, subst, arith, ⊎_elim}
 use Rattle.std.specs.Prelude.{if◌then◌else◌, nat_lt, count_by, replicate}
-use Rattle.std.specs.List.{AllByRecursion, filter, flat_map, range_with_len}
-use Rattle.std.proofs.lemmas.Bool.{cases_Bool, false≢true, ltb-true, ltb-false, eqb-false, eqb-true, lt-ltb, le-ltb}
+use Rattle.std.specs.List.{AllByRecursion, filter, flat_map}
+use Rattle.std.proofs.lemmas.Bool.{cases_Bool, false≢true, ltb-true, lt-ltb, le-ltb}
 use Rattle.std.proofs.lemmas.Bool.Decides.{nat_tests}
-use Rattle.std.proofs.lemmas.List.{append-nil, length-replicate}
-use Rattle.std.proofs.lemmas.List.Elements.{filter-append}
+use Rattle.std.proofs.lemmas.List.{append-nil}
 use Rattle.std.proofs.lemmas.Grind.{flat_map-append}
-use Rattle.std.proofs.Math.Seq.{take-append-add}
 use Rattle.pipe_columns.specs.Row.{Row}
 use Rattle.pipe_model.proofs.CountFacts.{count-append, count-cons}
-use Rattle.pipe_plan.specs.declared.event.PartitionEvent.{PartitionEvent}
 use Rattle.pipe_plan.specs.declared.event.PartitionEvent.TheVariants as event
 use Rattle.pipe_plan.specs.declared.event.SpillAction.{SpillAction}
 use Rattle.pipe_plan.specs.declared.event.SpillAction.TheVariants as action
-use Rattle.pipe_plan.specs.Later.{IsFront}
 use Rattle.pipe_plan.specs.Overflow.{overflow, overflows}
-use Rattle.pipe_plan.specs.Plan.{action_at, asks, events_before, events_of, full_before, is_pick, last_events, picked_partition, picks_before, plan, sent_before, turn_events, turns_before}
+use Rattle.pipe_plan.specs.Plan.{action_at, events_before, events_of, full_before, is_pick, picked_partition, picks_before, sent_before, turn_events, turns_before}
 use Rattle.pipe_plan.specs.Replay.{arrivals, is_arrival}
-use Rattle.pipe_plan.specs.Run.{all_rows, is_generic, is_turn_of, of_worker, Run}
+use Rattle.pipe_plan.specs.Run.{all_rows, is_turn_of, of_worker, Run}
 use Rattle.pipe_plan.proofs.ChunkRows.{each-at, each-filter}
 use Rattle.pipe_plan.proofs.Cutting.{div-mono}
 use Rattle.pipe_plan.proofs.Filtering.{count-none, count-within, filter-no, filter-yes}

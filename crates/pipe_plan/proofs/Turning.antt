@@ -1,22 +1,21 @@
 -- A run over more chunks keeps the events of the shorter one's turns.
-use Rattle.std.proofs.Common.{◌≡◌, ℕ, ◌+◌, ◌-◌, ◌/◌, ◌%◌, ◌<◌, ◌≤◌, ◌==◌, Bool, true, false, ◌&&◌, ◌||◌, List, [], ◌∷◌, ◌++◌, length, map, take, drop, refl, ap, sym, ◌∙◌, arith, append_assoc}
+use Rattle.std.proofs.Common.{◌≡◌, ℕ, ◌+◌, ◌-◌, ◌/◌, ◌%◌, ◌<◌, ◌≤◌, ◌==◌, Bool, ◌&&◌, List, [], ◌∷◌, ◌++◌, length, map, refl, ap, ◌∙◌, arith}
 use Rattle.std.specs.Prelude.{if◌then◌else◌, nat_lt, count_by, replicate}
 use Rattle.std.specs.List.{AllByRecursion, filter, flat_map, range_with_len, slice_index_or}
 use Rattle.std.proofs.lemmas.Bool.{le-ltb, lt-ltb}
-use Rattle.std.proofs.lemmas.List.{append-nil, get_or_append_left, length-map, map-append, take-append-drop}
+use Rattle.std.proofs.lemmas.List.{get_or_append_left, length-map, map-append}
 use Rattle.std.proofs.lemmas.List.Elements.{filter-append}
-use Rattle.std.proofs.lemmas.Grind.{flat_map-append}
 use Rattle.pipe_columns.specs.declared.data_chunk.DataChunk.{DataChunk}
 use Rattle.pipe_columns.specs.Row.{Row}
 use Rattle.pipe_model.specs.Rows.{rows_from}
 use Rattle.pipe_model.proofs.CountFacts.{count-append}
 use Rattle.pipe_plan.specs.declared.event.PartitionEvent.{PartitionEvent}
 use Rattle.pipe_plan.specs.declared.event.PartitionEvent.TheVariants as event
-use Rattle.pipe_plan.specs.Later.{later, until}
+use Rattle.pipe_plan.specs.Later.{later}
 use Rattle.pipe_plan.specs.Overflow.{overflow}
-use Rattle.pipe_plan.specs.Plan.{action_at, asks, events_before, events_of, full_before, height_at, is_pick, picked_partition, picks_before, sent_before, turn_events, turns_before}
-use Rattle.pipe_plan.specs.Run.{is_turn_of, of_worker, Run, StoreSeen}
-use Rattle.pipe_plan.proofs.ChunkRows.{each-at, each-filter, each-more, range-append, range-before, rows-before, rows-behind}
+use Rattle.pipe_plan.specs.Plan.{action_at, asks, events_before, events_of, height_at, is_pick, picks_before, sent_before, turn_events, turns_before}
+use Rattle.pipe_plan.specs.Run.{is_turn_of, Run, StoreSeen}
+use Rattle.pipe_plan.proofs.ChunkRows.{each-at, each-filter, range-append, range-before, rows-before, rows-behind}
 use Rattle.pipe_plan.proofs.Filtering.{count-all, count-none, count-within}
 use Rattle.pipe_plan.proofs.Longer.{more_overflow, overflow-later}
 
