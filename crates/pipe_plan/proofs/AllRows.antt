@@ -1,7 +1,7 @@
 -- The rows that workers keep and those that partitions hold are all rows, each once.
 use Rattle.std.proofs.Common.{◌≡◌, ℕ, ◌+◌, ◌/◌, ◌%◌, ◌<◌, ◌==◌, Bool, true, false, not, ◌&&◌, cond, List, [], ◌∷◌, ◌++◌, length, refl, ap, sym, ◌∙◌, subst, arith, length-append, ⊎_elim}
 use Rattle.std.specs.Prelude.{if◌then◌else◌}
-use Rattle.std.specs.List.{AllByRecursion, count_by, filter, flat_map, range_with_len}
+use Rattle.std.specs.List.{AllByRecursion, count_by, filter, flat_map, range_with_len, sum_by}
 use Rattle.std.specs.Set.{is_member}
 use Rattle.std.proofs.lemmas.Bool.{cases_Bool, eq-eqb, ne_eqb}
 use Rattle.std.proofs.lemmas.List.{take_all}
@@ -14,20 +14,20 @@ use Rattle.pipe_model.specs.Rows.{keys_of, rows}
 use Rattle.pipe_model.proofs.CountFacts.{count-append, count-cons}
 use Rattle.pipe_model.proofs.GroupFacts.{answer-alike}
 use Rattle.pipe_model.proofs.RowPlaces.{rows-distinct}
+use Rattle.pipe_plan.specs.Journals.{AreWhole, IsWhole, journal_of}
+use Rattle.pipe_plan.specs.Whole.{all_kept, kept_rows, replayed_rows, rows_held, rows_of, sent_to}
 use Rattle.pipe_plan.specs.declared.event.PartitionEvent.{PartitionEvent}
 use Rattle.pipe_plan.specs.Kept.{distinct, first_distinct, is_kept, same_key}
-use Rattle.pipe_plan.specs.Later.{IsWhole}
-use Rattle.pipe_plan.specs.Overflow.{overflow, overflows, partition_of}
+use Rattle.pipe_plan.specs.Overflow.{overflow, overflow_count, overflows, partition_of}
 use Rattle.pipe_plan.specs.Payloads.{full_pieces, payloads, rest_of}
 use Rattle.pipe_plan.specs.Plan.{events_before, last_events, plan}
-use Rattle.pipe_plan.specs.Replay.{arrivals, events_by, is_arrival, joined, replay}
+use Rattle.pipe_plan.specs.Replay.{arrivals, events_by, is_arrival, joined_lists, replay}
 use Rattle.pipe_plan.specs.Run.{all_rows, is_generic, of_worker, Run}
-use Rattle.pipe_plan.specs.Whole.{all_kept, AreWhole, journal_of, kept_rows, replayed_rows, rows_held, rows_of, sent_to}
-use Rattle.pipe_plan.proofs.Adding.{count-over, sum_to, sum_to-both, sum_to-one, sum_to-same, sum_to-swap, sum_to-zero}
+use Rattle.pipe_plan.proofs.Adding.{count-over, sum_to, sum_to-both, sum_to-one, sum_to-range, sum_to-same, sum_to-swap, sum_to-zero}
 use Rattle.pipe_plan.proofs.AtEnd.{last-none, last-one, last-open}
 use Rattle.pipe_plan.proofs.ChunkRows.{each-any}
 use Rattle.pipe_plan.proofs.Cutting.{full-short, joined-pieces, last_piece, length-full, pieces-full_rest}
-use Rattle.pipe_plan.proofs.Filtering.{filter-filter, filter-no, filter-none, filter-same, filter-yes}
+use Rattle.pipe_plan.proofs.Filtering.{count-all, filter-filter, filter-no, filter-none, filter-same, filter-yes}
 use Rattle.pipe_plan.proofs.Keeping.{is_member-distinct}
 use Rattle.pipe_plan.proofs.Longer.{keys-has, keys_exact}
 use Rattle.pipe_plan.proofs.NextEvent.{plan-generic, plan-typed}
@@ -94,9 +94,9 @@ arrivals-plan r w p some = ⊎_elim
 
 -- ---- one partition
 
-pub joined-payloads : (r : Run) (w p : ℕ) → 0 < r.limits.buffer_size → r.is_open ≡ false → joined (payloads r w p) ≡ overflow r w p
+pub joined-payloads : (r : Run) (w p : ℕ) → 0 < r.limits.buffer_size → r.is_open ≡ false → joined_lists (payloads r w p) ≡ overflow r w p
 joined-payloads r w p some shut =
-    ap (λ o. joined (if o then full_pieces r.limits.buffer_size (overflow r w p) else pieces r.limits.buffer_size (overflow r w p))) shut
+    ap (λ o. joined_lists (if o then full_pieces r.limits.buffer_size (overflow r w p) else pieces r.limits.buffer_size (overflow r w p))) shut
     ∙ joined-pieces r.limits.buffer_size (overflow r w p) some
 
 -- where a journal holds the plans whole, the partition holds what was sent to it
@@ -106,7 +106,7 @@ partition-whole r p journal some shut whole = λ test.
     ∙ sum_to-same r.limits.workers (taken test r p journal) (λ w. count_by test (overflow r w p))
       (λ w lt.
         let all : arrivals (events_by w journal) ≡ length (payloads r w p) = ap arrivals (whole.plans w lt) ∙ arrivals-plan r w p some in
-        ap (λ (ps : List (List Row)). count_by test (joined ps)) (take_all (arrivals (events_by w journal)) (payloads r w p) (omega (arith, all)))
+        ap (λ (ps : List (List Row)). count_by test (joined_lists ps)) (take_all (arrivals (events_by w journal)) (payloads r w p) (omega (arith, all)))
         ∙ ap (λ (l : List Row). count_by test l) (joined-payloads r w p some shut))
     ∙ sym (count-over test (λ w. overflow r w p) r.limits.workers)
 
@@ -187,3 +187,17 @@ pub answer-held : (r : Run) (journals : List (List PartitionEvent)) (partitions 
     → AreWhole r journals → answer r.chunks r.query partitions ≡ answer_of (rows_held r journals) r.query partitions
 answer-held r journals n workers partitions some shut whole =
     answer-alike (rows r.chunks r.query) (rows_held r journals) r.query n (λ test. sym (all-held r journals workers partitions some shut whole test)) (λ _. rows-distinct r.chunks r.query)
+
+-- partitions then hold as many rows as overflow
+pub overflow-held : (r : Run) (journals : List (List PartitionEvent)) → 0 < r.limits.buffer_size → r.is_open ≡ false → AreWhole r journals → length (replayed_rows r journals) ≡ overflow_count r
+overflow-held r journals some shut whole =
+    let n = r.limits.workers in
+    let m = r.limits.partitions in
+    let every : (xs : List Row) → count_by (λ x. true) xs ≡ length xs = λ xs. count-all (λ x. true) xs (λ front back x is. refl) in
+    let held : count_by (λ x. true) (replayed_rows r journals) ≡ sum_to m (λ p. sum_to n (λ w. length (overflow r w p))) =
+      count-over (λ x. true) (λ p. rows_of (replay r p (journal_of journals p))) m
+      ∙ sum_to-same m _ _ (λ p lt. partition-whole r p (journal_of journals p) some shut (whole p lt) (λ x. true) ∙ count-over (λ x. true) (λ w. overflow r w p) n ∙ sum_to-same n _ _ (λ w lt. every (overflow r w p))) in
+    sym (every (replayed_rows r journals))
+    ∙ held
+    ∙ sum_to-swap m n (λ p w. length (overflow r w p))
+    ∙ sym (sum_to-range n (λ w. sum_by (λ p. length (overflow r w p)) (range_with_len 0 m)) ∙ sum_to-same n _ _ (λ w lt. sum_to-range m (λ p. length (overflow r w p))))

@@ -11,9 +11,9 @@ use Rattle.pipe_columns.specs.declared.any_value.AnyValue.{AnyValue}
 use Rattle.pipe_columns.specs.Pieces.{pieces}
 use Rattle.pipe_columns.specs.Row.{Row}
 use Rattle.pipe_model.specs.Rows.{keys_of}
+use Rattle.pipe_plan.specs.Rounds.{IsFront, run_until}
 use Rattle.pipe_plan.specs.declared.event.PartitionEvent.TheVariants as event
 use Rattle.pipe_plan.specs.Kept.{distinct, first_distinct, is_kept, kept_keys, same_key}
-use Rattle.pipe_plan.specs.Later.{IsFront, until}
 use Rattle.pipe_plan.specs.Overflow.{overflow, overflows}
 use Rattle.pipe_plan.specs.Payloads.{full_pieces, payloads, rest_of}
 use Rattle.pipe_plan.specs.Plan.{events_before, full_before, plan, sent_before}
@@ -62,17 +62,17 @@ module _ (r : Run) (w i : ℕ) (taken : List Row) (x : Row) (at : IsAtRow r w i 
   in-chunks : i < length r.chunks
   in-chunks = slice_get_within r.chunks i at.chunk at.at
 
-  rows-reached : of_worker (until r (i + 1)) w ≡ taken ++ x ∷ at.back
+  rows-reached : of_worker (run_until r (i + 1)) w ≡ taken ++ x ∷ at.back
   rows-reached =
       worker-yes r w i at.chunk at.at at.turn
-      ∙ ap (λ (l : List Row). of_worker (until r i) w ++ l) at.rows
-      ∙ sym (append_assoc (of_worker (until r i) w) at.front (x ∷ at.back))
+      ∙ ap (λ (l : List Row). of_worker (run_until r i) w ++ l) at.rows
+      ∙ sym (append_assoc (of_worker (run_until r i) w) at.front (x ∷ at.back))
       ∙ ap (λ (l : List Row). l ++ x ∷ at.back) (sym at.taken_is)
 
   -- all rows of the worker: those taken, the row, and others
   pub rows-split : IsFront (taken ++ x ∷ []) (of_worker r w)
   rows-split =
-      let later = more_rows (until r (i + 1)) w (drop (i + 1) r.chunks) in
+      let later = more_rows (run_until r (i + 1)) w (drop (i + 1) r.chunks) in
       record {
         rest = at.back ++ later;
         is =
@@ -99,9 +99,9 @@ module _ (r : Run) (w i : ℕ) (taken : List Row) (x : Row) (at : IsAtRow r w i 
     -- no fewer rows are sent than before the turn
     sent-low : sent_before r w p i ≤ length (sent_of r w p taken)
     sent-low =
-        let parts = ap (λ (l : List Row). length (sent_of r w p l)) at.taken_is ∙ ap (λ (l : List Row). length l) (filter-append (overflows r w p) (of_worker (until r i) w) at.front) in
+        let parts = ap (λ (l : List Row). length (sent_of r w p l)) at.taken_is ∙ ap (λ (l : List Row). length l) (filter-append (overflows r w p) (of_worker (run_until r i) w) at.front) in
         let before = sent-until r i w p (omega (arith, in-chunks)) ∙ ap (λ (l : List Row). length l) (overflow-until r i w p) in
-        omega (arith, parts, before, length-append (sent_of r w p (of_worker (until r i) w)) (sent_of r w p at.front))
+        omega (arith, parts, before, length-append (sent_of r w p (of_worker (run_until r i) w)) (sent_of r w p at.front))
 
     -- and with the row no more than at its end
     sent-high : overflows r w p x ≡ true → length (sent_of r w p taken) + 1 ≤ sent_before r w p (i + 1)

@@ -17,12 +17,13 @@ use Rattle.pipe_model.proofs.GroupFacts.{groups-alike}
 use Rattle.pipe_model.proofs.PartitionFacts.{answers-joined, groups-alone, groups-joined}
 use Rattle.pipe_model.proofs.RowFacts.{answer_row-alike}
 use Rattle.pipe_model.proofs.RowPlaces.{rows-distinct}
+use Rattle.pipe_plan.specs.Journals.{AreWhole, journal_of}
+use Rattle.pipe_plan.specs.Whole.{all_kept, kept_rows, partition_rows, rows_of}
 use Rattle.pipe_plan.specs.declared.event.PartitionEvent.{PartitionEvent}
 use Rattle.pipe_plan.specs.Kept.{is_kept}
 use Rattle.pipe_plan.specs.Overflow.{overflow, overflows, partition_of}
 use Rattle.pipe_plan.specs.Replay.{replay}
 use Rattle.pipe_plan.specs.Run.{all_rows, of_worker, Run}
-use Rattle.pipe_plan.specs.Whole.{all_kept, AreWhole, journal_of, kept_rows, partition_rows, rows_of}
 use Rattle.pipe_plan.proofs.Adding.{count-over, sum_to-both, sum_to-same}
 use Rattle.pipe_plan.proofs.AllRows.{count-both, count-parts, partition-whole}
 use Rattle.pipe_plan.proofs.ChunkRows.{each-any, range-at}

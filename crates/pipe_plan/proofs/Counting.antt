@@ -3,12 +3,12 @@ use Rattle.std.proofs.Common.{◌≡◌, ℕ, ◌<◌, ◌≤◌, true, List, []
 use Rattle.std.specs.List.{count_by, range_with_len, sum_by}
 use Rattle.std.proofs.lemmas.List.{append-nil}
 use Rattle.std.proofs.lemmas.List.Elements.{recursion_from_All}
+use Rattle.pipe_plan.specs.Journals.{AreOfWorkers, AreWhole, AreWithin, IsWhole, IsWithin, journal_count, journal_of, planned_count}
+use Rattle.pipe_plan.specs.Rounds.{IsFront}
 use Rattle.pipe_plan.specs.declared.event.PartitionEvent.{PartitionEvent}
-use Rattle.pipe_plan.specs.Later.{AreOfWorkers, IsFront, IsWhole, IsWithin}
 use Rattle.pipe_plan.specs.Plan.{plan}
 use Rattle.pipe_plan.specs.Replay.{events_by, worker_of}
 use Rattle.pipe_plan.specs.Run.{Run}
-use Rattle.pipe_plan.specs.Whole.{AreWhole, AreWithin, journal_count, journal_of, planned_count}
 use Rattle.pipe_plan.proofs.Adding.{sum_to, sum_to-le, sum_to-range, sum_to-same, sum_to-tight}
 use Rattle.pipe_plan.proofs.AllRows.{count-parts}
 use Rattle.pipe_plan.proofs.Filtering.{count-all}

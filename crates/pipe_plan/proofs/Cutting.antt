@@ -8,7 +8,7 @@ use Rattle.std.proofs.lemmas.Nat.{div-add-mod', div-mul-add, le-div}
 use Rattle.std.proofs.lemmas.Grind.{flat_map-append}
 use Rattle.pipe_columns.specs.Pieces.{pieces, pieces_within}
 use Rattle.pipe_plan.specs.Payloads.{full_pieces, rest_of}
-use Rattle.pipe_plan.specs.Replay.{joined}
+use Rattle.pipe_plan.specs.Replay.{joined_lists}
 
 -- ---- the pieces of a list
 
@@ -117,22 +117,22 @@ pieces-full_rest {A = A} n xs some = by_pieces (λ xs. pieces n xs ≡ full_piec
     ∙ sym (ap (λ (l : List A). full_pieces n (front ++ xs) ++ last_piece l) (rest-front n front xs some is) ∙ ap (λ ps. ps ++ last_piece (rest_of n xs)) (full-front n front xs some is))) xs
 
 -- full pieces and the rest are the list
-pub joined-full_rest : {A : Type 0} (n : ℕ) (xs : List A) → 0 < n → joined (full_pieces n xs) ++ rest_of n xs ≡ xs
-joined-full_rest {A = A} n xs some = by_pieces (λ xs. joined (full_pieces n xs) ++ rest_of n xs ≡ xs) n some
-    (λ xs lt. ap (λ (ps : List (List A)). joined ps ++ rest_of n xs) (full-short n xs lt) ∙ rest-short n xs lt)
-    (λ front xs is e. ap (λ (ps : List (List A)). joined ps ++ rest_of n (front ++ xs)) (full-front n front xs some is)
-    ∙ ap (λ (l : List A). (front ++ joined (full_pieces n xs)) ++ l) (rest-front n front xs some is)
-    ∙ append_assoc front (joined (full_pieces n xs)) (rest_of n xs) ∙ ap (λ l. front ++ l) e) xs
+pub joined-full_rest : {A : Type 0} (n : ℕ) (xs : List A) → 0 < n → joined_lists (full_pieces n xs) ++ rest_of n xs ≡ xs
+joined-full_rest {A = A} n xs some = by_pieces (λ xs. joined_lists (full_pieces n xs) ++ rest_of n xs ≡ xs) n some
+    (λ xs lt. ap (λ (ps : List (List A)). joined_lists ps ++ rest_of n xs) (full-short n xs lt) ∙ rest-short n xs lt)
+    (λ front xs is e. ap (λ (ps : List (List A)). joined_lists ps ++ rest_of n (front ++ xs)) (full-front n front xs some is)
+    ∙ ap (λ (l : List A). (front ++ joined_lists (full_pieces n xs)) ++ l) (rest-front n front xs some is)
+    ∙ append_assoc front (joined_lists (full_pieces n xs)) (rest_of n xs) ∙ ap (λ l. front ++ l) e) xs
 
 -- the pieces are the list
-pub joined-pieces : {A : Type 0} (n : ℕ) (xs : List A) → 0 < n → joined (pieces n xs) ≡ xs
+pub joined-pieces : {A : Type 0} (n : ℕ) (xs : List A) → 0 < n → joined_lists (pieces n xs) ≡ xs
 joined-pieces {A = A} n xs some =
-    ap (λ (ps : List (List A)). joined ps) (pieces-full_rest n xs some)
+    ap (λ (ps : List (List A)). joined_lists ps) (pieces-full_rest n xs some)
     ∙ flat_map-append (λ (p : List A). p) (full_pieces n xs) (last_piece (rest_of n xs))
-    ∙ ap (λ (l : List A). joined (full_pieces n xs) ++ l) (joined-last (rest_of n xs))
+    ∙ ap (λ (l : List A). joined_lists (full_pieces n xs) ++ l) (joined-last (rest_of n xs))
     ∙ joined-full_rest n xs some
   where
-    joined-last : (l : List A) → joined (last_piece l) ≡ l
+    joined-last : (l : List A) → joined_lists (last_piece l) ≡ l
     joined-last [] = refl
     joined-last (x ∷ l) = append-nil (x ∷ l)
 

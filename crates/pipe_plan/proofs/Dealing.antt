@@ -9,7 +9,7 @@ use Rattle.std.proofs.Math.Nat.{mod-eq_of_lt, mul-le-mul_right}
 use Rattle.std.proofs.lemmas.Grind.{flat_map-append}
 use Rattle.pipe_columns.specs.Row.{Row}
 use Rattle.pipe_model.specs.Rows.{chunk_rows}
-use Rattle.pipe_plan.specs.Later.{until}
+use Rattle.pipe_plan.specs.Rounds.{run_until}
 use Rattle.pipe_plan.specs.Plan.{turns_before}
 use Rattle.pipe_plan.specs.Progress.{turn_rows}
 use Rattle.pipe_plan.specs.Run.{is_turn_of, of_worker, Run}
@@ -81,13 +81,13 @@ element-at (x ∷ xs) zero lt = (x, refl)
 element-at (x ∷ xs) (suc n) lt = element-at xs n (omega arith)
 
 -- a worker's rows are those of its turns
-pub rows-by-turn : (r : Run) (w n : ℕ) → n ≤ length r.chunks → of_worker (until r n) w ≡ flat_map (turn_rows r) (turns_before r w n)
+pub rows-by-turn : (r : Run) (w n : ℕ) → n ≤ length r.chunks → of_worker (run_until r n) w ≡ flat_map (turn_rows r) (turns_before r w n)
 rows-by-turn r w zero le = refl
 rows-by-turn r w (suc n) le =
     let before = rows-by-turn r w n (omega arith) in
     let e = element-at r.chunks n (omega arith) in
     let here : turn_rows r n ≡ chunk_rows r.query n e.0.frame = ap (λ c. option_map_or (λ c. chunk_rows r.query n c.frame) c []) e.1 in
-    let step : of_worker (until r (n + 1)) w ≡ flat_map (turn_rows r) (turns_before r w (n + 1)) = ⊎_elim
+    let step : of_worker (run_until r (n + 1)) w ≡ flat_map (turn_rows r) (turns_before r w (n + 1)) = ⊎_elim
       (λ turn.
         worker-yes r w n e.0 e.1 turn
         ∙ ap (λ (l : List Row). l ++ chunk_rows r.query n e.0.frame) before
@@ -95,4 +95,4 @@ rows-by-turn r w (suc n) le =
         ∙ sym (ap (λ (l : List ℕ). flat_map (turn_rows r) l) (turns-yes r w n turn) ∙ flat_map-append (turn_rows r) (turns_before r w n) (n ∷ [])))
       (λ other. worker-no r w n e.0 e.1 other ∙ before ∙ sym (ap (λ (l : List ℕ). flat_map (turn_rows r) l) (turns-no r w n other)))
       (cases_Bool (is_turn_of r w n)) in
-    ap (λ k. of_worker (until r k) w) {x = suc n} {y = n + 1} (omega arith) ∙ step ∙ ap (λ k. flat_map (turn_rows r) (turns_before r w k)) {x = n + 1} {y = suc n} (omega arith)
+    ap (λ k. of_worker (run_until r k) w) {x = suc n} {y = n + 1} (omega arith) ∙ step ∙ ap (λ k. flat_map (turn_rows r) (turns_before r w k)) {x = n + 1} {y = suc n} (omega arith)

@@ -5,31 +5,34 @@ use Rattle.std.specs.List.{filter, slice_index_or}
 use Rattle.std.proofs.lemmas.Bool.{cases_Bool, eq-eqb}
 use Rattle.std.proofs.lemmas.List.{append-nil, get_or_append_left, length-take-le}
 use Rattle.std.proofs.lemmas.List.Elements.{filter-append, recursion_from_All}
+use Rattle.std.proofs.Math.Seq.{take-append_seam}
 use Rattle.pipe_columns.specs.declared.data_chunk.DataChunk.{DataChunk}
 use Rattle.pipe_columns.specs.Pieces.{pieces}
 use Rattle.pipe_columns.specs.Row.{Row}
 use Rattle.pipe_model.proofs.CountFacts.{count-append}
+use Rattle.pipe_plan.specs.declared.limits.Limits.{Limits}
+use Rattle.pipe_plan.specs.Journals.{AreOfWorkers, IsWithin}
+use Rattle.pipe_plan.specs.Rounds.{GoesOn, IsFront, run_until}
+use Rattle.pipe_plan.specs.Whole.{kept_rows}
 use Rattle.pipe_plan.specs.declared.event.PartitionEvent.{PartitionEvent}
 use Rattle.pipe_plan.specs.declared.event.PartitionEvent.TheVariants as event
-use Rattle.pipe_plan.specs.Later.{AreOfWorkers, closed, IsFront, IsWithin, later, until}
 use Rattle.pipe_plan.specs.Overflow.{overflow}
 use Rattle.pipe_plan.specs.Payloads.{full_pieces, payloads, rest_of}
-use Rattle.pipe_plan.specs.Plan.{events_before, plan}
+use Rattle.pipe_plan.specs.Plan.{events_before, picks_before, plan}
 use Rattle.pipe_plan.specs.Replay.{arrivals, events_by, is_arrival, nothing_yet, replay, worker_of}
 use Rattle.pipe_plan.specs.Kept.{is_kept}
 use Rattle.pipe_plan.specs.Run.{is_generic, of_worker, Run, StoreSeen}
-use Rattle.pipe_plan.specs.Whole.{kept_rows}
 use Rattle.pipe_plan.proofs.AllRows.{arrivals-plan}
 use Rattle.pipe_plan.proofs.AtEnd.{last-open}
 use Rattle.pipe_plan.proofs.AtRow.{payloads-full}
 use Rattle.pipe_plan.proofs.ChunkRows.{each-at}
 use Rattle.pipe_plan.proofs.Cutting.{full-append}
 use Rattle.pipe_plan.proofs.Filtering.{filter-yes}
-use Rattle.pipe_plan.proofs.Longer.{kept-same, more_overflow, more_rows, overflow-later, worker-later}
+use Rattle.pipe_plan.proofs.Longer.{goes-on, kept-same, longer_run, more_overflow, more_rows, overflow-later, worker-later}
 use Rattle.pipe_plan.proofs.NextEvent.{front-trans, plan-front, plan-generic, plan-typed}
 use Rattle.pipe_plan.proofs.Reaching.{events-until}
 use Rattle.pipe_plan.proofs.Replaying.{replay_from-same}
-use Rattle.pipe_plan.proofs.Turning.{events-later}
+use Rattle.pipe_plan.proofs.Turning.{events-later, picks-later}
 
 -- a front of an equal list
 front-of : {A : Type 0} (xs ys zs : List A) → ys ≡ xs → IsFront xs zs → IsFront ys zs
@@ -45,10 +48,10 @@ plan-open r w p opened generic =
     plan-generic r w p generic ∙ ap (λ (l : List PartitionEvent). events_before r w p (length r.chunks) ++ l) (last-open r w p opened) ∙ append-nil (events_before r w p (length r.chunks))
 
 -- so the plans of a run so far are the events of the turns so far
-pub plan-until : (r : Run) (w p n : ℕ) → is_generic r.limits.sink ≡ true → n ≤ length r.chunks → plan (until r n) w p ≡ events_before r w p n
+pub plan-until : (r : Run) (w p n : ℕ) → is_generic r.limits.sink ≡ true → n ≤ length r.chunks → plan (run_until r n) w p ≡ events_before r w p n
 plan-until r w p n generic le =
-    plan-open (until r n) w p refl generic
-    ∙ ap (λ k. events_before (until r n) w p k) (length-take-le n r.chunks le)
+    plan-open (run_until r n) w p refl generic
+    ∙ ap (λ k. events_before (run_until r n) w p k) (length-take-le n r.chunks le)
     ∙ events-until r n w p le
 
 -- nothing is a front of anything
@@ -56,12 +59,12 @@ typed-front : (r s : Run) (w p : ℕ) → is_generic r.limits.sink ≡ false →
 typed-front r s w p typed = record { rest = plan s w p; is = ap (λ (l : List PartitionEvent). l ++ plan s w p) (sym (plan-typed r w p typed)) }
 
 module _ (r : Run) (o : Bool) (chunks : List DataChunk) (stores : List StoreSeen) (w : ℕ) where
-  pub rows-front : IsFront (of_worker r w) (of_worker (later r o chunks stores) w)
+  pub rows-front : IsFront (of_worker r w) (of_worker (longer_run r o chunks stores) w)
   rows-front = record { rest = more_rows r w chunks; is = worker-later r o chunks stores w }
 
-  pub kept-front : IsFront (kept_rows r w) (kept_rows (later r o chunks stores) w)
+  pub kept-front : IsFront (kept_rows r w) (kept_rows (longer_run r o chunks stores) w)
   kept-front =
-      let s = later r o chunks stores in
+      let s = longer_run r o chunks stores in
       record {
         rest = filter (is_kept s w) (more_rows r w chunks);
         is =
@@ -71,25 +74,25 @@ module _ (r : Run) (o : Bool) (chunks : List DataChunk) (stores : List StoreSeen
       }
 
 module _ (r : Run) (o : Bool) (chunks : List DataChunk) (stores : List StoreSeen) (w p : ℕ) where
-  pub overflow-front : IsFront (overflow r w p) (overflow (later r o chunks stores) w p)
+  pub overflow-front : IsFront (overflow r w p) (overflow (longer_run r o chunks stores) w p)
   overflow-front = record { rest = more_overflow r o chunks stores w p; is = overflow-later r o chunks stores w p }
 
-  pub full-front-later : 0 < r.limits.buffer_size → IsFront (full_pieces r.limits.buffer_size (overflow r w p)) (full_pieces r.limits.buffer_size (overflow (later r o chunks stores) w p))
+  pub full-front-later : 0 < r.limits.buffer_size → IsFront (full_pieces r.limits.buffer_size (overflow r w p)) (full_pieces r.limits.buffer_size (overflow (longer_run r o chunks stores) w p))
   full-front-later some = record {
     rest = full_pieces r.limits.buffer_size (rest_of r.limits.buffer_size (overflow r w p) ++ more_overflow r o chunks stores w p);
     is = ap (λ (l : List Row). full_pieces r.limits.buffer_size l) (overflow-later r o chunks stores w p) ∙ full-append r.limits.buffer_size (overflow r w p) (more_overflow r o chunks stores w p) some;
   }
 
-  pub payloads-later : 0 < r.limits.buffer_size → r.is_open ≡ true → IsFront (payloads r w p) (payloads (later r o chunks stores) w p)
+  pub payloads-later : 0 < r.limits.buffer_size → r.is_open ≡ true → IsFront (payloads r w p) (payloads (longer_run r o chunks stores) w p)
   payloads-later some opened =
       let b = r.limits.buffer_size in
-      let s = later r o chunks stores in
+      let s = longer_run r o chunks stores in
       front-of (full_pieces b (overflow r w p)) (payloads r w p) (payloads s w p) (payloads-open r w p opened)
       (front-trans (full_pieces b (overflow r w p)) (full_pieces b (overflow s w p)) (payloads s w p) (full-front-later some) (payloads-full s w p some))
 
-  pub plan-later : r.is_open ≡ true → IsFront (plan r w p) (plan (later r o chunks stores) w p)
+  pub plan-later : r.is_open ≡ true → IsFront (plan r w p) (plan (longer_run r o chunks stores) w p)
   plan-later opened =
-      let s = later r o chunks stores in
+      let s = longer_run r o chunks stores in
       ⊎_elim
       (λ generic.
         front-of (events_before s w p (length r.chunks)) (plan r w p) (plan s w p) (plan-open r w p opened generic ∙ sym (events-later r o chunks stores w p (length r.chunks) (omega arith)))
@@ -97,18 +100,39 @@ module _ (r : Run) (o : Bool) (chunks : List DataChunk) (stores : List StoreSeen
       (λ typed. typed-front r s w p typed)
       (cases_Bool (is_generic r.limits.sink))
 
-module _ (r : Run) (stores : List StoreSeen) (w p : ℕ) where
-  pub payloads-closed : 0 < r.limits.buffer_size → r.is_open ≡ true → IsFront (payloads r w p) (payloads (closed r stores) w p)
-  payloads-closed some opened =
-      front-of (full_pieces r.limits.buffer_size (overflow r w p)) (payloads r w p) (payloads (closed r stores) w p) (payloads-open r w p opened) (payloads-full (closed r stores) w p some)
+-- ---- runs that go on
 
-  pub plan-closed : r.is_open ≡ true → IsFront (plan r w p) (plan (closed r stores) w p)
-  plan-closed opened = ⊎_elim
-      (λ generic.
-        front-of (events_before r w p (length r.chunks)) (plan r w p) (plan (closed r stores) w p) (plan-open r w p opened generic)
-        (plan-front (closed r stores) w p (length r.chunks) generic (omega arith)))
-      (λ typed. typed-front r (closed r stores) w p typed)
-      (cases_Bool (is_generic r.limits.sink))
+module _ (r s : Run) (on : GoesOn r s) where
+  pub rows-on : (w : ℕ) → IsFront (of_worker r w) (of_worker s w)
+  rows-on w = subst (λ (s : Run). IsFront (of_worker r w) (of_worker s w)) (goes-on r s on) (rows-front r s.is_open on.more s.stores w)
+
+  pub kept-on : (w : ℕ) → IsFront (kept_rows r w) (kept_rows s w)
+  kept-on w = subst (λ (s : Run). IsFront (kept_rows r w) (kept_rows s w)) (goes-on r s on) (kept-front r s.is_open on.more s.stores w)
+
+  pub overflow-on : (w p : ℕ) → IsFront (overflow r w p) (overflow s w p)
+  overflow-on w p = subst (λ (s : Run). IsFront (overflow r w p) (overflow s w p)) (goes-on r s on) (overflow-front r s.is_open on.more s.stores w p)
+
+  pub full-on : (w p : ℕ) → 0 < r.limits.buffer_size → IsFront (full_pieces r.limits.buffer_size (overflow r w p)) (full_pieces r.limits.buffer_size (overflow s w p))
+  full-on w p some =
+      subst (λ (s : Run). IsFront (full_pieces r.limits.buffer_size (overflow r w p)) (full_pieces r.limits.buffer_size (overflow s w p))) (goes-on r s on) (full-front-later r s.is_open on.more s.stores w p some)
+
+  pub payloads-on : (w p : ℕ) → 0 < r.limits.buffer_size → r.is_open ≡ true → IsFront (payloads r w p) (payloads s w p)
+  payloads-on w p some opened = subst (λ (s : Run). IsFront (payloads r w p) (payloads s w p)) (goes-on r s on) (payloads-later r s.is_open on.more s.stores w p some opened)
+
+  pub plan-on : (w p : ℕ) → r.is_open ≡ true → IsFront (plan r w p) (plan s w p)
+  plan-on w p opened = subst (λ (s : Run). IsFront (plan r w p) (plan s w p)) (goes-on r s on) (plan-later r s.is_open on.more s.stores w p opened)
+
+  pub events-on : (w p n : ℕ) → n ≤ length r.chunks → events_before s w p n ≡ events_before r w p n
+  events-on w p n le = subst (λ (s : Run). events_before s w p n ≡ events_before r w p n) (goes-on r s on) (events-later r s.is_open on.more s.stores w p n le)
+
+  pub picks-on : (w n : ℕ) → n ≤ length r.chunks → picks_before s w n ≡ picks_before r w n
+  picks-on w n le = subst (λ (s : Run). picks_before s w n ≡ picks_before r w n) (goes-on r s on) (picks-later r s.is_open on.more s.stores w n le)
+
+  -- what a worker took in the first chunks is what it took before
+  pub taken-on : (w : ℕ) → of_worker (run_until s (length r.chunks)) w ≡ of_worker r w
+  taken-on w =
+      ap (λ (s : Run). of_worker (run_until s (length r.chunks)) w) (sym (goes-on r s on))
+      ∙ ap (λ (cs : List DataChunk). of_worker (record r { chunks = cs }) w) (take-append_seam r.chunks on.more)
 
 -- ---- replays
 
@@ -141,25 +165,14 @@ replay-front r s p journal some limit fronts within =
         omega (arith, arrivals-at w front back, ap (λ (l : List PartitionEvent). arrivals (events_by w l)) is, arrivals-within r w p (events_by w journal) some (within.plans w (mine r front back (event.Arrive w) journal within.workers is))) in
       ap (λ (ps : List (List Row)). slice_index_or ps k []) f.is ∙ get_or_append_left (payloads r w p) f.rest [] k lt)
 
-pub replay-later : (r : Run) (o : Bool) (chunks : List DataChunk) (stores : List StoreSeen) (p : ℕ) (journal : List PartitionEvent) → 0 < r.limits.buffer_size → r.is_open ≡ true
-    → IsWithin r p journal → replay (later r o chunks stores) p journal ≡ replay r p journal
-replay-later r o chunks stores p journal some opened within = replay-front r (later r o chunks stores) p journal some refl (λ w. payloads-later r o chunks stores w p some opened) within
+pub replay-on : (r s : Run) (p : ℕ) (journal : List PartitionEvent) → GoesOn r s → 0 < r.limits.buffer_size → r.is_open ≡ true → IsWithin r p journal → replay s p journal ≡ replay r p journal
+replay-on r s p journal on some opened within = replay-front r s p journal some (ap (λ (l : Limits). l.payload_limit) on.limits) (λ w. payloads-on r s on w p some opened) within
 
-pub replay-closed : (r : Run) (stores : List StoreSeen) (p : ℕ) (journal : List PartitionEvent) → 0 < r.limits.buffer_size → r.is_open ≡ true
-    → IsWithin r p journal → replay (closed r stores) p journal ≡ replay r p journal
-replay-closed r stores p journal some opened within = replay-front r (closed r stores) p journal some refl (λ w. payloads-closed r stores w p some opened) within
-
--- ---- journals
-
--- a journal within the plans stays within longer ones
-within-front : (r s : Run) (p : ℕ) (journal : List PartitionEvent) → s.limits.workers ≡ r.limits.workers → ((w : ℕ) → IsFront (plan r w p) (plan s w p)) → IsWithin r p journal → IsWithin s p journal
-within-front r s p journal workers fronts within = record {
-  workers = λ k d lt. subst (λ n. worker_of (slice_index_or journal k d) < n) (sym workers) (within.workers k d lt);
-  plans = λ w lt. front-trans (events_by w journal) (plan r w p) (plan s w p) (within.plans w (subst (λ n. w < n) workers lt)) (fronts w);
-}
-
-pub within-later : (r : Run) (o : Bool) (chunks : List DataChunk) (stores : List StoreSeen) (p : ℕ) (journal : List PartitionEvent) → r.is_open ≡ true → IsWithin r p journal → IsWithin (later r o chunks stores) p journal
-within-later r o chunks stores p journal opened within = within-front r (later r o chunks stores) p journal refl (λ w. plan-later r o chunks stores w p opened) within
-
-pub within-closed : (r : Run) (stores : List StoreSeen) (p : ℕ) (journal : List PartitionEvent) → r.is_open ≡ true → IsWithin r p journal → IsWithin (closed r stores) p journal
-within-closed r stores p journal opened within = within-front r (closed r stores) p journal refl (λ w. plan-closed r stores w p opened) within
+-- and stays within the plans
+pub within-on : (r s : Run) (p : ℕ) (journal : List PartitionEvent) → GoesOn r s → r.is_open ≡ true → IsWithin r p journal → IsWithin s p journal
+within-on r s p journal on opened within =
+    let workers : s.limits.workers ≡ r.limits.workers = ap (λ (l : Limits). l.workers) on.limits in
+    record {
+      workers = λ k d lt. subst (λ n. worker_of (slice_index_or journal k d) < n) (sym workers) (within.workers k d lt);
+      plans = λ w lt. front-trans (events_by w journal) (plan r w p) (plan s w p) (within.plans w (subst (λ n. w < n) workers lt)) (plan-on r s on w p opened);
+    }

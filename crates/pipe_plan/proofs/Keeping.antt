@@ -7,8 +7,8 @@ use Rattle.std.proofs.lemmas.Bool.{cases_lt, cases_Bool, false≢true, le-ltb, l
 use Rattle.std.proofs.lemmas.List.{append-nil, take-append-le, take_all, length-take}
 use Rattle.std.proofs.lemmas.List.Elements.{filter-append}
 use Rattle.std.proofs.Math.Seq.{take-append-add}
+use Rattle.pipe_plan.specs.Rounds.{IsFront}
 use Rattle.pipe_plan.specs.Kept.{distinct, first_distinct}
-use Rattle.pipe_plan.specs.Later.{IsFront}
 use Rattle.pipe_plan.proofs.Filtering.{filter-filter, filter-same, filter-all, filter-yes, filter-no}
 
 -- a test of equality that is exact

@@ -15,12 +15,31 @@ use Rattle.pipe_model.specs.Answer.{tuple_cmp}
 use Rattle.pipe_model.specs.Rows.{rows_from, keys_of}
 use Rattle.pipe_plan.specs.declared.limits.Limits.{Limits}
 use Rattle.pipe_plan.specs.Kept.{distinct, first_distinct, is_kept, kept_keys, same_key}
-use Rattle.pipe_plan.specs.Later.{later}
+use Rattle.pipe_plan.specs.Rounds.{GoesOn}
 use Rattle.pipe_plan.specs.Overflow.{overflow, overflows, partition_of}
 use Rattle.pipe_plan.specs.Run.{is_generic, is_turn_of, of_worker, Run, StoreSeen}
 use Rattle.pipe_plan.proofs.ChunkRows.{rows-append}
 use Rattle.pipe_plan.proofs.Filtering.{filter-within}
 use Rattle.pipe_plan.proofs.Keeping.{held-decided, IsExact, is_member-append, is_member-distinct}
+
+-- a run over more chunks, open or closed, with other stores
+abbrev pub longer_run : Run → Bool → List DataChunk → List StoreSeen → Run
+longer_run r is_open chunks stores = record r {
+  chunks = r.chunks ++ chunks;
+  is_open = is_open;
+  stores = stores;
+}
+
+-- a run that goes on is a longer one
+pub goes-on : (r s : Run) (on : GoesOn r s) → longer_run r s.is_open on.more s.stores ≡ s
+goes-on r s on = λ i. record {
+  chunks = sym on.chunks i;
+  query = sym on.query i;
+  limits = sym on.limits i;
+  actions = sym on.actions i;
+  is_open = s.is_open;
+  stores = s.stores;
+}
 
 -- keys are one exactly where they are equal
 pub keys_exact : IsExact same_key
@@ -61,35 +80,35 @@ kept-decided l xs more key came =
 abbrev pub more_rows : Run → ℕ → List DataChunk → List Row
 more_rows r w chunks = filter (λ x. is_turn_of r w x.place.chunk) (rows_from r.query (0 + length r.chunks) chunks)
 
-pub worker-later : (r : Run) (o : Bool) (chunks : List DataChunk) (stores : List StoreSeen) (w : ℕ) → of_worker (later r o chunks stores) w ≡ of_worker r w ++ more_rows r w chunks
+pub worker-later : (r : Run) (o : Bool) (chunks : List DataChunk) (stores : List StoreSeen) (w : ℕ) → of_worker (longer_run r o chunks stores) w ≡ of_worker r w ++ more_rows r w chunks
 worker-later r o chunks stores w =
     ap (λ (l : List Row). filter (λ x. is_turn_of r w x.place.chunk) l) (rows-append r.query 0 r.chunks chunks)
     ∙ filter-append (λ (x : Row). is_turn_of r w x.place.chunk) (rows_from r.query 0 r.chunks) (rows_from r.query (0 + length r.chunks) chunks)
 
 -- a row that came is kept later exactly where it was
 pub is_kept-later : (r : Run) (o : Bool) (chunks : List DataChunk) (stores : List StoreSeen) (w : ℕ) (front back : List Row) (x : Row) → of_worker r w ≡ front ++ x ∷ back
-    → is_kept (later r o chunks stores) w x ≡ is_kept r w x
+    → is_kept (longer_run r o chunks stores) w x ≡ is_kept r w x
 is_kept-later r o chunks stores w front back x is =
     ap (λ (l : List Row). is_member same_key (kept_keys r.limits l) x.key) (worker-later r o chunks stores w)
     ∙ kept-decided r.limits (of_worker r w) (more_rows r w chunks) x.key (ap (λ (l : List Row). is_member same_key (keys_of l) x.key) is ∙ keys-has front back x)
 
 -- the rows that came overflow later exactly where they did
-pub overflow-same : (r : Run) (o : Bool) (chunks : List DataChunk) (stores : List StoreSeen) (w p : ℕ) → filter (overflows (later r o chunks stores) w p) (of_worker r w) ≡ overflow r w p
+pub overflow-same : (r : Run) (o : Bool) (chunks : List DataChunk) (stores : List StoreSeen) (w p : ℕ) → filter (overflows (longer_run r o chunks stores) w p) (of_worker r w) ≡ overflow r w p
 overflow-same r o chunks stores w p =
-    filter-within (overflows (later r o chunks stores) w p) (overflows r w p) (of_worker r w)
+    filter-within (overflows (longer_run r o chunks stores) w p) (overflows r w p) (of_worker r w)
     (λ front back x is. ap (λ b. (partition_of r x == p) && not b) (is_kept-later r o chunks stores w front back x is))
 
 -- and so do those that are kept
-pub kept-same : (r : Run) (o : Bool) (chunks : List DataChunk) (stores : List StoreSeen) (w : ℕ) → filter (is_kept (later r o chunks stores) w) (of_worker r w) ≡ filter (is_kept r w) (of_worker r w)
-kept-same r o chunks stores w = filter-within (is_kept (later r o chunks stores) w) (is_kept r w) (of_worker r w) (is_kept-later r o chunks stores w)
+pub kept-same : (r : Run) (o : Bool) (chunks : List DataChunk) (stores : List StoreSeen) (w : ℕ) → filter (is_kept (longer_run r o chunks stores) w) (of_worker r w) ≡ filter (is_kept r w) (of_worker r w)
+kept-same r o chunks stores w = filter-within (is_kept (longer_run r o chunks stores) w) (is_kept r w) (of_worker r w) (is_kept-later r o chunks stores w)
 
 -- what overflows of the chunks that come behind
 abbrev pub more_overflow : Run → Bool → List DataChunk → List StoreSeen → ℕ → ℕ → List Row
-more_overflow r o chunks stores w p = filter (overflows (later r o chunks stores) w p) (more_rows r w chunks)
+more_overflow r o chunks stores w p = filter (overflows (longer_run r o chunks stores) w p) (more_rows r w chunks)
 
 pub overflow-later : (r : Run) (o : Bool) (chunks : List DataChunk) (stores : List StoreSeen) (w p : ℕ)
-    → overflow (later r o chunks stores) w p ≡ overflow r w p ++ more_overflow r o chunks stores w p
+    → overflow (longer_run r o chunks stores) w p ≡ overflow r w p ++ more_overflow r o chunks stores w p
 overflow-later r o chunks stores w p =
-    ap (λ (l : List Row). filter (overflows (later r o chunks stores) w p) l) (worker-later r o chunks stores w)
-    ∙ filter-append (overflows (later r o chunks stores) w p) (of_worker r w) (more_rows r w chunks)
+    ap (λ (l : List Row). filter (overflows (longer_run r o chunks stores) w p) l) (worker-later r o chunks stores w)
+    ∙ filter-append (overflows (longer_run r o chunks stores) w p) (of_worker r w) (more_rows r w chunks)
     ∙ ap (λ l. l ++ more_overflow r o chunks stores w p) (overflow-same r o chunks stores w p)

@@ -7,11 +7,11 @@ use Rattle.std.proofs.lemmas.List.{append-nil, map-append}
 use Rattle.std.proofs.lemmas.List.Elements.{All-from_recursion, All-head, All-tail}
 use Rattle.std.proofs.lemmas.List.Folds.{flat_map-map}
 use Rattle.pipe_columns.specs.Row.{Row}
+use Rattle.pipe_plan.specs.Journals.{AreOfWorkers, IsWithin}
 use Rattle.pipe_plan.specs.declared.event.PartitionEvent.{PartitionEvent}
 use Rattle.pipe_plan.specs.declared.event.PartitionEvent.TheVariants as event
 use Rattle.pipe_plan.specs.Frames.{AreOfPieces, IsPiece, piece_rows, PieceName, same_piece}
-use Rattle.pipe_plan.specs.Later.{AreOfWorkers, IsWithin}
-use Rattle.pipe_plan.specs.Replay.{after_event, arrivals, events_by, joined, nothing_yet, replay, replay_from, Replayed, worker_of}
+use Rattle.pipe_plan.specs.Replay.{after_event, arrivals, events_by, joined_lists, nothing_yet, replay, replay_from, Replayed, worker_of}
 use Rattle.pipe_plan.specs.Run.{Run}
 use Rattle.pipe_plan.proofs.ChunkRows.{each-append, each-front, each-more}
 use Rattle.pipe_plan.proofs.Fronts.{arrivals-within}
@@ -42,8 +42,8 @@ record AreNamed (r : Run) (p : ℕ) (before : List PartitionEvent) (s : Replayed
   frames : List (List PieceName)
   waiting_rows : s.waiting ≡ map (piece_rows r p) waiting
   frame_rows : s.frames ≡ map (λ part. flat_map (piece_rows r p) part) frames
-  apart : IsDistinct same_piece (joined frames ++ waiting)
-  arrived : AllByRecursion (Arrived r before) (joined frames ++ waiting)
+  apart : IsDistinct same_piece (joined_lists frames ++ waiting)
+  arrived : AllByRecursion (Arrived r before) (joined_lists frames ++ waiting)
 
 -- an event more changes no arrival for the worse
 arrivals-grow : (w : ℕ) (events : List PartitionEvent) (e : PartitionEvent) → arrivals (events_by w events) ≤ arrivals (events_by w (events ++ e ∷ []))
@@ -76,8 +76,8 @@ not_next r before v n h =
 named-event : (r : Run) (p : ℕ) (before : List PartitionEvent) (s : Replayed) (e : PartitionEvent) → worker_of e < r.limits.workers → AreNamed r p before s → AreNamed r p (before ++ e ∷ []) (after_event r p before s e)
 named-event r p before s (event.Arrive v) lt named =
     let name : PieceName = record { worker = v; number = arrivals (events_by v before) } in
-    let old = joined named.frames ++ named.waiting in
-    let longer : (joined named.frames ++ named.waiting) ++ name ∷ [] ≡ joined named.frames ++ (named.waiting ++ name ∷ []) = append_assoc (joined named.frames) named.waiting (name ∷ []) in
+    let old = joined_lists named.frames ++ named.waiting in
+    let longer : (joined_lists named.frames ++ named.waiting) ++ name ∷ [] ≡ joined_lists named.frames ++ (named.waiting ++ name ∷ []) = append_assoc (joined_lists named.frames) named.waiting (name ∷ []) in
     record {
       waiting = named.waiting ++ name ∷ [];
       frames = named.frames;
@@ -92,24 +92,24 @@ named-event r p before s (event.Merge v) lt named = record {
   frames = named.frames;
   waiting_rows = refl;
   frame_rows = named.frame_rows;
-  apart = subst (IsDistinct same_piece) (sym (append-nil (joined named.frames))) (distinct-front same_piece (joined named.frames) named.waiting named.apart);
-  arrived = subst (AllByRecursion (Arrived r (before ++ event.Merge v ∷ []))) (sym (append-nil (joined named.frames)))
-    (each-front (Arrived r (before ++ event.Merge v ∷ [])) (joined named.frames) named.waiting (still-arrived r before (event.Merge v) (joined named.frames ++ named.waiting) named.arrived));
+  apart = subst (IsDistinct same_piece) (sym (append-nil (joined_lists named.frames))) (distinct-front same_piece (joined_lists named.frames) named.waiting named.apart);
+  arrived = subst (AllByRecursion (Arrived r (before ++ event.Merge v ∷ []))) (sym (append-nil (joined_lists named.frames)))
+    (each-front (Arrived r (before ++ event.Merge v ∷ [])) (joined_lists named.frames) named.waiting (still-arrived r before (event.Merge v) (joined_lists named.frames ++ named.waiting) named.arrived));
 }
 named-event r p before s (event.Dump v) lt named =
-    let put : Replayed = record s { frames = s.frames ++ joined s.waiting ∷ []; waiting = [] } in
-    let names = joined named.frames ++ named.waiting in
+    let put : Replayed = record s { frames = s.frames ++ joined_lists s.waiting ∷ []; waiting = [] } in
+    let names = joined_lists named.frames ++ named.waiting in
     let still = still-arrived r before (event.Dump v) names named.arrived in
-    let all : joined (named.frames ++ named.waiting ∷ []) ++ [] ≡ names =
-      append-nil (joined (named.frames ++ named.waiting ∷ [])) ∙ joined-append named.frames (named.waiting ∷ []) ∙ ap (λ (l : List PieceName). joined named.frames ++ l) (append-nil named.waiting) in
+    let all : joined_lists (named.frames ++ named.waiting ∷ []) ++ [] ≡ names =
+      append-nil (joined_lists (named.frames ++ named.waiting ∷ [])) ∙ joined-append named.frames (named.waiting ∷ []) ∙ ap (λ (l : List PieceName). joined_lists named.frames ++ l) (append-nil named.waiting) in
     elim (nat_lt r.limits.payload_limit (length s.waiting)) as (λ b. AreNamed r p (before ++ event.Dump v ∷ []) (if b then put else s)) [
       | true ↦ record {
           waiting = [];
           frames = named.frames ++ named.waiting ∷ [];
           waiting_rows = refl;
           frame_rows =
-              ap (λ (fs : List (List Row)). fs ++ joined s.waiting ∷ []) named.frame_rows
-              ∙ ap (λ (l : List Row). map (λ part. flat_map (piece_rows r p) part) named.frames ++ l ∷ []) (ap joined named.waiting_rows ∙ flat_map-map (λ (piece : List Row). piece) (piece_rows r p) named.waiting)
+              ap (λ (fs : List (List Row)). fs ++ joined_lists s.waiting ∷ []) named.frame_rows
+              ∙ ap (λ (l : List Row). map (λ part. flat_map (piece_rows r p) part) named.frames ++ l ∷ []) (ap joined_lists named.waiting_rows ∙ flat_map-map (λ (piece : List Row). piece) (piece_rows r p) named.waiting)
               ∙ sym (map-append (λ (part : List PieceName). flat_map (piece_rows r p) part) named.frames (named.waiting ∷ []));
           apart = subst (IsDistinct same_piece) (sym all) named.apart;
           arrived = subst (AllByRecursion (Arrived r (before ++ event.Dump v ∷ []))) (sym all) still;
@@ -132,8 +132,8 @@ frames-apart r p journal some within =
     record {
       names = named.frames;
       rows = named.frame_rows;
-      apart = distinct-front same_piece (joined named.frames) named.waiting named.apart;
-      pieces = All-from_recursion (IsPiece r p) (joined named.frames)
-        (each-more (Arrived r journal) (IsPiece r p) (joined named.frames) (λ n h. (h.0, omega (arith, h.1, arrivals-within r n.worker p (events_by n.worker journal) some (within.plans n.worker h.0))))
-        (each-front (Arrived r journal) (joined named.frames) named.waiting named.arrived));
+      apart = distinct-front same_piece (joined_lists named.frames) named.waiting named.apart;
+      pieces = All-from_recursion (IsPiece r p) (joined_lists named.frames)
+        (each-more (Arrived r journal) (IsPiece r p) (joined_lists named.frames) (λ n h. (h.0, omega (arith, h.1, arrivals-within r n.worker p (events_by n.worker journal) some (within.plans n.worker h.0))))
+        (each-front (Arrived r journal) (joined_lists named.frames) named.waiting named.arrived));
     }

@@ -6,9 +6,9 @@ use Rattle.std.proofs.lemmas.List.{length-replicate, take-append-le, take-replic
 use Rattle.std.proofs.lemmas.Grind.{flat_map-append}
 use Rattle.std.proofs.Math.Seq.{take-append-add}
 use Rattle.pipe_model.proofs.CountFacts.{count-append}
+use Rattle.pipe_plan.specs.Rounds.{IsFront}
 use Rattle.pipe_plan.specs.declared.event.PartitionEvent.{PartitionEvent}
 use Rattle.pipe_plan.specs.declared.event.PartitionEvent.TheVariants as event
-use Rattle.pipe_plan.specs.Later.{IsFront}
 use Rattle.pipe_plan.specs.Plan.{action_at, events_before, events_of, full_before, is_pick, last_events, picked_partition, plan, turn_events}
 use Rattle.pipe_plan.specs.Replay.{arrivals, is_arrival}
 use Rattle.pipe_plan.specs.Run.{is_generic, is_turn_of, Run}

@@ -8,13 +8,13 @@ use Rattle.std.proofs.lemmas.List.Elements.{All-head, All-tail, filter-append}
 use Rattle.std.proofs.lemmas.Grind.{flat_map-append}
 use Rattle.pipe_columns.specs.Row.{Row}
 use Rattle.pipe_model.proofs.CountFacts.{count-append, count-cons}
+use Rattle.pipe_plan.specs.Journals.{AreOfWorkers}
+use Rattle.pipe_plan.specs.Whole.{rows_of}
 use Rattle.pipe_plan.specs.declared.event.PartitionEvent.{PartitionEvent}
 use Rattle.pipe_plan.specs.declared.event.PartitionEvent.TheVariants as event
-use Rattle.pipe_plan.specs.Later.{AreOfWorkers}
 use Rattle.pipe_plan.specs.Payloads.{payloads}
-use Rattle.pipe_plan.specs.Replay.{after_arrival, after_dump, after_event, after_merge, arrivals, events_by, is_arrival, joined, next_piece, nothing_yet, replay, replay_from, Replayed, worker_of}
+use Rattle.pipe_plan.specs.Replay.{after_arrival, after_dump, after_event, after_merge, arrivals, events_by, is_arrival, joined_lists, next_piece, nothing_yet, replay, replay_from, Replayed, worker_of}
 use Rattle.pipe_plan.specs.Run.{Run}
-use Rattle.pipe_plan.specs.Whole.{rows_of}
 use Rattle.pipe_plan.proofs.Adding.{sum_to, sum_to-one, sum_to-same, sum_to-zero}
 use Rattle.pipe_plan.proofs.Filtering.{filter-no, filter-yes}
 
@@ -75,33 +75,33 @@ arrivals-still w events e still = ⊎_elim
 
 -- ---- rows
 
-pub joined-append : {A : Type 0} (ps qs : List (List A)) → joined (ps ++ qs) ≡ joined ps ++ joined qs
+pub joined-append : {A : Type 0} (ps qs : List (List A)) → joined_lists (ps ++ qs) ≡ joined_lists ps ++ joined_lists qs
 joined-append {A = A} ps qs = flat_map-append (λ (piece : List A). piece) ps qs
 
-pub joined-push : {A : Type 0} (test : A → Bool) (ps : List (List A)) (piece : List A) → count_by test (joined (ps ++ piece ∷ [])) ≡ count_by test (joined ps) + count_by test piece
-joined-push {A = A} test ps piece = ap (λ (l : List A). count_by test l) (joined-append ps (piece ∷ []) ∙ ap (λ l. joined ps ++ l) (append-nil piece)) ∙ count-append test (joined ps) piece
+pub joined-push : {A : Type 0} (test : A → Bool) (ps : List (List A)) (piece : List A) → count_by test (joined_lists (ps ++ piece ∷ [])) ≡ count_by test (joined_lists ps) + count_by test piece
+joined-push {A = A} test ps piece = ap (λ (l : List A). count_by test l) (joined-append ps (piece ∷ []) ∙ ap (λ l. joined_lists ps ++ l) (append-nil piece)) ∙ count-append test (joined_lists ps) piece
 
 -- one piece more
-count-piece : {A : Type 0} (test : A → Bool) (ps : List (List A)) (k : ℕ) → count_by test (joined (take (k + 1) ps)) ≡ count_by test (joined (take k ps)) + count_by test (slice_index_or ps k [])
+count-piece : {A : Type 0} (test : A → Bool) (ps : List (List A)) (k : ℕ) → count_by test (joined_lists (take (k + 1) ps)) ≡ count_by test (joined_lists (take k ps)) + count_by test (slice_index_or ps k [])
 count-piece {A = A} test ps k = ⊎_elim
-    (λ lt. ap (λ (l : List (List A)). count_by test (joined l)) (take_more ps k [] lt) ∙ joined-push test (take k ps) (get_or ps k []))
+    (λ lt. ap (λ (l : List (List A)). count_by test (joined_lists l)) (take_more ps k [] lt) ∙ joined-push test (take k ps) (get_or ps k []))
     (λ ge.
       let none : count_by test (get_or ps k []) ≡ 0 = ap (λ (l : List A). count_by test l) (get_or_past ps k [] ge) in
-      let all = ap (λ (l : List (List A)). count_by test (joined l)) (take_all (k + 1) ps (omega (arith, ge)) ∙ sym (take_all k ps ge)) in
+      let all = ap (λ (l : List (List A)). count_by test (joined_lists l)) (take_all (k + 1) ps (omega (arith, ge)) ∙ sym (take_all k ps ge)) in
       omega (arith, none, all))
     (cases_lt k (length ps))
 
 -- the rows of the pieces of a worker that arrived
 abbrev pub taken : (Row → Bool) → Run → ℕ → List PartitionEvent → ℕ → ℕ
-taken test r p events w = count_by test (joined (take (arrivals (events_by w events)) (payloads r w p)))
+taken test r p events w = count_by test (joined_lists (take (arrivals (events_by w events)) (payloads r w p)))
 
-count-rows : (test : Row → Bool) (s : Replayed) → count_by test (rows_of s) ≡ count_by test s.merged + (count_by test (joined s.waiting) + count_by test (joined s.frames))
-count-rows test s = count-append test s.merged (joined s.waiting ++ joined s.frames) ∙ ap (λ k. count_by test s.merged + k) (count-append test (joined s.waiting) (joined s.frames))
+count-rows : (test : Row → Bool) (s : Replayed) → count_by test (rows_of s) ≡ count_by test s.merged + (count_by test (joined_lists s.waiting) + count_by test (joined_lists s.frames))
+count-rows test s = count-append test s.merged (joined_lists s.waiting ++ joined_lists s.frames) ∙ ap (λ k. count_by test s.merged + k) (count-append test (joined_lists s.waiting) (joined_lists s.frames))
 
 -- an event that lets nothing arrive takes nothing
 taken-still : (test : Row → Bool) (r : Run) (p : ℕ) (events : List PartitionEvent) (e : PartitionEvent) → is_arrival e ≡ false
     → sum_to r.limits.workers (taken test r p (events ++ e ∷ [])) ≡ sum_to r.limits.workers (taken test r p events)
-taken-still test r p events e still = sum_to-same r.limits.workers _ _ (λ w lt. ap (λ k. count_by test (joined (take k (payloads r w p)))) (arrivals-still w events e still))
+taken-still test r p events e still = sum_to-same r.limits.workers _ _ (λ w lt. ap (λ k. count_by test (joined_lists (take k (payloads r w p)))) (arrivals-still w events e still))
 
 event-rows : (test : Row → Bool) (r : Run) (p : ℕ) (before : List PartitionEvent) (s : Replayed) (e : PartitionEvent) → worker_of e < r.limits.workers
     → count_by test (rows_of s) ≡ sum_to r.limits.workers (taken test r p before)
@@ -109,17 +109,17 @@ event-rows : (test : Row → Bool) (r : Run) (p : ℕ) (before : List PartitionE
 event-rows test r p before s (event.Arrive v) lt is =
     let piece = next_piece r v p (events_by v before) in
     let more = sum_to-one r.limits.workers (taken test r p (before ++ event.Arrive v ∷ [])) (taken test r p before) v (count_by test piece) lt
-      (ap (λ k. count_by test (joined (take k (payloads r v p)))) (arrivals-own v before) ∙ count-piece test (payloads r v p) (arrivals (events_by v before)))
-      (λ w apart. ap (λ k. count_by test (joined (take k (payloads r w p)))) (arrivals-other w before (event.Arrive v) (λ is. apart (sym is)))) in
+      (ap (λ k. count_by test (joined_lists (take k (payloads r v p)))) (arrivals-own v before) ∙ count-piece test (payloads r v p) (arrivals (events_by v before)))
+      (λ w apart. ap (λ k. count_by test (joined_lists (take k (payloads r w p)))) (arrivals-other w before (event.Arrive v) (λ is. apart (sym is)))) in
     omega (arith, more, is, count-rows test s, count-rows test (after_arrival piece s), joined-push test s.waiting piece)
 event-rows test r p before s (event.Merge v) lt is =
     let still = taken-still test r p before (event.Merge v) refl in
-    omega (arith, still, is, count-rows test s, count-rows test (after_merge s), count-append test s.merged (joined s.waiting))
+    omega (arith, still, is, count-rows test s, count-rows test (after_merge s), count-append test s.merged (joined_lists s.waiting))
 event-rows test r p before s (event.Dump v) lt is =
     let still = taken-still test r p before (event.Dump v) refl in
-    let put : Replayed = record s { frames = s.frames ++ joined s.waiting ∷ []; waiting = [] } in
+    let put : Replayed = record s { frames = s.frames ++ joined_lists s.waiting ∷ []; waiting = [] } in
     elim (nat_lt r.limits.payload_limit (length s.waiting)) as (λ b. count_by test (rows_of (if b then put else s)) ≡ sum_to r.limits.workers (taken test r p (before ++ event.Dump v ∷ []))) [
-      | true ↦ omega (arith, still, is, count-rows test s, count-rows test put, joined-push test s.frames (joined s.waiting))
+      | true ↦ omega (arith, still, is, count-rows test s, count-rows test put, joined-push test s.frames (joined_lists s.waiting))
       | false ↦ omega (arith, still, is)
     ]
 

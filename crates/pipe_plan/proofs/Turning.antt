@@ -9,9 +9,9 @@ use Rattle.pipe_columns.specs.declared.data_chunk.DataChunk.{DataChunk}
 use Rattle.pipe_columns.specs.Row.{Row}
 use Rattle.pipe_model.specs.Rows.{rows_from}
 use Rattle.pipe_model.proofs.CountFacts.{count-append}
+use Rattle.pipe_plan.proofs.Longer.{longer_run}
 use Rattle.pipe_plan.specs.declared.event.PartitionEvent.{PartitionEvent}
 use Rattle.pipe_plan.specs.declared.event.PartitionEvent.TheVariants as event
-use Rattle.pipe_plan.specs.Later.{later}
 use Rattle.pipe_plan.specs.Overflow.{overflow}
 use Rattle.pipe_plan.specs.Plan.{action_at, asks, events_before, events_of, height_at, is_pick, picks_before, sent_before, turn_events, turns_before}
 use Rattle.pipe_plan.specs.Run.{is_turn_of, Run, StoreSeen}
@@ -40,22 +40,22 @@ flat_map-within {A = A} {B = B} f g (x ∷ xs) same =
     ∙ ap (λ (l : List B). g x ++ l) (flat_map-within f g xs (λ front back y is. same (x ∷ front) back y (ap (λ (l : List A). x ∷ l) is)))
 
 module _ (r : Run) (o : Bool) (chunks : List DataChunk) (stores : List StoreSeen) where
-  pub height-later : (i : ℕ) → i < length r.chunks → height_at (later r o chunks stores) i ≡ height_at r i
+  pub height-later : (i : ℕ) → i < length r.chunks → height_at (longer_run r o chunks stores) i ≡ height_at r i
   height-later i lt =
       let heights : List DataChunk → List ℕ = λ cs. map (λ c. c.frame.height) cs in
       ap (λ (l : List ℕ). slice_index_or l i 0) (map-append (λ (c : DataChunk). c.frame.height) r.chunks chunks)
       ∙ get_or_append_left (heights r.chunks) (heights chunks) 0 i (omega (arith, lt, length-map r.chunks (λ (c : DataChunk). c.frame.height)))
 
-  pub pick-later : (i : ℕ) → i < length r.chunks → is_pick (later r o chunks stores) i ≡ is_pick r i
+  pub pick-later : (i : ℕ) → i < length r.chunks → is_pick (longer_run r o chunks stores) i ≡ is_pick r i
   pick-later i lt = ap (λ h. nat_lt 0 h && asks (action_at r i)) (height-later i lt)
 
-  pub picks-later : (w n : ℕ) → n ≤ length r.chunks → picks_before (later r o chunks stores) w n ≡ picks_before r w n
+  pub picks-later : (w n : ℕ) → n ≤ length r.chunks → picks_before (longer_run r o chunks stores) w n ≡ picks_before r w n
   picks-later w n le =
-      count-within (is_pick (later r o chunks stores)) (is_pick r) (turns_before r w n)
+      count-within (is_pick (longer_run r o chunks stores)) (is_pick r) (turns_before r w n)
       (λ front back i is. pick-later i (omega (arith, le, turns-before r w n front back i is)))
 
   -- what is sent of the chunks before a position is so later too
-  pub sent-later : (w p n : ℕ) → n ≤ length r.chunks → sent_before (later r o chunks stores) w p n ≡ sent_before r w p n
+  pub sent-later : (w p n : ℕ) → n ≤ length r.chunks → sent_before (longer_run r o chunks stores) w p n ≡ sent_before r w p n
   sent-later w p n le =
       let test : Row → Bool = λ x. nat_lt x.place.chunk n in
       let more = more_overflow r o chunks stores w p in
@@ -64,9 +64,9 @@ module _ (r : Run) (o : Bool) (chunks : List DataChunk) (stores : List StoreSeen
       let none : count_by test more ≡ 0 = count-none test more (λ front back x is. le-ltb x.place.chunk n (omega (arith, le, each-at (λ (x : Row). 0 + length r.chunks ≤ x.place.chunk) more front back x behind is))) in
       ap (λ (l : List Row). count_by test l) (overflow-later r o chunks stores w p) ∙ count-append test (overflow r w p) more ∙ omega (arith, none)
 
-  pub turn-later : (w p i : ℕ) → i < length r.chunks → turn_events (later r o chunks stores) w p i ≡ turn_events r w p i
+  pub turn-later : (w p i : ℕ) → i < length r.chunks → turn_events (longer_run r o chunks stores) w p i ≡ turn_events r w p i
   turn-later w p i lt =
-      let s = later r o chunks stores in
+      let s = longer_run r o chunks stores in
       let events : ℕ → ℕ → Bool → ℕ → List PartitionEvent = λ after before pick k.
         replicate (after / r.limits.buffer_size - before / r.limits.buffer_size) (event.Arrive w) ++ (if pick && ((w + k) % r.limits.partitions == p) then events_of w (action_at r i) else []) in
       ap (λ n. events n (sent_before s w p i) (is_pick s i) (picks_before s w i)) (sent-later w p (i + 1) (omega arith))
@@ -74,9 +74,9 @@ module _ (r : Run) (o : Bool) (chunks : List DataChunk) (stores : List StoreSeen
       ∙ ap (λ b. events (sent_before r w p (i + 1)) (sent_before r w p i) b (picks_before s w i)) (pick-later i lt)
       ∙ ap (λ k. events (sent_before r w p (i + 1)) (sent_before r w p i) (is_pick r i) k) (picks-later w i (omega arith))
 
-  pub events-later : (w p n : ℕ) → n ≤ length r.chunks → events_before (later r o chunks stores) w p n ≡ events_before r w p n
+  pub events-later : (w p n : ℕ) → n ≤ length r.chunks → events_before (longer_run r o chunks stores) w p n ≡ events_before r w p n
   events-later w p n le =
-      flat_map-within (turn_events (later r o chunks stores) w p) (turn_events r w p) (turns_before r w n)
+      flat_map-within (turn_events (longer_run r o chunks stores) w p) (turn_events r w p) (turns_before r w n)
       (λ front back i is. turn-later w p i (omega (arith, le, turns-before r w n front back i is)))
 
 -- of all chunks all of the overflow is sent

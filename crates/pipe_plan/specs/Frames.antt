@@ -3,7 +3,7 @@ use Rattle.std.specs.Prelude.{◌≡◌, ◌<◌, ◌==◌, ◌&&◌, ℕ, Bool,
 use Rattle.std.specs.List.{flat_map, IsDistinct, slice_index_or}
 use Rattle.pipe_columns.specs.Row.{Row}
 use Rattle.pipe_plan.specs.Payloads.{payloads}
-use Rattle.pipe_plan.specs.Replay.{joined}
+use Rattle.pipe_plan.specs.Replay.{joined_lists}
 use Rattle.pipe_plan.specs.Run.{Run}
 
 -- a piece in a partition, by its worker and its number among the worker's pieces there
@@ -27,5 +27,5 @@ IsPiece r p n = (n.worker < r.limits.workers) × (n.number < length (payloads r 
 pub record AreOfPieces (r : Run) (p : ℕ) (frames : List (List Row)) : Type 0 where
   pub names : List (List PieceName)
   pub rows : frames ≡ map (λ part. flat_map (piece_rows r p) part) names
-  pub apart : IsDistinct same_piece (joined names)
-  pub pieces : All (IsPiece r p) (joined names)
+  pub apart : IsDistinct same_piece (joined_lists names)
+  pub pieces : All (IsPiece r p) (joined_lists names)

@@ -4,7 +4,8 @@ pub mod Overflow
 pub mod Payloads
 pub mod Plan
 pub mod Replay
-pub mod Later
+pub mod Rounds
+pub mod Journals
 pub mod Progress
 pub mod Whole
 pub mod Frames

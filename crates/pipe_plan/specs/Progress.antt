@@ -5,7 +5,7 @@ use Rattle.std.specs.Option.{option_map_or}
 use Rattle.pipe_columns.specs.declared.data_chunk.DataChunk.{DataChunk}
 use Rattle.pipe_columns.specs.Row.{Row}
 use Rattle.pipe_model.specs.Rows.{chunk_rows}
-use Rattle.pipe_plan.specs.Later.{until}
+use Rattle.pipe_plan.specs.Rounds.{run_until}
 use Rattle.pipe_plan.specs.Overflow.{overflows}
 use Rattle.pipe_plan.specs.Payloads.{rest_of}
 use Rattle.pipe_plan.specs.Plan.{events_before, full_before}
@@ -23,7 +23,7 @@ pub record IsAtRow (r : Run) (w i : ℕ) (taken : List Row) (x : Row) : Type 0 w
   pub front : List Row
   pub back : List Row
   pub rows : chunk_rows r.query i chunk.frame ≡ front ++ x ∷ back
-  pub taken_is : taken ≡ of_worker (until r i) w ++ front
+  pub taken_is : taken ≡ of_worker (run_until r i) w ++ front
 
 -- which of the rows taken a worker has sent to a partition
 abbrev pub sent_of : Run → ℕ → ℕ → List Row → List Row

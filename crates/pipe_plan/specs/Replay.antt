@@ -27,9 +27,9 @@ is_arrival (event.Dump w) = false
 abbrev pub arrivals : List PartitionEvent → ℕ
 arrivals events = count_by is_arrival events
 
--- pieces joined, in order
-abbrev pub joined : {A : Type 0} → List (List A) → List A
-joined pieces = flat_map (λ piece. piece) pieces
+-- lists joined, in order
+abbrev pub joined_lists : {A : Type 0} → List (List A) → List A
+joined_lists lists = flat_map (λ list. list) lists
 
 -- what events made of a partition: the rows merged, the pieces that wait, and each frame's rows
 pub record Replayed : Type 0 where
@@ -47,13 +47,13 @@ after_arrival piece s = record s { waiting = s.waiting ++ piece ∷ [] }
 
 -- the rows of all waiting pieces are merged, and none waits
 abbrev pub after_merge : Replayed → Replayed
-after_merge s = record s { merged = s.merged ++ joined s.waiting; waiting = [] }
+after_merge s = record s { merged = s.merged ++ joined_lists s.waiting; waiting = [] }
 
 -- where more pieces wait than the limit, their rows become one frame, and none waits
 abbrev pub after_dump : ℕ → Replayed → Replayed
 after_dump limit s =
     if nat_lt limit (length s.waiting)
-    then record s { frames = s.frames ++ joined s.waiting ∷ []; waiting = [] }
+    then record s { frames = s.frames ++ joined_lists s.waiting ∷ []; waiting = [] }
     else s
 
 -- the piece that a worker's next arrival brings, behind its events so far: the k-th, k from 0, brings piece k

@@ -2,9 +2,9 @@
 
 ghost use Rattle.std.specs.Prelude.{◌≡◌, ◌≢◌, ◌+◌, ◌<◌, ◌≤◌, ◌==◌, ◌&&◌, ℕ, List, [], ◌∷◌, ◌++◌, length, take, true, false, Some, slice_get, if◌then◌else◌};
 ghost use Rattle.pipe_columns.specs.Row.{Row};
+ghost use Rattle.pipe_plan.specs.Rounds.{run_until};
 ghost use Rattle.pipe_plan.specs.declared.event.PartitionEvent.{PartitionEvent};
 ghost use Rattle.pipe_plan.specs.declared.event.PartitionEvent.TheVariants.{Arrive};
-ghost use Rattle.pipe_plan.specs.Later.{until};
 ghost use Rattle.pipe_plan.specs.Overflow.{overflow};
 ghost use Rattle.pipe_plan.specs.Payloads.{payloads, rest_of};
 ghost use Rattle.pipe_plan.specs.Plan.{action_at, events_before, events_of, is_pick, picked_partition, plan, sent_before};
@@ -71,7 +71,7 @@ pub fn next_event_at_the_end()
 /// The plans of the run so far hold the events of the turns so far, and let all pieces arrive.
 pub fn events_and_pieces()
     ensures so_far { (r : Run) (w p n : ℕ) → Spills r → n ≤ length r.chunks
-        → plan (until r n) w p ≡ events_before r w p n }
+        → plan (run_until r n) w p ≡ events_before r w p n }
     ensures pieces { (r : Run) (w p : ℕ) → 0 < r.limits.buffer_size
         → arrivals (plan r w p) ≡ length (payloads r w p) }
 {}

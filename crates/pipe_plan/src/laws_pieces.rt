@@ -4,7 +4,7 @@ ghost use Rattle.std.specs.Prelude.{◌≡◌, ◌≢◌, ◌+◌, ◌/◌, ◌%
 ghost use Rattle.pipe_columns.specs.Pieces.{pieces};
 ghost use Rattle.pipe_columns.specs.Row.{Row};
 ghost use Rattle.pipe_plan.specs.Payloads.{full_pieces, rest_of};
-ghost use Rattle.pipe_plan.specs.Replay.{joined};
+ghost use Rattle.pipe_plan.specs.Replay.{joined_lists};
 
 /// There are as many full pieces as the quotient says, and the remainder is left. Full pieces and
 /// the rest are the rows, in order, and so are all pieces.
@@ -13,8 +13,8 @@ pub fn pieces_of_rows()
         → length (full_pieces n rows) ≡ length rows / n }
     ensures rest { (n : ℕ) (rows : List Row) → 0 < n → length (rest_of n rows) ≡ length rows % n }
     ensures rows { (n : ℕ) (rows : List Row) → 0 < n
-        → joined (full_pieces n rows) ++ rest_of n rows ≡ rows }
-    ensures pieces { (n : ℕ) (rows : List Row) → 0 < n → joined (pieces n rows) ≡ rows }
+        → joined_lists (full_pieces n rows) ++ rest_of n rows ≡ rows }
+    ensures pieces { (n : ℕ) (rows : List Row) → 0 < n → joined_lists (pieces n rows) ≡ rows }
 {}
 
 /// A row that fills the rest makes a piece of it and leaves nothing; another one joins the rest.

@@ -1,13 +1,15 @@
 //! Laws of turns: where a worker's chunks stand, and which rows it takes in them.
 
 ghost use Rattle.std.specs.Prelude.{◌≡◌, ◌+◌, ◌*◌, ◌/◌, ◌<◌, ◌≤◌, ℕ, List, [], ◌∷◌, ◌++◌, length, true, if◌then◌else◌};
-ghost use Rattle.std.specs.List.{flat_map};
+ghost use Rattle.std.specs.List.{filter, flat_map};
 ghost use Rattle.pipe_columns.specs.Row.{Row};
-ghost use Rattle.pipe_plan.specs.Later.{IsFront, until};
+ghost use Rattle.pipe_plan.specs.Rounds.{IsFront, run_until};
+ghost use Rattle.pipe_plan.specs.Kept.{is_kept};
 ghost use Rattle.pipe_plan.specs.Overflow.{overflow};
 ghost use Rattle.pipe_plan.specs.Plan.{is_pick, picks_before, sent_before, turns_before};
 ghost use Rattle.pipe_plan.specs.Progress.{IsAtRow, sent_of, turn_rows};
 ghost use Rattle.pipe_plan.specs.Run.{is_turn_of, of_worker, Run};
+ghost use Rattle.pipe_plan.specs.Whole.{kept_rows};
 
 /// Turn j of worker w is the chunk at position w + j * workers. Before the first there is none, and
 /// none between two that follow each other.
@@ -30,18 +32,21 @@ pub fn positions_of_turns()
 /// next row, is the front of them.
 pub fn rows_of_turns()
     ensures turns { (r : Run) (w n : ℕ) → n ≤ length r.chunks
-        → of_worker (until r n) w ≡ flat_map (turn_rows r) (turns_before r w n) }
-    ensures all { (r : Run) (w n : ℕ) → length r.chunks ≤ n → of_worker (until r n) w ≡ of_worker r w }
+        → of_worker (run_until r n) w ≡ flat_map (turn_rows r) (turns_before r w n) }
+    ensures all { (r : Run) (w n : ℕ) → length r.chunks ≤ n → of_worker (run_until r n) w ≡ of_worker r w }
     ensures next { (r : Run) (w i : ℕ) (taken : List Row) (x : Row) → IsAtRow r w i taken x
         → IsFront (taken ++ x ∷ []) (of_worker r w) }
 {}
 
-/// What a worker sends of the rows that it took before a position is counted by the chunks' positions.
-pub fn rows_sent_by_turn()
+/// Of the rows that a worker took before a position it keeps and sends those that it does of them in
+/// the whole run. Those sent are counted by the chunks' positions.
+pub fn rows_kept_and_sent_by_turn()
+    ensures kept { (r : Run) (w n : ℕ)
+        → kept_rows (run_until r n) w ≡ filter (is_kept r w) (of_worker (run_until r n) w) }
     ensures sent { (r : Run) (w p n : ℕ)
-        → overflow (until r n) w p ≡ sent_of r w p (of_worker (until r n) w) }
+        → overflow (run_until r n) w p ≡ sent_of r w p (of_worker (run_until r n) w) }
     ensures count { (r : Run) (w p n : ℕ) → n ≤ length r.chunks
-        → sent_before r w p n ≡ length (overflow (until r n) w p) }
+        → sent_before r w p n ≡ length (overflow (run_until r n) w p) }
     ensures all { (r : Run) (w p : ℕ)
         → sent_before r w p (length r.chunks) ≡ length (overflow r w p) }
 {}

@@ -1,18 +1,19 @@
 //! Laws of journals: event by event, their frames, and what is held where the plans are whole.
 
-ghost use Rattle.std.specs.Prelude.{◌≡◌, ◌<◌, ◌≤◌, ℕ, List, [], ◌∷◌, ◌++◌, map, false};
+ghost use Rattle.std.specs.Prelude.{◌≡◌, ◌<◌, ◌≤◌, ℕ, List, [], ◌∷◌, ◌++◌, length, map, false};
 ghost use Rattle.std.specs.List.{flat_map, range_with_len};
 ghost use Rattle.pipe_columns.specs.Groups.{sorted_keys};
 ghost use Rattle.pipe_model.specs.Answer.{answer, answer_of, answer_row, groups, tuple_cmp};
 ghost use Rattle.pipe_model.specs.Counts.{CountAlike};
 ghost use Rattle.pipe_model.specs.Partitions.{rows_in};
 ghost use Rattle.pipe_model.specs.Rows.{keys_of};
+ghost use Rattle.pipe_plan.specs.Journals.{AreWhole, AreWithin, IsWhole, IsWithin, journal_count, planned_count};
+ghost use Rattle.pipe_plan.specs.Whole.{partition_rows, replayed_rows, rows_held, rows_of, sent_to};
 ghost use Rattle.pipe_plan.specs.declared.event.PartitionEvent.{PartitionEvent};
 ghost use Rattle.pipe_plan.specs.Frames.{AreOfPieces};
-ghost use Rattle.pipe_plan.specs.Later.{IsWhole, IsWithin};
+ghost use Rattle.pipe_plan.specs.Overflow.{overflow_count};
 ghost use Rattle.pipe_plan.specs.Replay.{after_event, replay};
 ghost use Rattle.pipe_plan.specs.Run.{all_rows, AreLimits, Run};
-ghost use Rattle.pipe_plan.specs.Whole.{AreWhole, AreWithin, journal_count, partition_rows, planned_count, rows_held, rows_of, sent_to};
 
 /// A replay goes on event by event.
 pub fn one_event_more()
@@ -40,6 +41,9 @@ pub fn partition_law()
         → CountAlike (rows_of (replay r p journal)) (sent_to r p) }
     ensures rows { (r : Run) (journals : List (List PartitionEvent)) → AreLimits r.limits
         → r.is_open ≡ false → AreWhole r journals → CountAlike (rows_held r journals) (all_rows r) }
+    ensures count { (r : Run) (journals : List (List PartitionEvent)) → AreLimits r.limits
+        → r.is_open ≡ false → AreWhole r journals
+        → length (replayed_rows r journals) ≡ overflow_count r }
     ensures answer { (r : Run) (journals : List (List PartitionEvent)) (partitions : ℕ)
         → AreLimits r.limits → r.is_open ≡ false → AreWhole r journals
         → answer r.chunks r.query partitions ≡ answer_of (rows_held r journals) r.query partitions }
