@@ -42,12 +42,12 @@ pub overflow-typed : (r : Run) (w p : ℕ) → is_generic r.limits.sink ≡ fals
 overflow-typed r w p typed =
     filter-none (overflows r w p) (of_worker r w)
     (λ front back x is.
-      let keys = keys_of (of_worker r w) in
-      let kept : is_kept r w x ≡ true =
-        ap (λ b. is_member same_key (if b then first_distinct same_key (r.limits.spill_size + 1) keys else distinct same_key keys) x.key) typed
-        ∙ is_member-distinct same_key keys_exact keys x.key
-        ∙ ap (λ (l : List Row). is_member same_key (keys_of l) x.key) is ∙ keys-has front back x in
-      ap (λ b. (partition_of r x == p) && not b) kept ∙ and-false (partition_of r x == p))
+    let keys = keys_of (of_worker r w) in
+    let kept : is_kept r w x ≡ true =
+    ap (λ b. is_member same_key (if b then first_distinct same_key (r.limits.spill_size + 1) keys else distinct same_key keys) x.key) typed
+    ∙ is_member-distinct same_key keys_exact keys x.key
+    ∙ ap (λ (l : List Row). is_member same_key (keys_of l) x.key) is ∙ keys-has front back x in
+    ap (λ b. (partition_of r x == p) && not b) kept ∙ and-false (partition_of r x == p))
   where
     and-false : (b : Bool) → (b && false) ≡ false
     and-false true = refl
@@ -64,32 +64,32 @@ arrivals-generic r w p some generic =
     let b = r.limits.buffer_size in
     let rows = overflow r w p in
     let full : arrivals (events_before r w p (length r.chunks)) ≡ length (full_pieces b rows) =
-      arrivals-before r w p (length r.chunks) some ∙ ap (λ k. k / b) (sent-all r w p) ∙ sym (length-full b rows some) in
+    arrivals-before r w p (length r.chunks) some ∙ ap (λ k. k / b) (sent-all r w p) ∙ sym (length-full b rows some) in
     let parts = ap arrivals (plan-generic r w p generic) ∙ count-append is_arrival (events_before r w p (length r.chunks)) (last_events r w p) in
     ⊎_elim
     (λ opened.
-      let all : length (payloads r w p) ≡ length (full_pieces b rows) = ap (λ o. length (if o then full_pieces b rows else pieces b rows)) opened in
-      let none : arrivals (last_events r w p) ≡ 0 = ap arrivals (last-open r w p opened) in
-      omega (arith, full, parts, all, none))
+    let all : length (payloads r w p) ≡ length (full_pieces b rows) = ap (λ o. length (if o then full_pieces b rows else pieces b rows)) opened in
+    let none : arrivals (last_events r w p) ≡ 0 = ap arrivals (last-open r w p opened) in
+    omega (arith, full, parts, all, none))
     (λ shut.
-      let all : length (payloads r w p) ≡ length (full_pieces b rows) + length (last_piece (rest_of b rows)) =
-        ap (λ o. length (if o then full_pieces b rows else pieces b rows)) shut ∙ ap (λ (ps : List (List Row)). length ps) (pieces-full_rest b rows some) ∙ length-append (full_pieces b rows) (last_piece (rest_of b rows)) in
-      let last : (l : List Row) → l ≡ rest_of b rows → arrivals (last_events r w p) ≡ length (last_piece l) = elim [
-        | [] ↦ λ is. ap arrivals (last-none r w p some (sym is))
-        | x ∷ l ↦ λ is. ap arrivals (last-one r w p some shut (subst (λ (l : List Row). 0 < length l) is (omega arith)))
-      ] in
-      omega (arith, full, parts, all, last (rest_of b rows) refl))
+    let all : length (payloads r w p) ≡ length (full_pieces b rows) + length (last_piece (rest_of b rows)) =
+    ap (λ o. length (if o then full_pieces b rows else pieces b rows)) shut ∙ ap (λ (ps : List (List Row)). length ps) (pieces-full_rest b rows some) ∙ length-append (full_pieces b rows) (last_piece (rest_of b rows)) in
+    let last : (l : List Row) → l ≡ rest_of b rows → arrivals (last_events r w p) ≡ length (last_piece l) = elim [
+      | [] ↦ λ is. ap arrivals (last-none r w p some (sym is))
+      | x ∷ l ↦ λ is. ap arrivals (last-one r w p some shut (subst (λ (l : List Row). 0 < length l) is (omega arith)))
+    ] in
+    omega (arith, full, parts, all, last (rest_of b rows) refl))
     (cases_Bool r.is_open)
 
 pub arrivals-plan : (r : Run) (w p : ℕ) → 0 < r.limits.buffer_size → arrivals (plan r w p) ≡ length (payloads r w p)
 arrivals-plan r w p some = ⊎_elim
     (λ generic. arrivals-generic r w p some generic)
     (λ typed.
-      let b = r.limits.buffer_size in
-      let none : length (payloads r w p) ≡ 0 =
-        ap (λ (rows : List Row). length (if r.is_open then full_pieces b rows else pieces b rows)) (overflow-typed r w p typed) ∙ (
-          elim r.is_open as (λ (o : Bool). length (if o then full_pieces {A = Row} b [] else pieces {A = Row} b []) ≡ 0) [ true ↦ ap (λ (ps : List (List Row)). length ps) (full-short b [] some) | false ↦ refl ]) in
-      ap arrivals (plan-typed r w p typed) ∙ sym none)
+    let b = r.limits.buffer_size in
+    let none : length (payloads r w p) ≡ 0 =
+    ap (λ (rows : List Row). length (if r.is_open then full_pieces b rows else pieces b rows)) (overflow-typed r w p typed) ∙ (
+    elim r.is_open as (λ (o : Bool). length (if o then full_pieces {A = Row} b [] else pieces {A = Row} b []) ≡ 0) [ true ↦ ap (λ (ps : List (List Row)). length ps) (full-short b [] some) | false ↦ refl ]) in
+    ap arrivals (plan-typed r w p typed) ∙ sym none)
     (cases_Bool (is_generic r.limits.sink))
 
 -- ---- one partition
@@ -104,10 +104,10 @@ pub partition-whole : (r : Run) (p : ℕ) (journal : List PartitionEvent) → 0 
 partition-whole r p journal some shut whole = λ test.
     replay-rows test r p journal whole.workers
     ∙ sum_to-same r.limits.workers (taken test r p journal) (λ w. count_by test (overflow r w p))
-      (λ w lt.
-        let all : arrivals (events_by w journal) ≡ length (payloads r w p) = ap arrivals (whole.plans w lt) ∙ arrivals-plan r w p some in
-        ap (λ (ps : List (List Row)). count_by test (joined_lists ps)) (take_all (arrivals (events_by w journal)) (payloads r w p) (omega (arith, all)))
-        ∙ ap (λ (l : List Row). count_by test l) (joined-payloads r w p some shut))
+    (λ w lt.
+    let all : arrivals (events_by w journal) ≡ length (payloads r w p) = ap arrivals (whole.plans w lt) ∙ arrivals-plan r w p some in
+    ap (λ (ps : List (List Row)). count_by test (joined_lists ps)) (take_all (arrivals (events_by w journal)) (payloads r w p) (omega (arith, all)))
+    ∙ ap (λ (l : List Row). count_by test l) (joined-payloads r w p some shut))
     ∙ sym (count-over test (λ w. overflow r w p) r.limits.workers)
 
 -- ---- all of them
@@ -129,9 +129,9 @@ count-parts {A = A} test part n (x ∷ xs) within =
     let after : ℕ → ℕ = λ k. count_by test (filter (λ x. part x == k) (x ∷ xs)) in
     let before : ℕ → ℕ = λ k. count_by test (filter (λ x. part x == k) xs) in
     let own : after (part x) ≡ before (part x) + cond (test x) 1 0 =
-      ap (λ (l : List A). count_by test l) (filter-yes (λ y. part y == part x) x xs (eq-eqb (part x) (part x) refl)) ∙ omega (arith, count-cons test x (filter (λ y. part y == part x) xs)) in
+    ap (λ (l : List A). count_by test l) (filter-yes (λ y. part y == part x) x xs (eq-eqb (part x) (part x) refl)) ∙ omega (arith, count-cons test x (filter (λ y. part y == part x) xs)) in
     let one = sum_to-one n after before (part x) (cond (test x) 1 0) within.0 own
-      (λ k apart. ap (λ (l : List A). count_by test l) (filter-no (λ y. part y == k) x xs (ne_eqb (part x) k (λ is. apart (sym is))))) in
+    (λ k apart. ap (λ (l : List A). count_by test l) (filter-no (λ y. part y == k) x xs (ne_eqb (part x) k (λ is. apart (sym is))))) in
     omega (arith, one, count-parts test part n xs within.1, count-cons test x xs)
 
 -- a worker's rows are kept, or overflow into some partition
@@ -140,10 +140,10 @@ worker-parts : (test : Row → Bool) (r : Run) (w : ℕ) → 0 < r.limits.partit
 worker-parts test r w some =
     let left = filter (λ x. not (is_kept r w x)) (of_worker r w) in
     let part : (p : ℕ) → overflow r w p ≡ filter (λ x. partition_of r x == p) left = λ p.
-      filter-same (overflows r w p) (λ x. not (is_kept r w x) && (partition_of r x == p)) (of_worker r w) (λ x. and-swap (partition_of r x == p) (not (is_kept r w x)))
-      ∙ sym (filter-filter (λ x. partition_of r x == p) (λ x. not (is_kept r w x)) (of_worker r w)) in
+    filter-same (overflows r w p) (λ x. not (is_kept r w x) && (partition_of r x == p)) (of_worker r w) (λ x. and-swap (partition_of r x == p) (not (is_kept r w x)))
+    ∙ sym (filter-filter (λ x. partition_of r x == p) (λ x. not (is_kept r w x)) (of_worker r w)) in
     let all = sum_to-same r.limits.partitions (λ p. count_by test (overflow r w p)) (λ p. count_by test (filter (λ x. partition_of r x == p) left)) (λ p lt. ap (λ (l : List Row). count_by test l) (part p))
-      ∙ count-parts test (partition_of r) r.limits.partitions left (each-any (λ x. partition_of r x < r.limits.partitions) left (λ x. mod-lt _ some)) in
+    ∙ count-parts test (partition_of r) r.limits.partitions left (each-any (λ x. partition_of r x < r.limits.partitions) left (λ x. mod-lt _ some)) in
     omega (arith, all, count-both test (is_kept r w) (of_worker r w))
   where
     and-swap : (a b : Bool) → (a && b) ≡ (b && a)
@@ -159,7 +159,7 @@ kept-sent r workers partitions = λ test.
     let keep : ℕ → ℕ = λ w. count_by test (kept_rows r w) in
     let over : ℕ → ℕ → ℕ = λ w p. count_by test (overflow r w p) in
     let sent : count_by test (flat_map (sent_to r) (range_with_len 0 r.limits.partitions)) ≡ sum_to r.limits.partitions (λ p. sum_to r.limits.workers (λ w. over w p)) =
-      count-over test (sent_to r) r.limits.partitions ∙ sum_to-same r.limits.partitions _ _ (λ p lt. count-over test (λ w. overflow r w p) r.limits.workers) in
+    count-over test (sent_to r) r.limits.partitions ∙ sum_to-same r.limits.partitions _ _ (λ p lt. count-over test (λ w. overflow r w p) r.limits.workers) in
     let each = sum_to-same r.limits.workers (λ w. keep w + sum_to r.limits.partitions (over w)) (λ w. count_by test (of_worker r w)) (λ w lt. worker-parts test r w partitions) in
     let dealt = count-parts test (λ (x : Row). x.place.chunk % r.limits.workers) r.limits.workers (all_rows r) (each-any (λ (x : Row). x.place.chunk % r.limits.workers < r.limits.workers) (all_rows r) (λ x. mod-lt x.place.chunk workers)) in
     omega (
@@ -178,8 +178,8 @@ pub all-held : (r : Run) (journals : List (List PartitionEvent)) → 0 < r.limit
     → AreWhole r journals → CountAlike (rows_held r journals) (all_rows r)
 all-held r journals workers partitions some shut whole = λ test.
     let held = count-over test (λ p. rows_of (replay r p (journal_of journals p))) r.limits.partitions
-      ∙ sum_to-same r.limits.partitions _ (λ p. count_by test (sent_to r p)) (λ p lt. partition-whole r p (journal_of journals p) some shut (whole p lt) test)
-      ∙ sym (count-over test (sent_to r) r.limits.partitions) in
+    ∙ sum_to-same r.limits.partitions _ (λ p. count_by test (sent_to r p)) (λ p lt. partition-whole r p (journal_of journals p) some shut (whole p lt) test)
+    ∙ sym (count-over test (sent_to r) r.limits.partitions) in
     omega (arith, held, count-append test (all_kept r) (replayed_rows r journals), count-append test (all_kept r) (flat_map (sent_to r) (range_with_len 0 r.limits.partitions)), kept-sent r workers partitions test)
 
 -- so their answer is that of the chunks
@@ -195,8 +195,8 @@ overflow-held r journals some shut whole =
     let m = r.limits.partitions in
     let every : (xs : List Row) → count_by (λ x. true) xs ≡ length xs = λ xs. count-all (λ x. true) xs (λ front back x is. refl) in
     let held : count_by (λ x. true) (replayed_rows r journals) ≡ sum_to m (λ p. sum_to n (λ w. length (overflow r w p))) =
-      count-over (λ x. true) (λ p. rows_of (replay r p (journal_of journals p))) m
-      ∙ sum_to-same m _ _ (λ p lt. partition-whole r p (journal_of journals p) some shut (whole p lt) (λ x. true) ∙ count-over (λ x. true) (λ w. overflow r w p) n ∙ sum_to-same n _ _ (λ w lt. every (overflow r w p))) in
+    count-over (λ x. true) (λ p. rows_of (replay r p (journal_of journals p))) m
+    ∙ sum_to-same m _ _ (λ p lt. partition-whole r p (journal_of journals p) some shut (whole p lt) (λ x. true) ∙ count-over (λ x. true) (λ w. overflow r w p) n ∙ sum_to-same n _ _ (λ w lt. every (overflow r w p))) in
     sym (every (replayed_rows r journals))
     ∙ held
     ∙ sum_to-swap m n (λ p w. length (overflow r w p))

@@ -1,5 +1,5 @@
 -- What a worker does at the end of a turn, and of its chunks.
-use Rattle.std.proofs.Common.{◌≡◌, ℕ, ◌+◌, ◌/◌, ◌%◌, ◌<◌, ◌==◌, Bool, true, false, ◌&&◌, ◌||◌, List, [], ◌∷◌, ◌++◌, length, take, Some, slice_get, refl, ap, sym, ◌∙◌, arith, length-append}
+use Rattle.std.proofs.Common.{◌≡◌, ℕ, ◌+◌, ◌/◌, ◌%◌, ◌-◌, ◌/◌, ◌<◌, ◌≤◌, ◌==◌, Bool, true, false, ◌&&◌, ◌||◌, List, [], ◌∷◌, ◌++◌, length, take, Some, slice_get, refl, ap, sym, ◌∙◌, arith, length-append}
 use Rattle.std.specs.Prelude.{if◌then◌else◌, nat_lt, replicate}
 use Rattle.std.specs.List.{slice_index_or}
 use Rattle.std.proofs.lemmas.Bool.{ne_eqb, eq-eqb}
@@ -13,23 +13,31 @@ use Rattle.pipe_plan.specs.declared.event.SpillAction.{SpillAction}
 use Rattle.pipe_plan.specs.declared.event.SpillAction.TheVariants as action
 use Rattle.pipe_plan.specs.Overflow.{overflow}
 use Rattle.pipe_plan.specs.Payloads.{full_pieces, payloads, rest_of}
-use Rattle.pipe_plan.specs.Plan.{action_at, asks, events_before, events_of, height_at, is_pick, last_events, picked_partition, plan, sent_before, turn_events}
-use Rattle.pipe_plan.specs.Progress.{events_made}
+use Rattle.pipe_plan.specs.Plan.{action_at, asks, events_before, events_of, full_before, height_at, is_pick, last_events, picked_partition, plan, turn_events}
+use Rattle.pipe_plan.specs.Progress.{events_made, rows_before}
 use Rattle.pipe_plan.specs.Replay.{arrivals, next_piece}
 use Rattle.pipe_plan.specs.Run.{is_generic, is_turn_of, Run}
 use Rattle.pipe_plan.proofs.Cutting.{last_piece, length-full, length-rest, pieces-full_rest}
 use Rattle.pipe_plan.proofs.NextEvent.{fills, next-last, next-pick, picked, plan-generic}
 use Rattle.pipe_plan.proofs.Planning.{arrivals-before, events-yes}
+use Rattle.pipe_plan.proofs.Reaching.{overflow-until, sent-until}
 use Rattle.pipe_plan.proofs.Turning.{sent-all}
 
 -- ---- the end of a turn
 
+-- with the rows of all turns before a position taken
+made-all : (r : Run) (w p i n : ℕ) → n ≤ length r.chunks → events_made r w p i (rows_before r w n) ≡ length (events_before r w p i) + (full_before r w p n - full_before r w p i)
+made-all r w p i n le =
+    ap (λ k. length (events_before r w p i) + (k / r.limits.buffer_size - full_before r w p i))
+    (ap (λ (l : List Row). length l) (sym (overflow-until r n w p)) ∙ sym (sent-until r n w p le))
+
 -- where a pick takes the partition, its event is the next
 pub pick-next : (r : Run) (w p i : ℕ) (e : PartitionEvent) → is_generic r.limits.sink ≡ true → i < length r.chunks → is_turn_of r w i ≡ true
     → is_pick r i ≡ true → picked_partition r w i ≡ p → events_of w (action_at r i) ≡ e ∷ []
-    → slice_get (plan r w p) (events_made r w p i (sent_before r w p (i + 1))) ≡ Some e
+    → slice_get (plan r w p) (events_made r w p i (rows_before r w (i + 1))) ≡ Some e
 pick-next r w p i e generic lt turn pick here one =
-    next-pick r w p i e generic lt turn
+    ap (λ k. slice_get (plan r w p) k) (made-all r w p i (i + 1) (omega arith))
+    ∙ next-pick r w p i e generic lt turn
     (ap (λ b. if b && (picked_partition r w i == p) then events_of w (action_at r i) else []) pick ∙ ap (λ b. if b then events_of w (action_at r i) else []) (eq-eqb (picked_partition r w i) p here) ∙ one)
 
 -- a pick has one event where it takes the partition
@@ -45,16 +53,16 @@ length-picked r w p i = by (nat_lt 0 (height_at r i)) (action_at r i) (picked_pa
     by true action.None here = refl
 
 -- as the turn begins, the events are those before it
-pub made-begun : (r : Run) (w p i : ℕ) → events_made r w p i (sent_before r w p i) ≡ length (events_before r w p i)
-made-begun r w p i = omega arith
+pub made-begun : (r : Run) (w p i : ℕ) → i ≤ length r.chunks → events_made r w p i (rows_before r w i) ≡ length (events_before r w p i)
+made-begun r w p i le = made-all r w p i i le ∙ omega arith
 
 -- after the turn the events are those before it, its arrivals and its pick
-pub made-turn : (r : Run) (w p i : ℕ) → is_turn_of r w i ≡ true
-    → length (events_before r w p (i + 1)) ≡ events_made r w p i (sent_before r w p (i + 1)) + (if is_pick r i && (picked_partition r w i == p) then 1 else 0)
-made-turn r w p i turn =
+pub made-turn : (r : Run) (w p i : ℕ) → i < length r.chunks → is_turn_of r w i ≡ true
+    → length (events_before r w p (i + 1)) ≡ events_made r w p i (rows_before r w (i + 1)) + (if is_pick r i && (picked_partition r w i == p) then 1 else 0)
+made-turn r w p i lt turn =
     let made = replicate (fills r w p i) (event.Arrive w) in
     ap (λ (l : List PartitionEvent). length l) (events-yes r w p i turn)
-    ∙ omega (arith, length-append (events_before r w p i) (turn_events r w p i), length-append made (picked r w p i), length-replicate (fills r w p i) (event.Arrive w), length-picked r w p i)
+    ∙ omega (arith, length-append (events_before r w p i) (turn_events r w p i), length-append made (picked r w p i), length-replicate (fills r w p i) (event.Arrive w), length-picked r w p i, made-all r w p i (i + 1) (omega arith))
 
 -- ---- the end of the chunks
 
@@ -101,7 +109,7 @@ rest-arrives r w p some generic shut any =
     let made = take (length (events_before r w p (length r.chunks))) (plan r w p) in
     let last : (l : List Row) → 0 < length l → last_piece l ≡ l ∷ [] = one in
     let all : payloads r w p ≡ full_pieces b rows ++ rest_of b rows ∷ [] =
-      ap (λ o. if o then full_pieces b rows else pieces b rows) shut ∙ pieces-full_rest b rows some ∙ ap (λ (ps : List (List Row)). full_pieces b rows ++ ps) (last (rest_of b rows) any) in
+    ap (λ o. if o then full_pieces b rows else pieces b rows) shut ∙ pieces-full_rest b rows some ∙ ap (λ (ps : List (List Row)). full_pieces b rows ++ ps) (last (rest_of b rows) any) in
     ap (λ (ps : List (List Row)). slice_index_or ps (arrivals made) []) all
     ∙ ap (λ k. slice_index_or (full_pieces b rows ++ rest_of b rows ∷ []) k []) (full-arrived r w p some generic)
     ∙ get_or-append_seam (full_pieces b rows) (rest_of b rows) [] []

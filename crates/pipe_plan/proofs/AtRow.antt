@@ -1,8 +1,9 @@
 -- What a worker does at a row: it keeps the key, waits for a full piece, or sends one.
-use Rattle.std.proofs.Common.{◌≡◌, ◌≢◌, ℕ, ◌+◌, ◌-◌, ◌/◌, ◌<◌, ◌≤◌, Bool, true, false, ◌||◌, List, [], ◌∷◌, ◌++◌, length, take, drop, Some, slice_get, ap, sym, ◌∙◌, arith, append_assoc, length-append}
+use Rattle.std.proofs.Common.{◌≡◌, ◌≢◌, ℕ, ◌+◌, ◌-◌, ◌/◌, ◌<◌, ◌≤◌, Bool, true, false, ◌||◌, List, [], ◌∷◌, ◌++◌, length, take, drop, Some, slice_get, ap, sym, ◌∙◌, arith, append_assoc, length-append, ⊎_elim}
 use Rattle.std.specs.Prelude.{if◌then◌else◌, nat_lt}
 use Rattle.std.specs.List.{slice_index_or}
 use Rattle.std.specs.Set.{is_member}
+use Rattle.std.proofs.lemmas.Bool.{cases_Bool}
 use Rattle.std.proofs.lemmas.List.{append-nil, map-append}
 use Rattle.std.proofs.lemmas.List.Elements.{filter-append}
 use Rattle.std.proofs.lemmas.Option.{slice_get_within}
@@ -21,7 +22,7 @@ use Rattle.pipe_plan.specs.Progress.{events_made, IsAtRow, sent_of}
 use Rattle.pipe_plan.specs.Replay.{arrivals, next_piece}
 use Rattle.pipe_plan.specs.Run.{is_generic, of_worker, Run}
 use Rattle.pipe_plan.proofs.Cutting.{div-filled, div-mono, div-unfilled, full-append, full-filled, last_piece, length-full, length-rest, pieces-full_rest}
-use Rattle.pipe_plan.proofs.Filtering.{filter-yes}
+use Rattle.pipe_plan.proofs.Filtering.{filter-no, filter-yes}
 use Rattle.pipe_plan.proofs.Keeping.{held-row}
 use Rattle.pipe_plan.proofs.Longer.{keys_exact, more_rows}
 use Rattle.pipe_plan.proofs.NextEvent.{arrivals-made, fills, front-trans, next-arrival}
@@ -90,7 +91,7 @@ module _ (r : Run) (w i : ℕ) (taken : List Row) (x : Row) (at : IsAtRow r w i 
       let first : (rows : List Row) → kept_keys r.limits rows ≡ first_distinct same_key n (keys_of rows) = λ rows. ap (λ b. if b then first_distinct same_key n (keys_of rows) else distinct same_key (keys_of rows)) generic in
       let key : Row → List AnyValue = λ x. x.key in
       let all : keys_of (of_worker r w) ≡ keys_of taken ++ x.key ∷ keys_of rows-split.rest =
-        ap keys_of (rows-split.is ∙ append_assoc taken (x ∷ []) rows-split.rest) ∙ map-append key taken (x ∷ rows-split.rest) in
+      ap keys_of (rows-split.is ∙ append_assoc taken (x ∷ []) rows-split.rest) ∙ map-append key taken (x ∷ rows-split.rest) in
       ap (λ (ks : List (List AnyValue)). is_member same_key ks x.key) (first (of_worker r w) ∙ ap (λ (ks : List (List AnyValue)). first_distinct same_key n ks) all)
       ∙ held-row same_key keys_exact n (keys_of taken) (keys_of rows-split.rest) x.key
       ∙ sym (ap (λ (ks : List (List AnyValue)). is_member same_key ks x.key || nat_lt (length ks) n) (first taken))
@@ -112,13 +113,26 @@ module _ (r : Run) (w i : ℕ) (taken : List Row) (x : Row) (at : IsAtRow r w i 
     full-low : full_before r w p i ≤ length (sent_of r w p taken) / r.limits.buffer_size
     full-low = div-mono (sent_before r w p i) (length (sent_of r w p taken)) r.limits.buffer_size some sent-low
 
+    -- the row is sent, or not
+    sent-yes : overflows r w p x ≡ true → length (sent_of r w p (taken ++ x ∷ [])) ≡ length (sent_of r w p taken) + 1
+    sent-yes over =
+        ap (λ (l : List Row). length l) (filter-append (overflows r w p) taken (x ∷ []) ∙ ap (λ (l : List Row). sent_of r w p taken ++ l) (filter-yes (overflows r w p) x [] over))
+        ∙ length-append (sent_of r w p taken) (x ∷ [])
+
+    sent-no : overflows r w p x ≡ false → length (sent_of r w p (taken ++ x ∷ [])) ≡ length (sent_of r w p taken)
+    sent-no not_over =
+        ap (λ (l : List Row). length l) (filter-append (overflows r w p) taken (x ∷ []) ∙ ap (λ (l : List Row). sent_of r w p taken ++ l) (filter-no (overflows r w p) x [] not_over) ∙ append-nil (sent_of r w p taken))
+
     -- ---- a row that fills no piece
 
-    pub made-unfilled : length (rest_of r.limits.buffer_size (sent_of r w p taken)) + 1 ≢ r.limits.buffer_size
-        → events_made r w p i (length (sent_of r w p taken) + 1) ≡ events_made r w p i (length (sent_of r w p taken))
-    made-unfilled not_full =
-        ap (λ k. length (events_before r w p i) + (k - full_before r w p i))
-        (div-unfilled (length (sent_of r w p taken)) r.limits.buffer_size some (λ is. not_full (omega (arith, is, length-rest r.limits.buffer_size (sent_of r w p taken) some))))
+    pub made-unfilled : (overflows r w p x ≡ true → length (rest_of r.limits.buffer_size (sent_of r w p taken)) + 1 ≢ r.limits.buffer_size)
+        → events_made r w p i (taken ++ x ∷ []) ≡ events_made r w p i taken
+    made-unfilled not_full = ⊎_elim
+        (λ over. ap (λ k. length (events_before r w p i) + (k - full_before r w p i))
+        (ap (λ k. k / r.limits.buffer_size) (sent-yes over)
+        ∙ div-unfilled (length (sent_of r w p taken)) r.limits.buffer_size some (λ is. not_full over (omega (arith, is, length-rest r.limits.buffer_size (sent_of r w p taken) some)))))
+        (λ not_over. ap (λ k. length (events_before r w p i) + (k / r.limits.buffer_size - full_before r w p i)) (sent-no not_over))
+        (cases_Bool (overflows r w p x))
 
     -- ---- a row that fills one
 
@@ -129,24 +143,24 @@ module _ (r : Run) (w i : ℕ) (taken : List Row) (x : Row) (at : IsAtRow r w i 
       few : length (sent_of r w p taken) / r.limits.buffer_size - full_before r w p i < fills r w p i
       few = omega (arith, one_more, full-low, div-mono (length (sent_of r w p taken) + 1) (sent_before r w p (i + 1)) r.limits.buffer_size some (sent-high over))
 
-      pub made-filled : events_made r w p i (length (sent_of r w p taken) + 1) ≡ events_made r w p i (length (sent_of r w p taken)) + 1
-      made-filled = ap (λ k. length (events_before r w p i) + (k - full_before r w p i)) one_more ∙ omega (arith, full-low)
+      pub made-filled : events_made r w p i (taken ++ x ∷ []) ≡ events_made r w p i taken + 1
+      made-filled = ap (λ k. length (events_before r w p i) + (k - full_before r w p i)) (ap (λ k. k / r.limits.buffer_size) (sent-yes over) ∙ one_more) ∙ omega (arith, full-low)
 
       -- its arrival is the next event
-      pub arrival-filled : is_generic r.limits.sink ≡ true → slice_get (plan r w p) (events_made r w p i (length (sent_of r w p taken))) ≡ Some (event.Arrive w)
+      pub arrival-filled : is_generic r.limits.sink ≡ true → slice_get (plan r w p) (events_made r w p i taken) ≡ Some (event.Arrive w)
       arrival-filled generic = next-arrival r w p i (length (sent_of r w p taken) / r.limits.buffer_size - full_before r w p i) generic in-chunks at.turn few
 
       -- and brings the rest with the row
       pub piece-arrives : is_generic r.limits.sink ≡ true
-          → next_piece r w p (take (events_made r w p i (length (sent_of r w p taken))) (plan r w p)) ≡ rest_of r.limits.buffer_size (sent_of r w p taken) ++ x ∷ []
+          → next_piece r w p (take (events_made r w p i taken) (plan r w p)) ≡ rest_of r.limits.buffer_size (sent_of r w p taken) ++ x ∷ []
       piece-arrives generic =
           let b = r.limits.buffer_size in
           let rows : overflow r w p ≡ sent_of r w p taken ++ x ∷ sent_of r w p rows-split.rest =
-            ap (sent_of r w p) (rows-split.is ∙ append_assoc taken (x ∷ []) rows-split.rest) ∙ filter-append (overflows r w p) taken (x ∷ rows-split.rest)
-            ∙ ap (λ (l : List Row). sent_of r w p taken ++ l) (filter-yes (overflows r w p) x rows-split.rest over) in
+          ap (sent_of r w p) (rows-split.is ∙ append_assoc taken (x ∷ []) rows-split.rest) ∙ filter-append (overflows r w p) taken (x ∷ rows-split.rest)
+          ∙ ap (λ (l : List Row). sent_of r w p taken ++ l) (filter-yes (overflows r w p) x rows-split.rest over) in
           let full = full_pieces b (sent_of r w p taken) in
           let piece = rest_of b (sent_of r w p taken) ++ x ∷ [] in
           let first : IsFront (full ++ piece ∷ []) (full_pieces b (overflow r w p)) = (let f = piece-filled b (sent_of r w p taken) (sent_of r w p rows-split.rest) x some filled in record { rest = f.rest; is = ap (λ (l : List Row). full_pieces b l) rows ∙ f.is }) in
-          get-front full (payloads r w p) piece [] (arrivals (take (events_made r w p i (length (sent_of r w p taken))) (plan r w p)))
+          get-front full (payloads r w p) piece [] (arrivals (take (events_made r w p i taken) (plan r w p)))
           (front-trans (full ++ piece ∷ []) (full_pieces b (overflow r w p)) (payloads r w p) first (payloads-full r w p some))
           (arrivals-made r w p i (length (sent_of r w p taken) / b - full_before r w p i) some generic in-chunks at.turn (omega (arith, few)) ∙ omega (arith, full-low, length-full b (sent_of r w p taken) some))

@@ -38,9 +38,9 @@ worker-in : (test : Row → Bool) (r : Run) (w p : ℕ)
 worker-in test r w p =
     let here : Row → Bool = λ x. (partition_of r x == p) && test x in
     let sent : count_by test (overflow r w p) ≡ count_by here (filter (λ x. not (is_kept r w x)) (of_worker r w)) =
-      count-filter test (overflows r w p) (of_worker r w)
-      ∙ count-same (λ x. overflows r w p x && test x) (λ x. not (is_kept r w x) && here x) (of_worker r w) (λ x. moved (partition_of r x == p) (not (is_kept r w x)) (test x))
-      ∙ sym (count-filter here (λ x. not (is_kept r w x)) (of_worker r w)) in
+    count-filter test (overflows r w p) (of_worker r w)
+    ∙ count-same (λ x. overflows r w p x && test x) (λ x. not (is_kept r w x) && here x) (of_worker r w) (λ x. moved (partition_of r x == p) (not (is_kept r w x)) (test x))
+    ∙ sym (count-filter here (λ x. not (is_kept r w x)) (of_worker r w)) in
     omega (arith, sent, count-both here (is_kept r w) (of_worker r w))
   where
     moved : (a b c : Bool) → ((a && b) && c) ≡ (b && (a && c))
@@ -130,7 +130,7 @@ module _ (r : Run) (journals : List (List PartitionEvent)) (workers : 0 < r.limi
   groups-held =
       groups-joined (all_rows r) r.query r.limits.partitions unordered partitions
       ∙ flat_map-within (λ p. groups_in r.limits.partitions r.query p (all_rows r)) (λ p. sorted_keys tuple_cmp (keys_of (partition_rows r journals p))) (range_with_len 0 r.limits.partitions)
-        (λ front back p is. partition-groups p (range-at r.limits.partitions front back p is))
+      (λ front back p is. partition-groups p (range-at r.limits.partitions front back p is))
 
   -- with the aggregates of its rows
   pub answers-held : map (answer_row r.query (all_rows r)) (groups (all_rows r) r.query r.limits.partitions)
@@ -138,9 +138,9 @@ module _ (r : Run) (journals : List (List PartitionEvent)) (workers : 0 < r.limi
   answers-held =
       answers-joined (all_rows r) r.query r.limits.partitions unordered partitions
       ∙ flat_map-within
-        (λ p. map (answer_row r.query (rows_in r.limits.partitions r.query p (all_rows r))) (groups_in r.limits.partitions r.query p (all_rows r)))
-        (λ p. map (answer_row r.query (partition_rows r journals p)) (sorted_keys tuple_cmp (keys_of (partition_rows r journals p)))) (range_with_len 0 r.limits.partitions)
-        (λ front back p is. one p (range-at r.limits.partitions front back p is))
+      (λ p. map (answer_row r.query (rows_in r.limits.partitions r.query p (all_rows r))) (groups_in r.limits.partitions r.query p (all_rows r)))
+      (λ p. map (answer_row r.query (partition_rows r journals p)) (sorted_keys tuple_cmp (keys_of (partition_rows r journals p)))) (range_with_len 0 r.limits.partitions)
+      (λ front back p is. one p (range-at r.limits.partitions front back p is))
     where
       one : (p : ℕ) → p < r.limits.partitions
           → map (answer_row r.query (rows_in r.limits.partitions r.query p (all_rows r))) (groups_in r.limits.partitions r.query p (all_rows r))
@@ -149,5 +149,5 @@ module _ (r : Run) (journals : List (List PartitionEvent)) (workers : 0 < r.limi
           let theirs = rows_in r.limits.partitions r.query p (all_rows r) in
           let mine = partition_rows r journals p in
           let same : (key : List AnyValue) → answer_row r.query theirs key ≡ answer_row r.query mine key = λ key.
-            answer_row-alike theirs mine r.query key (λ test. sym (partition-alike r journals p workers some shut lt whole test)) (λ _. distinct-filter (λ x. partition_of r x == p) (all_rows r) (rows-distinct r.chunks r.query)) in
+          answer_row-alike theirs mine r.query key (λ test. sym (partition-alike r journals p workers some shut lt whole test)) (λ _. distinct-filter (λ x. partition_of r x == p) (all_rows r) (rows-distinct r.chunks r.query)) in
           λ i. map (λ key. same key i) (partition-groups p lt i)

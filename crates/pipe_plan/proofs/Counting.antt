@@ -37,7 +37,7 @@ pub whole-one : (r : Run) (p : ℕ) (journal : List PartitionEvent) → IsWithin
 whole-one r p journal within all = record {
   workers = within.workers;
   plans = λ w lt. front-whole (events_by w journal) (plan r w p) (within.plans w lt)
-    (sum_to-tight r.limits.workers (λ w. length (events_by w journal)) (λ w. length (plan r w p)) (λ w lt. front-le (events_by w journal) (plan r w p) (within.plans w lt)) (omega (arith, all, length-journal r journal within.workers)) w lt);
+      (sum_to-tight r.limits.workers (λ w. length (events_by w journal)) (λ w. length (plan r w p)) (λ w lt. front-le (events_by w journal) (plan r w p) (within.plans w lt)) (omega (arith, all, length-journal r journal within.workers)) w lt);
 }
 
 -- in all
@@ -46,8 +46,8 @@ whole-all r journals within all p lt =
     let made : ℕ → ℕ = λ p. length (journal_of journals p) in
     let planned : ℕ → ℕ = λ p. sum_to r.limits.workers (λ w. length (plan r w p)) in
     let fewer : (p : ℕ) → p < r.limits.partitions → made p ≤ planned p = λ p lt.
-      omega (arith, length-journal r (journal_of journals p) (within p lt).workers, sum_to-le r.limits.workers (λ w. length (events_by w (journal_of journals p))) (λ w. length (plan r w p)) (λ w below. front-le _ _ ((within p lt).plans w below))) in
+    omega (arith, length-journal r (journal_of journals p) (within p lt).workers, sum_to-le r.limits.workers (λ w. length (events_by w (journal_of journals p))) (λ w. length (plan r w p)) (λ w below. front-le _ _ ((within p lt).plans w below))) in
     let planned_is : planned_count r ≡ sum_to r.limits.partitions planned =
-      sum_to-range r.limits.partitions (λ p. sum_by (λ w. length (plan r w p)) (range_with_len 0 r.limits.workers)) ∙ sum_to-same r.limits.partitions _ planned (λ p lt. sum_to-range r.limits.workers (λ w. length (plan r w p))) in
+    sum_to-range r.limits.partitions (λ p. sum_by (λ w. length (plan r w p)) (range_with_len 0 r.limits.workers)) ∙ sum_to-same r.limits.partitions _ planned (λ p lt. sum_to-range r.limits.workers (λ w. length (plan r w p))) in
     let made_is : journal_count r journals ≡ sum_to r.limits.partitions made = sum_to-range r.limits.partitions made in
     whole-one r p (journal_of journals p) (within p lt) (omega (arith, sum_to-tight r.limits.partitions made planned fewer (omega (arith, all, planned_is, made_is)) p lt))

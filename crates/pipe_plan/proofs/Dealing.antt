@@ -29,9 +29,9 @@ same-turn n i k some same low high =
     ⊎_elim
     (λ is. omega (arith, here, there, same, ap (λ q. q * n) is))
     (λ apart. ⊎_elim
-      (λ less. absurd (omega (arith, here, there, same, low, mul-le-mul_right {m = k / n + 1} {n = i / n} n (omega arith))))
-      (λ more. absurd (omega (arith, here, there, same, high, mul-le-mul_right {m = i / n + 1} {n = k / n} n (omega arith))))
-      apart)
+    (λ less. absurd (omega (arith, here, there, same, low, mul-le-mul_right {m = k / n + 1} {n = i / n} n (omega arith))))
+    (λ more. absurd (omega (arith, here, there, same, high, mul-le-mul_right {m = i / n + 1} {n = k / n} n (omega arith))))
+    apart)
     (cases_order (k / n) (i / n))
 
 -- the turn j of a worker
@@ -54,10 +54,10 @@ pub turns-after : (r : Run) (w i n : ℕ) → 0 < r.limits.workers → is_turn_o
 turns-after r w i n some turn low high =
     let gap = range_with_len (0 + (i + 1)) (n - (i + 1)) in
     let none : filter (is_turn_of r w) gap ≡ [] = filter-none (is_turn_of r w) gap
-      (λ front back k is.
-        let least : 0 + (i + 1) ≤ k = each-at (λ k. 0 + (i + 1) ≤ k) gap front back k (range-behind (0 + (i + 1)) (n - (i + 1))) is in
-        let most : k < 0 + (i + 1) + (n - (i + 1)) = each-at (λ k. k < 0 + (i + 1) + (n - (i + 1))) gap front back k (range-before (0 + (i + 1)) (n - (i + 1))) is in
-        ne_eqb (k % r.limits.workers) w (λ at. absurd (omega (arith, least, same-turn r.limits.workers i k some (at ∙ sym (eqb-true (i % r.limits.workers) w turn)) (omega (arith, least)) (omega (arith, most, high, low)))))) in
+    (λ front back k is.
+    let least : 0 + (i + 1) ≤ k = each-at (λ k. 0 + (i + 1) ≤ k) gap front back k (range-behind (0 + (i + 1)) (n - (i + 1))) is in
+    let most : k < 0 + (i + 1) + (n - (i + 1)) = each-at (λ k. k < 0 + (i + 1) + (n - (i + 1))) gap front back k (range-before (0 + (i + 1)) (n - (i + 1))) is in
+    ne_eqb (k % r.limits.workers) w (λ at. absurd (omega (arith, least, same-turn r.limits.workers i k some (at ∙ sym (eqb-true (i % r.limits.workers) w turn)) (omega (arith, least)) (omega (arith, most, high, low)))))) in
     ap (λ k. turns_before r w k) {x = n} {y = (i + 1) + (n - (i + 1))} (omega arith)
     ∙ turns-append r w (i + 1) (n - (i + 1))
     ∙ ap (λ (l : List ℕ). turns_before r w (i + 1) ++ l) none
@@ -69,8 +69,8 @@ pub turns-first : (r : Run) (w n : ℕ) → w < r.limits.workers → n ≤ w →
 turns-first r w n lt le =
     filter-none (is_turn_of r w) (range_with_len 0 n)
     (λ front back k is.
-      let below = range-at n front back k is in
-      ne_eqb (k % r.limits.workers) w (λ at. absurd (omega (arith, at, below, mod-eq_of_lt {n = k} {m = r.limits.workers} (omega (arith, below)))))) 
+    let below = range-at n front back k is in
+    ne_eqb (k % r.limits.workers) w (λ at. absurd (omega (arith, at, below, mod-eq_of_lt {n = k} {m = r.limits.workers} (omega (arith, below))))))
 
 -- ---- rows
 
@@ -88,11 +88,11 @@ rows-by-turn r w (suc n) le =
     let e = element-at r.chunks n (omega arith) in
     let here : turn_rows r n ≡ chunk_rows r.query n e.0.frame = ap (λ c. option_map_or (λ c. chunk_rows r.query n c.frame) c []) e.1 in
     let step : of_worker (run_until r (n + 1)) w ≡ flat_map (turn_rows r) (turns_before r w (n + 1)) = ⊎_elim
-      (λ turn.
-        worker-yes r w n e.0 e.1 turn
-        ∙ ap (λ (l : List Row). l ++ chunk_rows r.query n e.0.frame) before
-        ∙ ap (λ (l : List Row). flat_map (turn_rows r) (turns_before r w n) ++ l) (sym here ∙ sym (append-nil (turn_rows r n)))
-        ∙ sym (ap (λ (l : List ℕ). flat_map (turn_rows r) l) (turns-yes r w n turn) ∙ flat_map-append (turn_rows r) (turns_before r w n) (n ∷ [])))
-      (λ other. worker-no r w n e.0 e.1 other ∙ before ∙ sym (ap (λ (l : List ℕ). flat_map (turn_rows r) l) (turns-no r w n other)))
-      (cases_Bool (is_turn_of r w n)) in
+    (λ turn.
+    worker-yes r w n e.0 e.1 turn
+    ∙ ap (λ (l : List Row). l ++ chunk_rows r.query n e.0.frame) before
+    ∙ ap (λ (l : List Row). flat_map (turn_rows r) (turns_before r w n) ++ l) (sym here ∙ sym (append-nil (turn_rows r n)))
+    ∙ sym (ap (λ (l : List ℕ). flat_map (turn_rows r) l) (turns-yes r w n turn) ∙ flat_map-append (turn_rows r) (turns_before r w n) (n ∷ [])))
+    (λ other. worker-no r w n e.0 e.1 other ∙ before ∙ sym (ap (λ (l : List ℕ). flat_map (turn_rows r) l) (turns-no r w n other)))
+    (cases_Bool (is_turn_of r w n)) in
     ap (λ k. of_worker (run_until r k) w) {x = suc n} {y = n + 1} (omega arith) ∙ step ∙ ap (λ k. flat_map (turn_rows r) (turns_before r w k)) {x = n + 1} {y = suc n} (omega arith)

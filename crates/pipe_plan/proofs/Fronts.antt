@@ -95,8 +95,8 @@ module _ (r : Run) (o : Bool) (chunks : List DataChunk) (stores : List StoreSeen
       let s = longer_run r o chunks stores in
       ⊎_elim
       (λ generic.
-        front-of (events_before s w p (length r.chunks)) (plan r w p) (plan s w p) (plan-open r w p opened generic ∙ sym (events-later r o chunks stores w p (length r.chunks) (omega arith)))
-        (plan-front s w p (length r.chunks) generic (omega (arith, length-append r.chunks chunks))))
+      front-of (events_before s w p (length r.chunks)) (plan r w p) (plan s w p) (plan-open r w p opened generic ∙ sym (events-later r o chunks stores w p (length r.chunks) (omega arith)))
+      (plan-front s w p (length r.chunks) generic (omega (arith, length-append r.chunks chunks))))
       (λ typed. typed-front r s w p typed)
       (cases_Bool (is_generic r.limits.sink))
 
@@ -146,7 +146,7 @@ arrivals-within r w p events some f =
 pub arrivals-at : (w : ℕ) (front back : List PartitionEvent) → arrivals (events_by w front) < arrivals (events_by w (front ++ event.Arrive w ∷ back))
 arrivals-at w front back =
     let parts : events_by w (front ++ event.Arrive w ∷ back) ≡ events_by w front ++ event.Arrive w ∷ events_by w back =
-      filter-append (λ e. worker_of e == w) front (event.Arrive w ∷ back) ∙ ap (λ (l : List PartitionEvent). events_by w front ++ l) (filter-yes (λ e. worker_of e == w) (event.Arrive w) back (eq-eqb w w refl)) in
+    filter-append (λ e. worker_of e == w) front (event.Arrive w ∷ back) ∙ ap (λ (l : List PartitionEvent). events_by w front ++ l) (filter-yes (λ e. worker_of e == w) (event.Arrive w) back (eq-eqb w w refl)) in
     omega (arith, ap arrivals parts, count-append is_arrival (events_by w front) (event.Arrive w ∷ events_by w back), count-append is_arrival (event.Arrive w ∷ []) (events_by w back))
 
 -- the worker of an event of a run's workers
@@ -159,11 +159,11 @@ pub replay-front : (r s : Run) (p : ℕ) (journal : List PartitionEvent) → 0 <
 replay-front r s p journal some limit fronts within =
     replay_from-same r s p [] nothing_yet journal limit
     (λ front back w is.
-      let f = fronts w in
-      let k = arrivals (events_by w front) in
-      let lt : k < length (payloads r w p) =
-        omega (arith, arrivals-at w front back, ap (λ (l : List PartitionEvent). arrivals (events_by w l)) is, arrivals-within r w p (events_by w journal) some (within.plans w (mine r front back (event.Arrive w) journal within.workers is))) in
-      ap (λ (ps : List (List Row)). slice_index_or ps k []) f.is ∙ get_or_append_left (payloads r w p) f.rest [] k lt)
+    let f = fronts w in
+    let k = arrivals (events_by w front) in
+    let lt : k < length (payloads r w p) =
+    omega (arith, arrivals-at w front back, ap (λ (l : List PartitionEvent). arrivals (events_by w l)) is, arrivals-within r w p (events_by w journal) some (within.plans w (mine r front back (event.Arrive w) journal within.workers is))) in
+    ap (λ (ps : List (List Row)). slice_index_or ps k []) f.is ∙ get_or_append_left (payloads r w p) f.rest [] k lt)
 
 pub replay-on : (r s : Run) (p : ℕ) (journal : List PartitionEvent) → GoesOn r s → 0 < r.limits.buffer_size → r.is_open ≡ true → IsWithin r p journal → replay s p journal ≡ replay r p journal
 replay-on r s p journal on some opened within = replay-front r s p journal some (ap (λ (l : Limits). l.payload_limit) on.limits) (λ w. payloads-on r s on w p some opened) within

@@ -45,7 +45,7 @@ module _ {A : Type 0} (same : A → A → Bool) (exact : IsExact same) where
       let rest = is_member-filter x q ys apart in
       ⊎_elim
       (λ yes. let gone : same q y ≡ false = ap (λ z. same q z) (exact.apart y x yes) ∙ apart in
-        ap (λ (l : List A). is_member same l q) (filter-no (λ y. not (same y x)) y ys (ap not yes)) ∙ rest ∙ sym (ap (λ b. b || is_member same ys q) gone))
+      ap (λ (l : List A). is_member same l q) (filter-no (λ y. not (same y x)) y ys (ap not yes)) ∙ rest ∙ sym (ap (λ b. b || is_member same ys q) gone))
       (λ no. ap (λ (l : List A). is_member same l q) (filter-yes (λ y. not (same y x)) y ys (ap not no)) ∙ ap (λ b. same q y || b) rest)
       (cases_Bool (same y x))
 
@@ -97,12 +97,12 @@ module _ {A : Type 0} (same : A → A → Bool) (exact : IsExact same) where
   pub held-decided : (n : ℕ) (xs ys : List A) (q : A) → is_member same xs q ≡ true → is_member same (first_distinct same n (xs ++ ys)) q ≡ is_member same (first_distinct same n xs) q
   held-decided n xs ys q came = ⊎_elim
       (λ lt.
-        let held : is_member same (distinct same xs) q ≡ true = is_member-distinct same exact xs q ∙ came in
-        let news = take (n - length (distinct same xs)) (filter (λ y. not (is_member same xs y)) (distinct same ys)) in
-        ap (λ (l : List A). is_member same l q) (held-append same n xs ys (omega arith))
-        ∙ is_member-append same (distinct same xs) news q
-        ∙ ap (λ b. b || is_member same news q) held
-        ∙ sym (ap (λ (l : List A). is_member same l q) (held-all same n xs (omega arith)) ∙ held))
+      let held : is_member same (distinct same xs) q ≡ true = is_member-distinct same exact xs q ∙ came in
+      let news = take (n - length (distinct same xs)) (filter (λ y. not (is_member same xs y)) (distinct same ys)) in
+      ap (λ (l : List A). is_member same l q) (held-append same n xs ys (omega arith))
+      ∙ is_member-append same (distinct same xs) news q
+      ∙ ap (λ b. b || is_member same news q) held
+      ∙ sym (ap (λ (l : List A). is_member same l q) (held-all same n xs (omega arith)) ∙ held))
       (λ ge. ap (λ (l : List A). is_member same l q) (held-full same n xs ys ge))
       (cases_lt (length (distinct same xs)) n)
 
@@ -114,13 +114,13 @@ module _ {A : Type 0} (same : A → A → Bool) (exact : IsExact same) where
       ap (λ (l : List A). is_member same l x) (held-append same n xs (x ∷ ys) (omega arith))
       ∙ is_member-append same (distinct same xs) (take n' news) x
       ∙ ⊎_elim
-        (λ came. ap (λ b. b || is_member same (take n' news) x) (is_member-distinct same exact xs x ∙ came))
-        (λ new.
-          let first : news ≡ x ∷ filter (λ y. not (is_member same xs y)) (filter (λ y. not (same y x)) (distinct same ys)) = filter-yes (λ y. not (is_member same xs y)) x (filter (λ y. not (same y x)) (distinct same ys)) (ap not new) in
-          ap (λ b. b || is_member same (take n' news) x) (is_member-distinct same exact xs x ∙ new)
-          ∙ ap (λ (l : List A). is_member same (take n' l) x) first
-          ∙ first_held n' x (filter (λ y. not (is_member same xs y)) (filter (λ y. not (same y x)) (distinct same ys))) (omega (arith, lt)))
-        (cases_Bool (is_member same xs x))
+      (λ came. ap (λ b. b || is_member same (take n' news) x) (is_member-distinct same exact xs x ∙ came))
+      (λ new.
+      let first : news ≡ x ∷ filter (λ y. not (is_member same xs y)) (filter (λ y. not (same y x)) (distinct same ys)) = filter-yes (λ y. not (is_member same xs y)) x (filter (λ y. not (same y x)) (distinct same ys)) (ap not new) in
+      ap (λ b. b || is_member same (take n' news) x) (is_member-distinct same exact xs x ∙ new)
+      ∙ ap (λ (l : List A). is_member same (take n' l) x) first
+      ∙ first_held n' x (filter (λ y. not (is_member same xs y)) (filter (λ y. not (same y x)) (distinct same ys))) (omega (arith, lt)))
+      (cases_Bool (is_member same xs x))
     where
       first_held : (k : ℕ) (x : A) (ys : List A) → 0 < k → is_member same (take k (x ∷ ys)) x ≡ true
       first_held zero x ys some = absurd (omega arith)
@@ -130,18 +130,19 @@ module _ {A : Type 0} (same : A → A → Bool) (exact : IsExact same) where
   pub held-row : (n : ℕ) (xs ys : List A) (x : A) → is_member same (first_distinct same n (xs ++ x ∷ ys)) x ≡ (is_member same (first_distinct same n xs) x || nat_lt (length (first_distinct same n xs)) n)
   held-row n xs ys x = ⊎_elim
       (λ lt.
-        let all = held-all same n xs (omega arith) in
-        let room : nat_lt (length (first_distinct same n xs)) n ≡ true = lt-ltb (length (first_distinct same n xs)) n (omega (arith, length-take n (distinct same xs))) in
-        held-one n xs ys x lt ∙ sym (ap (λ b. is_member same (first_distinct same n xs) x || b) room ∙ or-true (is_member same (first_distinct same n xs) x)))
+      let all = held-all same n xs (omega arith) in
+      let room : nat_lt (length (first_distinct same n xs)) n ≡ true = lt-ltb (length (first_distinct same n xs)) n (omega (arith, length-take n (distinct same xs))) in
+      held-one n xs ys x lt ∙ sym (ap (λ b. is_member same (first_distinct same n xs) x || b) room ∙ or-true (is_member same (first_distinct same n xs) x)))
       (λ ge.
-        let none : nat_lt (length (first_distinct same n xs)) n ≡ false = le-ltb (length (first_distinct same n xs)) n (omega (arith, length-take n (distinct same xs))) in
-        ap (λ (l : List A). is_member same l x) (held-full same n xs (x ∷ ys) ge)
-        ∙ sym (ap (λ b. is_member same (first_distinct same n xs) x || b) none ∙ or-false (is_member same (first_distinct same n xs) x)))
+      let none : nat_lt (length (first_distinct same n xs)) n ≡ false = le-ltb (length (first_distinct same n xs)) n (omega (arith, length-take n (distinct same xs))) in
+      ap (λ (l : List A). is_member same l x) (held-full same n xs (x ∷ ys) ge)
+      ∙ sym (ap (λ b. is_member same (first_distinct same n xs) x || b) none ∙ or-false (is_member same (first_distinct same n xs) x)))
       (cases_lt (length (distinct same xs)) n)
     where
       or-true : (b : Bool) → (b || true) ≡ true
       or-true true = refl
       or-true false = refl
+
       or-false : (b : Bool) → (b || false) ≡ b
       or-false true = refl
       or-false false = refl

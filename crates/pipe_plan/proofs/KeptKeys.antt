@@ -35,7 +35,7 @@ kept-new l taken x generic new room =
     let are = held-are l taken generic in
     one-more l taken x generic
     ∙ held-new same_key keys_exact (l.spill_size + 1) (keys_of taken) x.key (sym (ap (λ (ks : List (List AnyValue)). is_member same_key ks x.key) are) ∙ new)
-      (omega (arith, room, ap (λ (ks : List (List AnyValue)). length ks) are))
+    (omega (arith, room, ap (λ (ks : List (List AnyValue)). length ks) are))
     ∙ ap (λ (ks : List (List AnyValue)). ks ++ x.key ∷ []) (sym are)
 
 pub kept-full : (l : Limits) (taken : List Row) (x : Row) → is_generic l.sink ≡ true → l.spill_size < length (kept_keys l taken) → kept_keys l (taken ++ x ∷ []) ≡ kept_keys l taken

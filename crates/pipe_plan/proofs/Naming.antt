@@ -64,8 +64,8 @@ not_next r before v n h =
     let k = arrivals (events_by v before) in
     ⊎_elim
     (λ is.
-      let apart : n.number ≢ k = λ at. absurd (omega (arith, at, h.1, ap (λ w. arrivals (events_by w before)) is)) in
-      ap (λ b. (n.worker == v) && b) (ne_eqb n.number k apart) ∙ and-false (n.worker == v))
+    let apart : n.number ≢ k = λ at. absurd (omega (arith, at, h.1, ap (λ w. arrivals (events_by w before)) is)) in
+    ap (λ b. (n.worker == v) && b) (ne_eqb n.number k apart) ∙ and-false (n.worker == v))
     (λ apart. ap (λ b. b && (n.number == k)) (ne_eqb n.worker v apart))
     (cases_eq n.worker v)
   where
@@ -85,7 +85,7 @@ named-event r p before s (event.Arrive v) lt named =
       frame_rows = named.frame_rows;
       apart = subst (IsDistinct same_piece) longer (distinct-push same_piece old name named.apart (each-more (Arrived r before) (λ n. same_piece n name ≡ false) old (not_next r before v) named.arrived));
       arrived = subst (AllByRecursion (Arrived r (before ++ event.Arrive v ∷ []))) longer
-        (each-append (Arrived r (before ++ event.Arrive v ∷ [])) old (name ∷ []) (still-arrived r before (event.Arrive v) old named.arrived) ((lt, omega (arith, arrivals-own v before)), tt));
+          (each-append (Arrived r (before ++ event.Arrive v ∷ [])) old (name ∷ []) (still-arrived r before (event.Arrive v) old named.arrived) ((lt, omega (arith, arrivals-own v before)), tt));
     }
 named-event r p before s (event.Merge v) lt named = record {
   waiting = [];
@@ -94,26 +94,26 @@ named-event r p before s (event.Merge v) lt named = record {
   frame_rows = named.frame_rows;
   apart = subst (IsDistinct same_piece) (sym (append-nil (joined_lists named.frames))) (distinct-front same_piece (joined_lists named.frames) named.waiting named.apart);
   arrived = subst (AllByRecursion (Arrived r (before ++ event.Merge v ∷ []))) (sym (append-nil (joined_lists named.frames)))
-    (each-front (Arrived r (before ++ event.Merge v ∷ [])) (joined_lists named.frames) named.waiting (still-arrived r before (event.Merge v) (joined_lists named.frames ++ named.waiting) named.arrived));
+      (each-front (Arrived r (before ++ event.Merge v ∷ [])) (joined_lists named.frames) named.waiting (still-arrived r before (event.Merge v) (joined_lists named.frames ++ named.waiting) named.arrived));
 }
 named-event r p before s (event.Dump v) lt named =
     let put : Replayed = record s { frames = s.frames ++ joined_lists s.waiting ∷ []; waiting = [] } in
     let names = joined_lists named.frames ++ named.waiting in
     let still = still-arrived r before (event.Dump v) names named.arrived in
     let all : joined_lists (named.frames ++ named.waiting ∷ []) ++ [] ≡ names =
-      append-nil (joined_lists (named.frames ++ named.waiting ∷ [])) ∙ joined-append named.frames (named.waiting ∷ []) ∙ ap (λ (l : List PieceName). joined_lists named.frames ++ l) (append-nil named.waiting) in
+    append-nil (joined_lists (named.frames ++ named.waiting ∷ [])) ∙ joined-append named.frames (named.waiting ∷ []) ∙ ap (λ (l : List PieceName). joined_lists named.frames ++ l) (append-nil named.waiting) in
     elim (nat_lt r.limits.payload_limit (length s.waiting)) as (λ b. AreNamed r p (before ++ event.Dump v ∷ []) (if b then put else s)) [
       | true ↦ record {
-          waiting = [];
-          frames = named.frames ++ named.waiting ∷ [];
-          waiting_rows = refl;
-          frame_rows =
-              ap (λ (fs : List (List Row)). fs ++ joined_lists s.waiting ∷ []) named.frame_rows
-              ∙ ap (λ (l : List Row). map (λ part. flat_map (piece_rows r p) part) named.frames ++ l ∷ []) (ap joined_lists named.waiting_rows ∙ flat_map-map (λ (piece : List Row). piece) (piece_rows r p) named.waiting)
-              ∙ sym (map-append (λ (part : List PieceName). flat_map (piece_rows r p) part) named.frames (named.waiting ∷ []));
-          apart = subst (IsDistinct same_piece) (sym all) named.apart;
-          arrived = subst (AllByRecursion (Arrived r (before ++ event.Dump v ∷ []))) (sym all) still;
-        }
+        waiting = [];
+        frames = named.frames ++ named.waiting ∷ [];
+        waiting_rows = refl;
+        frame_rows =
+            ap (λ (fs : List (List Row)). fs ++ joined_lists s.waiting ∷ []) named.frame_rows
+            ∙ ap (λ (l : List Row). map (λ part. flat_map (piece_rows r p) part) named.frames ++ l ∷ []) (ap joined_lists named.waiting_rows ∙ flat_map-map (λ (piece : List Row). piece) (piece_rows r p) named.waiting)
+            ∙ sym (map-append (λ (part : List PieceName). flat_map (piece_rows r p) part) named.frames (named.waiting ∷ []));
+        apart = subst (IsDistinct same_piece) (sym all) named.apart;
+        arrived = subst (AllByRecursion (Arrived r (before ++ event.Dump v ∷ []))) (sym all) still;
+      }
       | false ↦ record { waiting = named.waiting; frames = named.frames; waiting_rows = named.waiting_rows; frame_rows = named.frame_rows; apart = named.apart; arrived = still }
     ]
 
@@ -134,6 +134,6 @@ frames-apart r p journal some within =
       rows = named.frame_rows;
       apart = distinct-front same_piece (joined_lists named.frames) named.waiting named.apart;
       pieces = All-from_recursion (IsPiece r p) (joined_lists named.frames)
-        (each-more (Arrived r journal) (IsPiece r p) (joined_lists named.frames) (λ n h. (h.0, omega (arith, h.1, arrivals-within r n.worker p (events_by n.worker journal) some (within.plans n.worker h.0))))
-        (each-front (Arrived r journal) (joined_lists named.frames) named.waiting named.arrived));
+          (each-more (Arrived r journal) (IsPiece r p) (joined_lists named.frames) (λ n h. (h.0, omega (arith, h.1, arrivals-within r n.worker p (events_by n.worker journal) some (within.plans n.worker h.0))))
+          (each-front (Arrived r journal) (joined_lists named.frames) named.waiting named.arrived));
     }

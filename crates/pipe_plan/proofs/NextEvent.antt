@@ -122,8 +122,8 @@ arrivals-made r w p i k some generic lt turn few =
     let made = replicate (fills r w p i) (event.Arrive w) in
     let short : k ≤ length made = omega (arith, few, length-replicate (fills r w p i) (event.Arrive w)) in
     let taken : take (length (events_before r w p i) + k) (plan r w p) ≡ events_before r w p i ++ replicate k (event.Arrive w) =
-      ap (λ (l : List PartitionEvent). take (length (events_before r w p i) + k) l) at.is
-      ∙ take-append-add (events_before r w p i) (made ++ (picked r w p i ++ at.rest)) k
-      ∙ ap (λ (l : List PartitionEvent). events_before r w p i ++ l) (take-append-le k made (picked r w p i ++ at.rest) short ∙ take-replicate k (fills r w p i) (event.Arrive w) few) in
+    ap (λ (l : List PartitionEvent). take (length (events_before r w p i) + k) l) at.is
+    ∙ take-append-add (events_before r w p i) (made ++ (picked r w p i ++ at.rest)) k
+    ∙ ap (λ (l : List PartitionEvent). events_before r w p i ++ l) (take-append-le k made (picked r w p i ++ at.rest) short ∙ take-replicate k (fills r w p i) (event.Arrive w) few) in
     ap (λ (l : List PartitionEvent). arrivals l) taken
     ∙ omega (arith, count-append is_arrival (events_before r w p i) (replicate k (event.Arrive w)), arrivals-before r w p i some, arrivals-replicate w k)

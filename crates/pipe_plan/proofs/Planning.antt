@@ -72,9 +72,9 @@ pub sent-no : (r : Run) (w p n : ℕ) → is_turn_of r w n ≡ false → sent_be
 sent-no r w p n not_mine =
     count-within (λ (x : Row). nat_lt x.place.chunk (n + 1)) (λ (x : Row). nat_lt x.place.chunk n) (overflow r w p)
     (λ front back x is.
-      let mine = each-at (λ (x : Row). is_turn_of r w x.place.chunk ≡ true) (overflow r w p) front back x (overflow-mine r w p) is in
-      let apart : x.place.chunk ≢ n = λ at. false≢true (sym not_mine ∙ (sym (ap (is_turn_of r w) at) ∙ mine)) in
-      grind (arith, nat_tests))
+    let mine = each-at (λ (x : Row). is_turn_of r w x.place.chunk ≡ true) (overflow r w p) front back x (overflow-mine r w p) is in
+    let apart : x.place.chunk ≢ n = λ at. false≢true (sym not_mine ∙ (sym (ap (is_turn_of r w) at) ∙ mine)) in
+    grind (arith, nat_tests))
 
 -- a test that another one implies counts no more
 count-le : {A : Type 0} (test other : A → Bool) (xs : List A) → ((x : A) → test x ≡ true → other x ≡ true) → count_by test xs ≤ count_by other xs
@@ -114,11 +114,11 @@ arrivals-before r w p zero some =
 arrivals-before r w p (suc n) some =
     let rest = arrivals-before r w p n some in
     let step : arrivals (events_before r w p (n + 1)) ≡ full_before r w p (n + 1) = ⊎_elim
-      (λ yes.
-        let pick = if is_pick r n && (picked_partition r w n == p) then events_of w (action_at r n) else [] in
-        let made = replicate (full_before r w p (n + 1) - full_before r w p n) (event.Arrive w) in
-        ap arrivals (events-yes r w p n yes)
-        ∙ omega (arith, count-append is_arrival (events_before r w p n) (turn_events r w p n), count-append is_arrival made pick, arrivals-replicate w (full_before r w p (n + 1) - full_before r w p n), arrivals-pick w (action_at r n) (is_pick r n && (picked_partition r w n == p)), full-le r w p n some, rest))
-      (λ no. ap arrivals (events-no r w p n no) ∙ rest ∙ sym (ap (λ k. k / r.limits.buffer_size) (sent-no r w p n no)))
-      (cases_Bool (is_turn_of r w n)) in
+    (λ yes.
+    let pick = if is_pick r n && (picked_partition r w n == p) then events_of w (action_at r n) else [] in
+    let made = replicate (full_before r w p (n + 1) - full_before r w p n) (event.Arrive w) in
+    ap arrivals (events-yes r w p n yes)
+    ∙ omega (arith, count-append is_arrival (events_before r w p n) (turn_events r w p n), count-append is_arrival made pick, arrivals-replicate w (full_before r w p (n + 1) - full_before r w p n), arrivals-pick w (action_at r n) (is_pick r n && (picked_partition r w n == p)), full-le r w p n some, rest))
+    (λ no. ap arrivals (events-no r w p n no) ∙ rest ∙ sym (ap (λ k. k / r.limits.buffer_size) (sent-no r w p n no)))
+    (cases_Bool (is_turn_of r w n)) in
     ap (λ k. arrivals (events_before r w p k)) {x = suc n} {y = n + 1} (omega arith) ∙ step ∙ ap (λ k. full_before r w p k) {x = n + 1} {y = suc n} (omega arith)

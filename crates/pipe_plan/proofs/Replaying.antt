@@ -40,10 +40,10 @@ replay_from-same r s p before state [] limit same = refl
 replay_from-same r s p before state (e ∷ events) limit same =
     ap (λ (x : Replayed). replay_from s p (before ++ e ∷ []) x events) (one e (λ w is. sym (ap (λ (l : List PartitionEvent). next_piece s w p (events_by w l)) (append-nil before)) ∙ same [] events w (ap (λ d. d ∷ events) is) ∙ ap (λ (l : List PartitionEvent). next_piece r w p (events_by w l)) (append-nil before)))
     ∙ replay_from-same r s p (before ++ e ∷ []) (after_event r p before state e) events limit
-      (λ front back w is.
-        ap (λ (l : List PartitionEvent). next_piece s w p (events_by w l)) (append_assoc before (e ∷ []) front)
-        ∙ same (e ∷ front) back w (ap (λ (l : List PartitionEvent). e ∷ l) is)
-        ∙ ap (λ (l : List PartitionEvent). next_piece r w p (events_by w l)) (sym (append_assoc before (e ∷ []) front)))
+    (λ front back w is.
+    ap (λ (l : List PartitionEvent). next_piece s w p (events_by w l)) (append_assoc before (e ∷ []) front)
+    ∙ same (e ∷ front) back w (ap (λ (l : List PartitionEvent). e ∷ l) is)
+    ∙ ap (λ (l : List PartitionEvent). next_piece r w p (events_by w l)) (sym (append_assoc before (e ∷ []) front)))
   where
     one : (e : PartitionEvent) → ((w : ℕ) → e ≡ event.Arrive w → next_piece s w p (events_by w before) ≡ next_piece r w p (events_by w before)) → after_event s p before state e ≡ after_event r p before state e
     one (event.Arrive w) pieces = ap (λ (piece : List Row). after_arrival piece state) (pieces w refl)
@@ -67,9 +67,9 @@ arrivals-other w events e apart =
 pub arrivals-still : (w : ℕ) (events : List PartitionEvent) (e : PartitionEvent) → is_arrival e ≡ false → arrivals (events_by w (events ++ e ∷ [])) ≡ arrivals (events_by w events)
 arrivals-still w events e still = ⊎_elim
     (λ mine.
-      let one_if : Bool → ℕ = λ b. cond b 1 0 in
-      ap arrivals (events_by-push w events e ∙ ap (λ (l : List PartitionEvent). events_by w events ++ l) (filter-yes (λ e. worker_of e == w) e [] mine))
-      ∙ omega (arith, count-append is_arrival (events_by w events) (e ∷ []), count-cons is_arrival e [], ap one_if still))
+    let one_if : Bool → ℕ = λ b. cond b 1 0 in
+    ap arrivals (events_by-push w events e ∙ ap (λ (l : List PartitionEvent). events_by w events ++ l) (filter-yes (λ e. worker_of e == w) e [] mine))
+    ∙ omega (arith, count-append is_arrival (events_by w events) (e ∷ []), count-cons is_arrival e [], ap one_if still))
     (λ other. arrivals-other w events e (eqb-false (worker_of e) w other))
     (cases_Bool (worker_of e == w))
 
@@ -86,9 +86,9 @@ count-piece : {A : Type 0} (test : A → Bool) (ps : List (List A)) (k : ℕ) �
 count-piece {A = A} test ps k = ⊎_elim
     (λ lt. ap (λ (l : List (List A)). count_by test (joined_lists l)) (take_more ps k [] lt) ∙ joined-push test (take k ps) (get_or ps k []))
     (λ ge.
-      let none : count_by test (get_or ps k []) ≡ 0 = ap (λ (l : List A). count_by test l) (get_or_past ps k [] ge) in
-      let all = ap (λ (l : List (List A)). count_by test (joined_lists l)) (take_all (k + 1) ps (omega (arith, ge)) ∙ sym (take_all k ps ge)) in
-      omega (arith, none, all))
+    let none : count_by test (get_or ps k []) ≡ 0 = ap (λ (l : List A). count_by test l) (get_or_past ps k [] ge) in
+    let all = ap (λ (l : List (List A)). count_by test (joined_lists l)) (take_all (k + 1) ps (omega (arith, ge)) ∙ sym (take_all k ps ge)) in
+    omega (arith, none, all))
     (cases_lt k (length ps))
 
 -- the rows of the pieces of a worker that arrived
@@ -109,8 +109,8 @@ event-rows : (test : Row → Bool) (r : Run) (p : ℕ) (before : List PartitionE
 event-rows test r p before s (event.Arrive v) lt is =
     let piece = next_piece r v p (events_by v before) in
     let more = sum_to-one r.limits.workers (taken test r p (before ++ event.Arrive v ∷ [])) (taken test r p before) v (count_by test piece) lt
-      (ap (λ k. count_by test (joined_lists (take k (payloads r v p)))) (arrivals-own v before) ∙ count-piece test (payloads r v p) (arrivals (events_by v before)))
-      (λ w apart. ap (λ k. count_by test (joined_lists (take k (payloads r w p)))) (arrivals-other w before (event.Arrive v) (λ is. apart (sym is)))) in
+    (ap (λ k. count_by test (joined_lists (take k (payloads r v p)))) (arrivals-own v before) ∙ count-piece test (payloads r v p) (arrivals (events_by v before)))
+    (λ w apart. ap (λ k. count_by test (joined_lists (take k (payloads r w p)))) (arrivals-other w before (event.Arrive v) (λ is. apart (sym is)))) in
     omega (arith, more, is, count-rows test s, count-rows test (after_arrival piece s), joined-push test s.waiting piece)
 event-rows test r p before s (event.Merge v) lt is =
     let still = taken-still test r p before (event.Merge v) refl in

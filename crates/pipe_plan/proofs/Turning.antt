@@ -60,7 +60,7 @@ module _ (r : Run) (o : Bool) (chunks : List DataChunk) (stores : List StoreSeen
       let test : Row → Bool = λ x. nat_lt x.place.chunk n in
       let more = more_overflow r o chunks stores w p in
       let behind : AllByRecursion (λ x. 0 + length r.chunks ≤ x.place.chunk) more =
-        each-filter (λ x. 0 + length r.chunks ≤ x.place.chunk) _ _ (each-filter (λ x. 0 + length r.chunks ≤ x.place.chunk) _ (rows_from r.query (0 + length r.chunks) chunks) (rows-behind r.query (0 + length r.chunks) chunks)) in
+      each-filter (λ x. 0 + length r.chunks ≤ x.place.chunk) _ _ (each-filter (λ x. 0 + length r.chunks ≤ x.place.chunk) _ (rows_from r.query (0 + length r.chunks) chunks) (rows-behind r.query (0 + length r.chunks) chunks)) in
       let none : count_by test more ≡ 0 = count-none test more (λ front back x is. le-ltb x.place.chunk n (omega (arith, le, each-at (λ (x : Row). 0 + length r.chunks ≤ x.place.chunk) more front back x behind is))) in
       ap (λ (l : List Row). count_by test l) (overflow-later r o chunks stores w p) ∙ count-append test (overflow r w p) more ∙ omega (arith, none)
 
@@ -68,7 +68,7 @@ module _ (r : Run) (o : Bool) (chunks : List DataChunk) (stores : List StoreSeen
   turn-later w p i lt =
       let s = longer_run r o chunks stores in
       let events : ℕ → ℕ → Bool → ℕ → List PartitionEvent = λ after before pick k.
-        replicate (after / r.limits.buffer_size - before / r.limits.buffer_size) (event.Arrive w) ++ (if pick && ((w + k) % r.limits.partitions == p) then events_of w (action_at r i) else []) in
+      replicate (after / r.limits.buffer_size - before / r.limits.buffer_size) (event.Arrive w) ++ (if pick && ((w + k) % r.limits.partitions == p) then events_of w (action_at r i) else []) in
       ap (λ n. events n (sent_before s w p i) (is_pick s i) (picks_before s w i)) (sent-later w p (i + 1) (omega arith))
       ∙ ap (λ n. events (sent_before r w p (i + 1)) n (is_pick s i) (picks_before s w i)) (sent-later w p i (omega arith))
       ∙ ap (λ b. events (sent_before r w p (i + 1)) (sent_before r w p i) b (picks_before s w i)) (pick-later i lt)
@@ -83,6 +83,6 @@ module _ (r : Run) (o : Bool) (chunks : List DataChunk) (stores : List StoreSeen
 pub sent-all : (r : Run) (w p : ℕ) → sent_before r w p (length r.chunks) ≡ length (overflow r w p)
 sent-all r w p =
     let here : AllByRecursion (λ x. x.place.chunk < 0 + length r.chunks) (overflow r w p) =
-      each-filter (λ x. x.place.chunk < 0 + length r.chunks) _ _ (each-filter (λ x. x.place.chunk < 0 + length r.chunks) _ (rows_from r.query 0 r.chunks) (rows-before r.query 0 r.chunks)) in
+    each-filter (λ x. x.place.chunk < 0 + length r.chunks) _ _ (each-filter (λ x. x.place.chunk < 0 + length r.chunks) _ (rows_from r.query 0 r.chunks) (rows-before r.query 0 r.chunks)) in
     count-all (λ x. nat_lt x.place.chunk (length r.chunks)) (overflow r w p)
     (λ front back x is. lt-ltb x.place.chunk (length r.chunks) (omega (arith, each-at (λ (x : Row). x.place.chunk < 0 + length r.chunks) (overflow r w p) front back x here is)))

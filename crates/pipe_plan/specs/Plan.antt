@@ -16,10 +16,11 @@ turns_before r w n = filter (is_turn_of r w) (range_with_len 0 n)
 abbrev pub height_at : Run → ℕ → ℕ
 height_at r i = slice_index_or (map (λ c. c.frame.height) r.chunks) i 0
 
--- the action after the turn at a position, by its number among its worker's turns; none past their end
+-- the action after the turn at a position, by the turn's number; none past the worker's list
 abbrev pub action_at : Run → ℕ → SpillAction
 action_at r i =
-    slice_index_or (slice_index_or r.actions (i % r.limits.workers) []) (i / r.limits.workers) action.None
+    slice_index_or (slice_index_or r.actions (i % r.limits.workers) [])
+    (i / r.limits.workers) action.None
 
 -- the event that an action asks of a worker, if any
 abbrev pub events_of : ℕ → SpillAction → List PartitionEvent
@@ -53,7 +54,7 @@ sent_before r w p n = count_by (λ x. nat_lt x.place.chunk n) (overflow r w p)
 abbrev pub full_before : Run → ℕ → ℕ → ℕ → ℕ
 full_before r w p n = sent_before r w p n / r.limits.buffer_size
 
--- the events of the turn at a position: an arrival for each piece that it fills, then that of its pick
+-- the events of the turn at a position: an arrival for each piece that it fills, then its pick
 abbrev pub turn_events : Run → ℕ → ℕ → ℕ → List PartitionEvent
 turn_events r w p i =
     replicate (full_before r w p (i + 1) - full_before r w p i) (event.Arrive w)
@@ -69,7 +70,7 @@ last_events r w p =
     if r.is_open || (length (overflow r w p) % r.limits.buffer_size == 0) then []
     else event.Arrive w ∷ []
 
--- a worker's events in a partition, in order: those of its turns and at the end; none in a typed sink
+-- a worker's events in a partition: those of its turns, then at the end; none in a typed sink
 abbrev pub plan : Run → ℕ → ℕ → List PartitionEvent
 plan r w p =
     if is_generic r.limits.sink then events_before r w p (length r.chunks) ++ last_events r w p

@@ -56,7 +56,7 @@ after_dump limit s =
     then record s { frames = s.frames ++ joined_lists s.waiting ∷ []; waiting = [] }
     else s
 
--- the piece that a worker's next arrival brings, behind its events so far: the k-th, k from 0, brings piece k
+-- the piece that a worker's next arrival brings: behind k arrivals it is piece k, from 0
 abbrev pub next_piece : Run → ℕ → ℕ → List PartitionEvent → List Row
 next_piece r w p made = slice_index_or (payloads r w p) (arrivals made) []
 

@@ -10,7 +10,7 @@ use Rattle.pipe_plan.specs.declared.limits.Limits.{Limits}
 use Rattle.pipe_plan.specs.declared.limits.SinkKind.{SinkKind}
 use Rattle.pipe_plan.specs.declared.limits.SinkKind.TheVariants as sink_kind
 
--- a store as a run finds it: how many frames it holds, which where it tells, its faults, and if it is sure
+-- a store as a run finds it: how many frames it holds, which it tells, its faults, if it is sure
 pub record StoreSeen : Type 0 where
   pub held : ℕ
   pub told : Option (List (List ℕ))
@@ -21,7 +21,7 @@ pub record StoreSeen : Type 0 where
 abbrev pub tells : StoreSeen → Bool
 tells s = is_some s.told
 
--- the chunks fed so far, query, limits, each worker's actions, if more chunks may follow, and the stores
+-- a run: chunks fed so far, query, limits, each worker's actions, if more may follow, stores
 pub record Run : Type 0 where
   pub chunks : List DataChunk
   pub query : QueryTree

@@ -72,7 +72,8 @@ one_spill payload_limit =
 
 -- the same rows in a sink of number keys
 abbrev pub typed_keys : Run
-typed_keys = record (one_spill 0) { limits = record (generic 1 1 0 1 0) { sink = sink_kind.Primitive } }
+typed_keys =
+    record (one_spill 0) { limits = record (generic 1 1 0 1 0) { sink = sink_kind.Primitive } }
 
 -- two workers with a chunk each: keys 1, 4 with values 3, 7, and 1, 4 with 5, 9
 abbrev pub two_workers : Run
@@ -80,10 +81,11 @@ two_workers =
     run_of (by_key dt.Int64 dt.Int64 first_and_last) (generic 2 1 0 1 64) ([] ∷ [] ∷ [])
     (numbers_chunk ((1, 3) ∷ (4, 7) ∷ []) ∷ numbers_chunk ((1, 5) ∷ (4, 9) ∷ []) ∷ [])
 
--- two partitions: a chunk with key 1, one without rows, and one with key 1; a dump follows the last two
+-- two partitions: chunks with key 1, no row, and key 1; a dump follows the last two
 abbrev pub empty_between : Run
 empty_between =
-    run_of sum_by_number (generic 1 2 10000 2048 64) ((action.None ∷ action.Dump ∷ action.Dump ∷ []) ∷ [])
+    run_of sum_by_number (generic 1 2 10000 2048 64)
+    ((action.None ∷ action.Dump ∷ action.Dump ∷ []) ∷ [])
     (numbers_chunk ((1, 1) ∷ []) ∷ numbers_chunk [] ∷ numbers_chunk ((1, 1) ∷ []) ∷ [])
 
 -- spill size 0, buffer 1: keys 1, 2 and a merge, then key 2
@@ -103,7 +105,8 @@ both_rounds = numbers_chunk ((1, 5) ∷ (2, 6) ∷ []) ∷ numbers_chunk ((2, 7)
 -- the run of these rounds, in which a dump follows each turn
 abbrev pub in_rounds : ℕ → List DataChunk → Run
 in_rounds buffer_size chunks =
-    run_of sum_by_number (generic 1 1 0 buffer_size 0) ((action.Dump ∷ action.Dump ∷ []) ∷ []) chunks
+    run_of sum_by_number (generic 1 1 0 buffer_size 0)
+    ((action.Dump ∷ action.Dump ∷ []) ∷ []) chunks
 
 -- two partitions, spill size 0, buffer 1: text keys Aa, BB, Aa with values 1, 2, 4
 abbrev pub text_keys : Run

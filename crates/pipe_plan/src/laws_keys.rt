@@ -27,8 +27,8 @@ pub fn keys_held_as_rows_come()
         → length (kept_keys l taken) ≤ l.spill_size + 1 }
 {}
 
-/// Whether the key of a row is kept shows as the row comes: it is held, or there is room for it. Keys
-/// are one exactly where they are equal, and a typed sink keeps them all.
+/// Whether the key of a row is kept shows as the row comes: it is held, or there is room for it.
+/// Keys are one exactly where they are equal, and a typed sink keeps them all.
 pub fn keys_are_kept_at_once()
     ensures decided { (r : Run) (w i : ℕ) (taken : List Row) (x : Row)
         → Spills r → IsAtRow r w i taken x

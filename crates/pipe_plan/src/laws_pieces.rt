@@ -33,7 +33,8 @@ pub fn pieces_with_one_row_more()
 /// More rows keep the full pieces; those of the rest and the new rows follow.
 pub fn pieces_with_more_rows()
     ensures full { (n : ℕ) (rows more : List Row) → 0 < n
-        → full_pieces n (rows ++ more) ≡ full_pieces n rows ++ full_pieces n (rest_of n rows ++ more) }
+        → full_pieces n (rows ++ more)
+        ≡ full_pieces n rows ++ full_pieces n (rest_of n rows ++ more) }
     ensures rest { (n : ℕ) (rows more : List Row) → 0 < n
         → rest_of n (rows ++ more) ≡ rest_of n (rest_of n rows ++ more) }
 {}

@@ -1,4 +1,4 @@
-//! Laws of rounds: what an open run has stays where a run goes on from it, over more chunks or closed.
+//! Laws of rounds: what stays where a run goes on from another, over more chunks or closed.
 
 ghost use Rattle.std.specs.Prelude.{◌≡◌, ◌<◌, ◌≤◌, ℕ, List, length, true};
 ghost use Rattle.pipe_plan.specs.declared.event.PartitionEvent.{PartitionEvent};
@@ -25,8 +25,8 @@ pub fn rows_of_longer_runs()
         → of_worker (run_until s (length r.chunks)) w ≡ of_worker r w }
 {}
 
-/// Where a run goes on from an open one, pieces and plans begin with those before. The events of the
-/// turns before stay, and so do their picks.
+/// Where a run goes on from an open one, pieces and plans begin with those before. The events of
+/// the turns before stay, and so do their picks.
 pub fn plans_of_longer_runs()
     ensures payloads { (r s : Run) (w p : ℕ) → GoesOn r s → 0 < r.limits.buffer_size
         → r.is_open ≡ true → IsFront (payloads r w p) (payloads s w p) }

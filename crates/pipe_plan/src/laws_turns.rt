@@ -7,7 +7,7 @@ ghost use Rattle.pipe_plan.specs.Rounds.{IsFront, run_until};
 ghost use Rattle.pipe_plan.specs.Kept.{is_kept};
 ghost use Rattle.pipe_plan.specs.Overflow.{overflow};
 ghost use Rattle.pipe_plan.specs.Plan.{is_pick, picks_before, sent_before, turns_before};
-ghost use Rattle.pipe_plan.specs.Progress.{IsAtRow, sent_of, turn_rows};
+ghost use Rattle.pipe_plan.specs.Progress.{IsAtRow, rows_before, sent_of, turn_rows};
 ghost use Rattle.pipe_plan.specs.Run.{is_turn_of, of_worker, Run};
 ghost use Rattle.pipe_plan.specs.Whole.{kept_rows};
 
@@ -32,19 +32,19 @@ pub fn positions_of_turns()
 /// next row, is the front of them.
 pub fn rows_of_turns()
     ensures turns { (r : Run) (w n : ℕ) → n ≤ length r.chunks
-        → of_worker (run_until r n) w ≡ flat_map (turn_rows r) (turns_before r w n) }
-    ensures all { (r : Run) (w n : ℕ) → length r.chunks ≤ n → of_worker (run_until r n) w ≡ of_worker r w }
+        → rows_before r w n ≡ flat_map (turn_rows r) (turns_before r w n) }
+    ensures all { (r : Run) (w n : ℕ) → length r.chunks ≤ n → rows_before r w n ≡ of_worker r w }
     ensures next { (r : Run) (w i : ℕ) (taken : List Row) (x : Row) → IsAtRow r w i taken x
         → IsFront (taken ++ x ∷ []) (of_worker r w) }
 {}
 
-/// Of the rows that a worker took before a position it keeps and sends those that it does of them in
-/// the whole run. Those sent are counted by the chunks' positions.
+/// Of the rows that a worker took before a position it keeps and sends the same in the whole run.
+/// Those sent are counted by the chunks' positions.
 pub fn rows_kept_and_sent_by_turn()
     ensures kept { (r : Run) (w n : ℕ)
-        → kept_rows (run_until r n) w ≡ filter (is_kept r w) (of_worker (run_until r n) w) }
+        → kept_rows (run_until r n) w ≡ filter (is_kept r w) (rows_before r w n) }
     ensures sent { (r : Run) (w p n : ℕ)
-        → overflow (run_until r n) w p ≡ sent_of r w p (of_worker (run_until r n) w) }
+        → overflow (run_until r n) w p ≡ sent_of r w p (rows_before r w n) }
     ensures count { (r : Run) (w p n : ℕ) → n ≤ length r.chunks
         → sent_before r w p n ≡ length (overflow (run_until r n) w p) }
     ensures all { (r : Run) (w p : ℕ)

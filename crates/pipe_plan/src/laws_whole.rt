@@ -33,8 +33,8 @@ pub fn counts_make_plans_whole()
         → planned_count r ≤ journal_count r journals → AreWhole r journals }
 {}
 
-/// Where the plans are whole, a partition holds the rows that were sent to it, each once, and workers
-/// and partitions together hold all rows: their answer is that of the chunks.
+/// Where the plans are whole, a partition holds the rows that were sent to it, each once, and
+/// workers and partitions together hold all rows: their answer is that of the chunks.
 pub fn partition_law()
     ensures partition { (r : Run) (p : ℕ) (journal : List PartitionEvent) → AreLimits r.limits
         → r.is_open ≡ false → IsWhole r p journal
@@ -49,8 +49,8 @@ pub fn partition_law()
         → answer r.chunks r.query partitions ≡ answer_of (rows_held r journals) r.query partitions }
 {}
 
-/// Where the plans are whole and order isn't kept, the groups are the sorted keys of each partition's
-/// rows, joined, each with the aggregates of these rows.
+/// Where the plans are whole and order isn't kept, the groups are the sorted keys of the rows of
+/// each partition, joined, each with the aggregates of these rows.
 pub fn groups_by_partition()
     ensures rows { (r : Run) (journals : List (List PartitionEvent)) (p : ℕ) → AreLimits r.limits
         → r.is_open ≡ false → p < r.limits.partitions → AreWhole r journals

@@ -1,5 +1,5 @@
-//! What a run over chunks does: which keys a worker keeps, what overflows, the plan of each worker in
-//! each partition, and the replay of a partition's journal.
+//! What a run over chunks does: which keys a worker keeps, what overflows, the plan of each worker
+//! in each partition, and the replay of a partition's journal.
 #![tactic(auto)]
 
 mod event;

@@ -1,4 +1,4 @@
-//! Worked runs at the edges of their limits, as laws over the definitions: each holds by computation.
+//! Worked runs at the edges of limits, as laws over the definitions: each holds by computation.
 
 ghost use Rattle.std.specs.Prelude.{◌≡◌, ◌-◌, ◌^◌, ◌∷◌, [], codes, map, replicate};
 ghost use Rattle.std.specs.List.{range_with_len};
@@ -39,7 +39,8 @@ pub fn more_workers_than_chunks()
 
 /// Without a chunk no worker makes an event, and the answer has no row.
 pub fn no_chunk()
-    ensures plans { map (λ w. plan (many_workers []) w 0) (range_with_len 0 256) ≡ replicate 256 [] }
+    ensures plans { map (λ w. plan (many_workers []) w 0) (range_with_len 0 256)
+        ≡ replicate 256 [] }
     ensures answer { shown (answer [] (many_workers []).query 1) ≡ [] ∷ [] ∷ [] }
 {}
 

@@ -37,9 +37,6 @@ pub fn closed_after_the_first()
 /// A round whose pieces are all full puts its frame, whatever the next round brings.
 pub fn full_round()
     ensures plan { plan (left_open (in_rounds 1 first_round)) 0 0 ≡ Arrive 0 ∷ Dump 0 ∷ [] }
-    ensures replay { replay (left_open (in_rounds 1 first_round)) 0 (Arrive 0 ∷ Dump 0 ∷ []) ≡ record {
-      merged = [];
-      waiting = [];
-      frames = (row_at 0 1 2 (6 ∷ []) ∷ []) ∷ [];
-    } }
+    ensures puts { (replay (left_open (in_rounds 1 first_round)) 0 (Arrive 0 ∷ Dump 0 ∷ [])).frames
+        ≡ (row_at 0 1 2 (6 ∷ []) ∷ []) ∷ [] }
 {}
