@@ -12,17 +12,21 @@ use Rattle.std.proofs.lemmas.Bool.Decides.{nat_tests}
 use Rattle.std.proofs.lemmas.List.{take_more}
 use Rattle.std.proofs.lemmas.Nat.{div-mul-add, mod-mul-add, mod_below}
 
+-- of three orderings the first that is no tie decides, however they are grouped
 pub then_assoc : (a b c : Ordering) → ordering_then (ordering_then a b) c ≡ ordering_then a (ordering_then b c)
 then_assoc Less b c = refl
 then_assoc Equal b c = refl
 then_assoc Greater b c = refl
 
+-- a lesser number
 pub nat_cmp-less : (a b : ℕ) → a < b → nat_cmp a b ≡ Less
 nat_cmp-less a b h = grind (arith, nat_tests)
 
+-- a greater number
 pub nat_cmp-more : (a b : ℕ) → b < a → nat_cmp a b ≡ Greater
 nat_cmp-more a b h = grind (arith, nat_tests)
 
+-- a number and itself
 pub nat_cmp-same : (a : ℕ) → nat_cmp a a ≡ Equal
 nat_cmp-same a = grind (arith, nat_tests)
 
@@ -44,10 +48,12 @@ two_digits a b c d w p q = elim (cases_order a b) [
     same : (c d : ℕ) → nat_cmp (b * w + c) (b * w + d) ≡ nat_cmp c d
     same c d = grind (arith, nat_tests)
 
+-- the byte of a number at a place
 pub byte_at-is : (k n : ℕ) → byte_at k n ≡ n / 256 ^ k % 256
 byte_at-is zero n = rw div-one refl
 byte_at-is (suc k) n = refl
 
+-- a power of 256 is no 0
 pow_256 : (k : ℕ) → 0 < 256 ^ k
 pow_256 zero = omega arith
 pow_256 (suc k) = rw pow-suc (omega (arith, pow_256 k))
@@ -82,6 +88,7 @@ bytes-more (suc k) n b h = ap (λ x. x ∷ bytes_high_first (suc k) (n * 256 + b
     first : (n * 256 + b) / 256 ^ suc k % 256 ≡ byte_at k n
     first = rw (pow-succ', ← div-div-eq-div-mul (n * 256 + b) 256 (256 ^ k), div-mul-add n 256 b h) (sym (byte_at-is k n))
 
+-- how many bytes there are
 pub length-bytes : (k n : ℕ) → length (bytes_high_first k n) ≡ k
 length-bytes zero n = refl
 length-bytes (suc k) n = omega (arith, length-bytes k n)
@@ -96,11 +103,13 @@ room i n p q =
 below-more : (i n b : ℕ) → n < 256 ^ i → b < 256 → n * 256 + b < 256 ^ suc i
 below-more i n b p q = rw pow-suc (omega arith)
 
+-- the range of a number after one more byte was read
 pub read_below : (front : List ℕ) (n i : ℕ) → n < 256 ^ i → get_or front i 0 < 256 → n * 256 + get_or front i 0 < 256 ^ (i + 1)
 read_below front n i p q =
     let one : suc i ≡ i + 1 = omega arith in
     subst (λ k. n * 256 + get_or front i 0 < 256 ^ k) one (below-more i n (get_or front i 0) p q)
 
+-- the bytes of a number after one more byte was read
 pub read_bytes : (front : List ℕ) (n i : ℕ) → bytes_high_first i n ≡ take i front → i < length front → get_or front i 0 < 256
     → bytes_high_first (i + 1) (n * 256 + get_or front i 0) ≡ take (i + 1) front
 read_bytes front n i e l q =

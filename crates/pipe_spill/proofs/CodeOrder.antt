@@ -22,14 +22,17 @@ use Rattle.pipe_spill.proofs.ByteOrder.{bytes_cmp, nat_cmp-less, nat_cmp-more, n
 
 -- ---- numbers
 
+-- natural numbers are ordered as integers
 int_cmp-pos : (m n : ℕ) → nat_cmp m n ≡ int_cmp (pos m) (pos n)
 int_cmp-pos m n = grind (arith, nat_tests)
 
+-- the bytes of numbers that fit them are ordered as the numbers
 bytes_in_order : (k m n : ℕ) (r s : List ℕ) → m < 256 ^ k → n < 256 ^ k
     → slice_cmp nat_cmp (bytes_high_first k m ++ r) (bytes_high_first k n ++ s) ≡ ordering_then (nat_cmp m n) (slice_cmp nat_cmp r s)
 bytes_in_order k m n r s p q =
     bytes_cmp k m n r s ∙ ap (λ o. ordering_then o (slice_cmp nat_cmp r s)) (rw (mod-eq_of_lt p, mod-eq_of_lt q) refl)
 
+-- the codes of unsigned numbers are ordered as the numbers
 unsigned_order : (k b : ℕ) → 2 ^ b ≡ 256 ^ k → (y z : ℤ) (r s : List ℕ) → is_unsigned b y ≡ true → is_unsigned b z ≡ true
     → slice_cmp nat_cmp (unsigned_code k y ++ r) (unsigned_code k z ++ s) ≡ ordering_then (int_cmp y z) (slice_cmp nat_cmp r s)
 unsigned_order k b e (pos m) (pos n) r s p q =
@@ -44,20 +47,24 @@ abbrev counted : ℕ → ℤ → ℕ
 counted b (pos n) = n + 2 ^ b
 counted b (negsuc n) = 2 ^ b - suc n
 
+-- it is the number from the least one on
 counted-is : (b : ℕ) (z : ℤ) → is_signed b z ≡ true → z +ℤ pos (2 ^ b) ≡ pos (counted b z)
 counted-is b (pos n) h = refl
 counted-is b (negsuc n) h = grind (arith, nat_tests)
 
+-- it fits the type of as many bits
 counted-below : (b : ℕ) (z : ℤ) → is_signed b z ≡ true → counted b z < 2 ^ b + 2 ^ b
 counted-below b (pos n) h = grind (arith, nat_tests)
 counted-below b (negsuc n) h = grind (arith, nat_tests)
 
+-- numbers are ordered as what they are counted as
 counted_cmp : (b : ℕ) (y z : ℤ) → is_signed b y ≡ true → is_signed b z ≡ true → nat_cmp (counted b y) (counted b z) ≡ int_cmp y z
 counted_cmp b (pos m) (pos n) p q = grind (arith, nat_tests)
 counted_cmp b (pos m) (negsuc n) p q = grind (arith, nat_tests)
 counted_cmp b (negsuc m) (pos n) p q = grind (arith, nat_tests)
 counted_cmp b (negsuc m) (negsuc n) p q = grind (arith, nat_tests)
 
+-- the codes of signed numbers are ordered as the numbers
 signed_order : (k b : ℕ) → 2 ^ b + 2 ^ b ≡ 256 ^ k → (y z : ℤ) (r s : List ℕ) → is_signed b y ≡ true → is_signed b z ≡ true
     → slice_cmp nat_cmp (unsigned_code k (y +ℤ pos (2 ^ b)) ++ r) (unsigned_code k (z +ℤ pos (2 ^ b)) ++ s)
     ≡ ordering_then (int_cmp y z) (slice_cmp nat_cmp r s)
@@ -66,6 +73,7 @@ signed_order k b e y z r s p q =
     (bytes_in_order k (counted b y) (counted b z) r s (subst (λ n. counted b y < n) e (counted-below b y p)) (subst (λ n. counted b z < n) e (counted-below b z q))
     ∙ ap (λ o. ordering_then o (slice_cmp nat_cmp r s)) (counted_cmp b y z p q))
 
+-- the codes of numbers of a type are ordered as the numbers
 number_order : (t : DataType) (y z : ℤ) (r s : List ℕ) → fits_number y t ≡ true → fits_number z t ≡ true
     → slice_cmp nat_cmp (number_code t y ++ r) (number_code t z ++ s) ≡ ordering_then (int_cmp y z) (slice_cmp nat_cmp r s)
 number_order dt.Boolean y z r s p q = absurd cc
@@ -87,6 +95,7 @@ number_order dt.String y z r s p q = absurd cc
 pub text_code-more : (x : ℕ) (a : List ℕ) → text_code (suc x ∷ a) ≡ suc x ∷ text_code a
 text_code-more x a = let h : (suc x == 0) ≡ false = grind (arith, nat_tests) in rw h refl
 
+-- the codes of texts are ordered as the texts
 text_order : (a b r s : List ℕ)
     → slice_cmp nat_cmp (text_code a ++ r) (text_code b ++ s) ≡ ordering_then (slice_cmp nat_cmp a b) (slice_cmp nat_cmp r s)
 text_order [] [] r s = refl
@@ -103,6 +112,7 @@ text_order (suc x ∷ a) (suc y ∷ b) r s = rw (text_code-more x a, text_code-m
 
 -- ---- values and tuples
 
+-- one type is that of truth values
 boolean_type : (t : DataType) → is_boolean t ≡ true → t ≡ dt.Boolean
 boolean_type dt.Boolean h = refl
 boolean_type dt.Int8 h = absurd cc
@@ -117,6 +127,7 @@ boolean_type dt.Int128 h = absurd cc
 boolean_type dt.Date h = absurd cc
 boolean_type dt.String h = absurd cc
 
+-- one type is that of texts
 string_type : (t : DataType) → is_string t ≡ true → t ≡ dt.String
 string_type dt.Boolean h = absurd cc
 string_type dt.Int8 h = absurd cc
@@ -131,12 +142,15 @@ string_type dt.Int128 h = absurd cc
 string_type dt.Date h = absurd cc
 string_type dt.String h = refl
 
+-- no type has both truth values and numbers
 pub no_truth_and_number : (t : DataType) (n : ℤ) → is_boolean t ≡ true → fits_number n t ≡ true → ⊥
 no_truth_and_number t n p q = let h : false ≡ true = rw (boolean_type t p) at q in cc
 
+-- no type has both texts and numbers
 pub no_text_and_number : (t : DataType) (n : ℤ) → is_string t ≡ true → fits_number n t ≡ true → ⊥
 no_text_and_number t n p q = let h : false ≡ true = rw (string_type t p) at q in cc
 
+-- no type has both texts and truth values
 pub no_text_and_truth : (t : DataType) → is_string t ≡ true → is_boolean t ≡ true → ⊥
 no_text_and_truth t p q = let h : false ≡ true = rw (string_type t p) at q in cc
 
@@ -179,10 +193,12 @@ tuple_order (t ∷ types) (v ∷ a) (w ∷ b) r s p q =
 
 -- ---- what is read back
 
+-- a list of bytes ties with itself
 same_cmp : (xs : List ℕ) → slice_cmp nat_cmp xs xs ≡ Equal
 same_cmp [] = refl
 same_cmp (x ∷ xs) = rw nat_cmp-same (same_cmp xs)
 
+-- a tie is one of both parts
 both_equal : (a b : Ordering) → ordering_then a b ≡ Equal → (a ≡ Equal) × (b ≡ Equal)
 both_equal Less b h = absurd cc
 both_equal Equal b h = (refl, h)
@@ -213,6 +229,7 @@ tuple_once types a b r s p q e =
 
 -- ---- the laws of whole codes
 
+-- a tie behind an ordering changes nothing
 then_Equal : (o : Ordering) → ordering_then o Equal ≡ o
 then_Equal Less = refl
 then_Equal Equal = refl
@@ -223,10 +240,12 @@ pub codes_no_front : (types : List DataType) (a b : List AnyValue) (rest : List 
     → code types a ++ rest ≡ code types b → a ≡ b
 codes_no_front types a b rest p q e = (tuple_once types a b rest [] p q (e ∙ sym (append-nil (code types b)))).0
 
+-- different tuples have different codes
 pub codes_injective : (types : List DataType) (a b : List AnyValue) → AreOfTypes types a → AreOfTypes types b
     → code types a ≡ code types b → a ≡ b
 codes_injective types a b p q e = codes_no_front types a b [] p q (append-nil (code types a) ∙ e)
 
+-- codes are ordered as tuples
 pub codes_ordered : (types : List DataType) (a b : List AnyValue) → AreOfTypes types a → AreOfTypes types b
     → slice_cmp nat_cmp (code types a) (code types b) ≡ slice_cmp value_cmp a b
 codes_ordered types a b p q =

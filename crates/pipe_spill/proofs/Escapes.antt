@@ -21,32 +21,38 @@ two_at xs i h =
     let e : i + 1 + 1 ≡ i + 2 = omega arith in
     drop_more xs i 0 p ∙ ap (λ ys. get_or xs i 0 ∷ ys) (drop_more xs (i + 1) 0 h ∙ ap (λ k. get_or xs (i + 1) 0 ∷ drop k xs) e)
 
--- the steps at a place: the end, an escaped 0, any other byte, and what is no code
+-- the end of a text
 pub at_end : (seen xs : List ℕ) (i : ℕ) → i + 1 < length xs → get_or xs i 0 ≡ 0 → get_or xs (i + 1) 0 ≡ 0
     → read_on seen (drop i xs) ≡ Some (seen, drop (i + 2) xs)
 at_end seen xs i h e f = rw (two_at xs i h, e, f) refl
 
+-- an escaped 0
 pub at_zero : (seen xs : List ℕ) (i : ℕ) → i + 1 < length xs → get_or xs i 0 ≡ 0 → get_or xs (i + 1) 0 ≡ 1
     → read_on seen (drop i xs) ≡ read_on (seen ++ 0 ∷ []) (drop (i + 2) xs)
 at_zero seen xs i h e f = rw (two_at xs i h, e, f) refl
 
+-- a byte that is no 0 stands for itself
 byte_on : (seen : List ℕ) (b : ℕ) (rest : List ℕ) → b ≢ 0 → read_on seen (b ∷ rest) ≡ read_on (seen ++ b ∷ []) rest
 byte_on seen zero rest h = absurd (h refl)
 byte_on seen (suc b) rest h = refl
 
+-- any other byte
 pub at_byte : (seen xs : List ℕ) (i : ℕ) → i < length xs → get_or xs i 0 ≢ 0
     → read_on seen (drop i xs) ≡ read_on (seen ++ get_or xs i 0 ∷ []) (drop (i + 1) xs)
 at_byte seen xs i h n = rw (drop_more xs i 0 h) (byte_on seen (get_or xs i 0) (drop (i + 1) xs) n)
 
+-- behind a 0 comes 0 or 1
 mark_on : (seen : List ℕ) (b : ℕ) (rest : List ℕ) → b ≢ 0 → b ≢ 1 → read_on seen (0 ∷ b ∷ rest) ≡ None
 mark_on seen zero rest h k = absurd (h refl)
 mark_on seen (suc zero) rest h k = absurd (k refl)
 mark_on seen (suc (suc b)) rest h k = refl
 
+-- a 0 before anything else
 pub at_mark : (seen xs : List ℕ) (i : ℕ) → i + 1 < length xs → get_or xs i 0 ≡ 0 → get_or xs (i + 1) 0 ≢ 0 → get_or xs (i + 1) 0 ≢ 1
     → read_on seen (drop i xs) ≡ None
 at_mark seen xs i h e n k = rw (two_at xs i h, e) (mark_on seen (get_or xs (i + 1) 0) (drop (i + 2) xs) n k)
 
+-- too few bytes
 pub at_last : (seen xs : List ℕ) (i : ℕ) → length xs ≤ i + 1 → read_on seen (drop i xs) ≡ None
 at_last seen xs i h = short seen (drop i xs) (rw length-drop (omega arith))
   where
@@ -63,6 +69,7 @@ read_on-code (zero ∷ text) seen rest = rw (← append_assoc seen (0 ∷ []) te
 read_on-code (suc b ∷ text) seen rest =
     rw (text_code-more b text, ← append_assoc seen (suc b ∷ []) text) (read_on-code text (seen ++ suc b ∷ []) rest)
 
+-- results are one where both parts are
 same_parts : (a b c d : List ℕ) → ◌≡◌ {A = Option (List ℕ × List ℕ)} (Some (a, b)) (Some (c, d)) → (a ≡ c) × (b ≡ d)
 same_parts a b c d e =
     let p : ◌≡◌ {A = List ℕ × List ℕ} (a, b) (c, d) = cc in
@@ -74,6 +81,7 @@ record IsRead (seen bytes text rest : List ℕ) : Type 0 where
   whole : text ≡ seen ++ more
   code : text_code more ++ rest ≡ bytes
 
+-- what is read has this code
 read_on-is : (bytes seen text rest : List ℕ) → read_on seen bytes ≡ Some (text, rest) → IsRead seen bytes text rest
 read_on-is [] seen text rest e = absurd cc
 read_on-is (zero ∷ []) seen text rest e = absurd cc
@@ -88,11 +96,13 @@ read_on-is (suc b ∷ bytes) seen text rest e =
     let f = read_on-is bytes (seen ++ suc b ∷ []) text rest e in
     record { more = suc b ∷ f.more; whole = f.whole ∙ append_assoc seen (suc b ∷ []) f.more; code = rw text_code-more (ap (λ xs. suc b ∷ xs) f.code) }
 
+-- what is read from the front has the code that stands there
 pub code_from_read : (bytes text rest : List ℕ) → read_on [] bytes ≡ Some (text, rest) → text_code text ++ rest ≡ bytes
 code_from_read bytes text rest e =
     let f = read_on-is bytes [] text rest e in
     rw f.whole f.code
 
+-- where nothing is read, no code stands in front
 pub none_from_read : (bytes : List ℕ) → read_on [] bytes ≡ None → (text rest : List ℕ) → text_code text ++ rest ≢ bytes
 none_from_read bytes e text rest f = absurd_some (sym (read_on-code text [] rest) ∙ rw f e)
   where

@@ -1,10 +1,12 @@
 mod ByteOrder
 mod CodeOrder
-mod Decoding
 mod Escapes
+mod EscapedText
+mod TextEnd
 mod Tuples
 mod RowBytes
 mod FrontBytes
 mod ValuesRead
 mod RowOnce
 mod FrameOnce
+mod SpilledRows

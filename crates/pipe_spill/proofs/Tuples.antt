@@ -7,6 +7,7 @@ use Rattle.pipe_columns.specs.AnyValue.{fits}
 use Rattle.pipe_columns.specs.Key.{code, value_code}
 use Rattle.pipe_spill.specs.KeyTypes.{AreOfTypes}
 
+-- as many values as types
 pub as_long : (types : List DataType) (values : List AnyValue) → AreOfTypes types values → length values ≡ length types
 as_long [] [] h = refl
 as_long [] (v ∷ values) h = absurd h

@@ -1,16 +1,17 @@
--- Frames one after another in a file.
-use Rattle.std.specs.Prelude.{◌≡◌, refl, Bool, true, false, IsTrue, ℕ, ◌+◌, ◌-◌, ◌==◌, if◌then◌else◌, List, [], ◌∷◌, ◌++◌, length, Option, Some, IfSome, slice_index}
-use Rattle.std.proofs.lemmas.Bool.{eqb-true}
-use Rattle.std.specs.Io.KnownBytes.{Appends, Consumes}
+-- A store in a file: where its frames end, and its faults.
+use Rattle.std.specs.Prelude.{◌≡◌, false, IsTrue, ℕ, ◌+◌, ◌-◌, ◌==◌, if◌then◌else◌, List, [], ◌∷◌, ◌++◌, length, slice_index}
+use Rattle.std.proofs.lemmas.Bool.{false≢true}
 
 -- where each frame ends in the file, and how many calls failed
 pub record FileEnds : Type 0 where
   pub ends : List ℕ
   pub faults : ℕ
 
+-- how many frames there are
 abbrev pub held_of : FileEnds → ℕ
 held_of s = length s.ends
 
+-- how many calls failed
 abbrev pub faults_of : FileEnds → ℕ
 faults_of s = s.faults
 
@@ -28,25 +29,8 @@ size_of ends number = slice_index ends number - start_of ends number
 
 -- one more frame of so many bytes
 abbrev pub with_end : List ℕ → ℕ → List ℕ
-with_end ends size = ends ++ ((next_start ends + size) ∷ [])
+with_end ends size = ends ++ (next_start ends + size) ∷ []
 
--- a file was moved to a place, and then it took these bytes
-pub record WroteAt {F : Type 0} (position : F → Option ℕ) (contents : F → Option (List ℕ)) (at : ℕ) (bytes : List ℕ) (before after : F) : Type 0 where
-  pub placed : F
-  pub there : IfSome (position before) (λ _. position placed ≡ Some at)
-  pub taken : Appends (contents placed) (contents after) bytes
-
--- a file was moved to a place, and then it gave these bytes
-pub record ReadAt {F : Type 0} (position : F → Option ℕ) (remaining : F → Option (List ℕ)) (at : ℕ) (bytes : List ℕ) (before after : F) : Type 0 where
-  pub placed : F
-  pub there : IfSome (position before) (λ _. position placed ≡ Some at)
-  pub given : Consumes (remaining placed) (remaining after) bytes
-
--- what a test that fails would show
-any_test : (b : Bool) → IsTrue false → IsTrue b
-any_test true sure = refl
-any_test false sure = sure
-
--- a store that isn't sure has nothing to show
-pub never_sure : (s : FileEnds) → IsTrue false → faults_of s ≡ 0
-never_sure s sure = eqb-true s.faults 0 (any_test (s.faults == 0) sure)
+-- a sure store has never failed: none in a file is sure
+pub sure_never_failed : (s : FileEnds) → IsTrue false → faults_of s ≡ 0
+sure_never_failed s sure = absurd (false≢true sure)

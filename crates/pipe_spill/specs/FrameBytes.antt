@@ -2,10 +2,8 @@
 use Rattle.std.specs.Prelude.{◌≢◌, ℕ, List, [], ◌∷◌, ◌++◌, length}
 use Rattle.std.specs.Int.{bytes_high_first}
 use Rattle.pipe_columns.specs.declared.data_type.DataType.{DataType}
-use Rattle.pipe_columns.specs.declared.any_value.AnyValue.{AnyValue}
 use Rattle.pipe_columns.specs.Key.{code}
-use Rattle.pipe_spill.specs.KeyTypes.{IsTuple}
-use Rattle.pipe_spill.specs.SpillRow.{AreRows, IsRow}
+use Rattle.pipe_spill.specs.SpillRow.{AreRows}
 use Rattle.pipe_spill.specs.declared.spill_row.SpillRow.{SpillRow}
 
 -- chunk and row, the length of the key, the key, and the inputs by their types
@@ -26,13 +24,5 @@ frame_bytes types rows = bytes_high_first 8 (length rows) ++ rows_bytes types ro
 -- bytes are the frame of no list of rows of these types
 abbrev pub IsFrameOfNone : List DataType → List DataType → List ℕ → Type 0
 IsFrameOfNone key_types input_types bytes =
-    (rows : List SpillRow) → AreRows key_types input_types rows → frame_bytes input_types rows ≢ bytes
-
--- bytes begin with no row of these types
-abbrev pub BeginsNoRow : List DataType → List DataType → List ℕ → Type 0
-BeginsNoRow key_types input_types bytes =
-    (r : SpillRow) (rest : List ℕ) → IsRow key_types input_types r → row_bytes input_types r ++ rest ≢ bytes
-
--- bytes begin with the code of no tuple of these types
-abbrev pub BeginsNoTuple : List DataType → List ℕ → Type 0
-BeginsNoTuple types bytes = (values : List AnyValue) (rest : List ℕ) → IsTuple types values → code types values ++ rest ≢ bytes
+    (rows : List SpillRow) → AreRows key_types input_types rows
+    → frame_bytes input_types rows ≢ bytes

@@ -1,6 +1,9 @@
 pub mod KeyTypes
-pub mod FileStore
-pub mod FrameBytes
-pub mod MemoryStore
 pub mod SpillRow
+pub mod FrameBytes
+pub mod Reading
 pub mod Store
+pub mod MemoryStore
+pub mod FileStore
+pub mod FileFrames
+pub mod Worked

@@ -1,6 +1,6 @@
 -- A store in memory: its frames, and its calls.
-use Rattle.std.specs.Prelude.{◌≡◌, refl, ℕ, List, Bool, true, false, ◌&&◌, ◌==◌, IsTrue, length, Option, Some}
-use Rattle.std.proofs.lemmas.Bool.{eqb-true}
+use Rattle.std.specs.Prelude.{◌≡◌, ℕ, List, Bool, ◌&&◌, ◌==◌, IsTrue, length, Option, Some}
+use Rattle.std.proofs.lemmas.Bool.{and_parts, eqb-true}
 use Rattle.pipe_columns.specs.Calls.{Calls}
 
 -- the frames in the order of their puts, and the calls of put and get, numbered together
@@ -12,6 +12,7 @@ pub record MemoryFrames : Type 0 where
 abbrev pub told_of : MemoryFrames → Option (List (List ℕ))
 told_of s = Some s.frames
 
+-- how many frames there are
 abbrev pub held_of : MemoryFrames → ℕ
 held_of s = length s.frames
 
@@ -23,13 +24,7 @@ faults_of s = s.calls.faults
 abbrev pub is_sure : MemoryFrames → Bool
 is_sure s = (length s.calls.failing == 0) && (s.calls.faults == 0)
 
--- the second of two tests that hold
-second : (a b : Bool) → IsTrue (a && b) → IsTrue b
-second a true both = refl
-second true false both = both
-second false false both = both
-
 -- a sure store has never failed
 pub sure_never_failed : (s : MemoryFrames) → IsTrue (is_sure s) → faults_of s ≡ 0
-sure_never_failed s sure =
-    eqb-true s.calls.faults 0 (second (length s.calls.failing == 0) (s.calls.faults == 0) sure)
+sure_never_failed s sure = eqb-true s.calls.faults 0
+    (and_parts (length s.calls.failing == 0) (s.calls.faults == 0) sure).1

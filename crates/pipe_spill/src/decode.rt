@@ -1,7 +1,10 @@
+//! Values out of the bytes of their codes.
+
 ghost use Rattle.std.specs.Prelude.{◌≡◌, ◌≢◌, ◌++◌, ◌∷◌, Bool, IfOk, IfSome, IsErrOf, IsNone, List, ℕ, if◌then◌else◌};
 ghost use Rattle.pipe_columns.specs.Key.{code, value_code};
 ghost use Rattle.pipe_spill.specs.declared.decode.DecodeError.TheVariants as fault;
 ghost use Rattle.pipe_spill.specs.KeyTypes.{BeginsNoValue, IsCodeOfNone, IsTuple, IsValue};
+ghost use Rattle.pipe_spill.specs.Reading.{BeginsNoTuple};
 
 use crate::Values;
 use crate::read_number::read_number;
@@ -34,7 +37,7 @@ impl<T: Drop> From<AllocFailed<T>> for DecodeError {
 }
 
 /// The truth value whose byte stands in front, and the bytes after it.
-fn read_truth(body: &[u8]) -> Option<(bool, &[u8])>
+pub(crate) fn read_truth(body: &[u8]) -> Option<(bool, &[u8])>
     ensures code { IfSome result (λ p. (if p.0 then 1 else 0) ∷ p.1.now ≡ body.now) }
     ensures none { IsNone result
         → (truth : Bool) (rest : List ℕ) → (if truth then 1 else 0) ∷ rest ≢ body.now }
@@ -85,11 +88,15 @@ pub fn read_value(
     }
 }
 
-/// The tuple whose code the bytes are.
-pub fn decode_key(alloc: Global, bytes: &[u8], types: &[DataType]) -> Result<Values, DecodeError>
-    ensures tuple { IfOk result (λ values. IsTuple types.now values) }
-    ensures code { IfOk result (λ values. code types.now values ≡ bytes.now) }
-    ensures not_a_key { IsErrOf result fault.NotAKey → IsCodeOfNone types.now bytes.now }
+/// The tuple whose code the bytes begin with, and the bytes after it.
+pub(crate) fn read_values<'a>(
+    alloc: Global,
+    bytes: &'a [u8],
+    types: &[DataType],
+) -> Result<(Values, &'a [u8]), DecodeError>
+    ensures tuple { IfOk result (λ p. IsTuple types.now p.0) }
+    ensures code { IfOk result (λ p. code types.now p.0 ++ p.1.now ≡ bytes.now) }
+    ensures not_a_key { IsErrOf result fault.NotAKey → BeginsNoTuple types.now bytes.now }
 {
     let mut values = Vec::with_capacity(alloc, types.len())?;
     let mut rest = bytes;
@@ -98,8 +105,18 @@ pub fn decode_key(alloc: Global, bytes: &[u8], types: &[DataType]) -> Result<Val
         values.push(value)?;
         rest = after;
     }
+    Ok((Values::new(values), rest))
+}
+
+/// The tuple whose code the bytes are.
+pub fn decode_key(alloc: Global, bytes: &[u8], types: &[DataType]) -> Result<Values, DecodeError>
+    ensures tuple { IfOk result (λ values. IsTuple types.now values) }
+    ensures code { IfOk result (λ values. code types.now values ≡ bytes.now) }
+    ensures not_a_key { IsErrOf result fault.NotAKey → IsCodeOfNone types.now bytes.now }
+{
+    let (values, rest) = read_values(alloc, bytes, types)?;
     if rest.is_empty() {
-        Ok(Values::new(values))
+        Ok(values)
     } else {
         Err(DecodeError::NotAKey)
     }

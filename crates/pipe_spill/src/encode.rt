@@ -1,8 +1,11 @@
+//! Values as the bytes of their codes.
+
 ghost use Rattle.std.specs.Prelude.{◌≡◌, ◌==◌, false, ◌++◌, ◌∷◌, ◌+ℤ◌, ◌^◌, pos, [], IfOk, OnErr, OnOk, length, take, true};
 ghost use Rattle.std.specs.List.{list_any};
 ghost use Rattle.pipe_columns.specs.AnyValue.{fits, fits_number};
 ghost use Rattle.pipe_columns.specs.Key.{code, number_code, text_code, value_code};
-ghost use Rattle.pipe_spill.specs.KeyTypes.{AreOfTypes};
+ghost use Rattle.pipe_spill.specs.KeyTypes.{AreOfTypes, IsTuple, IsValue};
+ghost use Rattle.pipe_spill.specs.SpillRow.{IsKey};
 
 use crate::KeyBytes;
 use pipe_columns::{AnyValue, DataType};
@@ -101,6 +104,7 @@ pub fn append_value(
     dtype: DataType,
 ) -> Result<(), AllocError>
     requires { fits value.now dtype ≡ true }
+    ensures value { IsValue dtype value.now }
     ensures ok { OnOk result (buffer.new.items ≡ buffer.old.items ++ value_code dtype value.now) }
     ensures refused { OnErr result (buffer.new.items ≡ buffer.old.items) }
 {
@@ -112,6 +116,22 @@ pub fn append_value(
     }
 }
 
+/// Appends the code of a tuple. A refusal leaves a part of it.
+pub(crate) fn append_values(
+    buffer: &mut Vec<u8>,
+    values: &[AnyValue],
+    types: &[DataType],
+) -> Result<(), AllocError>
+    requires { AreOfTypes types.now values.now }
+    ensures tuple { OnOk result (IsTuple types.now values.now) }
+    ensures ok { OnOk result (buffer.new.items ≡ buffer.old.items ++ code types.now values.now) }
+{
+    for (i, dtype) in types.iter().enumerate() {
+        append_value(buffer, &values[i], *dtype)?;
+    }
+    Ok(())
+}
+
 /// Writes the code of a tuple into a buffer, in the place of what it held. It takes no memory where
 /// the buffer has room.
 pub fn encode_key_into(
@@ -121,16 +141,15 @@ pub fn encode_key_into(
 ) -> Result<(), AllocError>
     requires { AreOfTypes types.now values.now }
     ensures ok { OnOk result (key.new.items ≡ code types.now values.now) }
+    ensures key { OnOk result (IsKey types.now key.new.items) }
     ensures refused { OnErr result (key.new.items ≡ []) }
 {
     key.clear();
-    for (i, dtype) in types.iter().enumerate() {
-        if append_value(key, &values[i], *dtype).is_err() {
-            key.clear();
-            return Err(AllocError);
-        }
+    let appended = append_values(key, values, types);
+    if appended.is_err() {
+        key.clear();
     }
-    Ok(())
+    appended
 }
 
 /// The code of a tuple.
@@ -140,7 +159,8 @@ pub fn encode_key(
     types: &[DataType],
 ) -> Result<KeyBytes, AllocError>
     requires { AreOfTypes types.now values.now }
-    ensures { IfOk result (λ key. key ≡ code types.now values.now) }
+    ensures code { IfOk result (λ key. key ≡ code types.now values.now) }
+    ensures key { IfOk result (λ key. IsKey types.now key) }
 {
     let mut key = Vec::new(alloc);
     encode_key_into(&mut key, values, types)?;

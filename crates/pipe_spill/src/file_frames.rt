@@ -1,8 +1,9 @@
-// Frames one after another in an open file.
+//! Frames one after another in an open file.
 
 ghost use Rattle.std.specs.Prelude.{◌≡◌, ◌<◌, ◌≤◌, [], length, IfOk, OnOk, OnErr, IsErrOf};
 ghost use Rattle.pipe_columns.specs.Causes.{HasCause};
-ghost use Rattle.pipe_spill.specs.FileStore.{faults_of, held_of, next_start, ReadAt, size_of, start_of, with_end, WroteAt};
+ghost use Rattle.pipe_spill.specs.FileFrames.{ReadAt, WroteAt};
+ghost use Rattle.pipe_spill.specs.FileStore.{faults_of, held_of, next_start, size_of, start_of, with_end};
 ghost use Rattle.pipe_spill.specs.declared.store.StoreError.TheVariants as store_error;
 
 use crate::store::StoreError;
@@ -49,7 +50,7 @@ impl FileFrames {
     pub fn put<F: Write + Seek>(&mut self, file: &mut F, frame: &[u8]) -> Result<u64, StoreError>
         ensures number { IfOk result (λ n. n ≡ held_of self.old) }
         ensures ends { OnOk result (self.new.ends ≡ with_end self.old.ends (length frame.now)) }
-        ensures written { OnOk result (WroteAt F.stream_position F.contents
+        ensures written { OnOk result (WroteAt F.stream_position F.stream_bytes F.contents
             (next_start self.old.ends) frame.now file.old file.new) }
         ensures refused { OnErr result (self.new.ends ≡ self.old.ends) }
         ensures cause { HasCause (faults_of self.old) (faults_of self.new)
@@ -81,7 +82,7 @@ impl FileFrames {
     ) -> Result<(), StoreError>
         requires held { number < held_of self.old }
         ensures size { OnOk result (length into.new.items ≡ size_of self.old.ends number) }
-        ensures read { OnOk result (ReadAt F.stream_position F.remaining
+        ensures read { OnOk result (ReadAt F.stream_position F.stream_bytes F.remaining
             (start_of self.old.ends number) into.new.items file.old file.new) }
         ensures refused { OnErr result (into.new.items ≡ []) }
         ensures ends { self.new.ends ≡ self.old.ends }
@@ -123,7 +124,8 @@ fn start_of(ends: &[u64], number: usize) -> u64
 
 /// Writes all the bytes at a place.
 fn write_at<F: Write + Seek>(file: &mut F, at: u64, bytes: &[u8]) -> io::Result<()>
-    ensures { OnOk result (WroteAt F.stream_position F.contents at bytes.now file.old file.new) }
+    ensures { OnOk result (WroteAt F.stream_position F.stream_bytes F.contents at bytes.now
+        file.old file.new) }
 {
     file.seek(SeekFrom::Start(at))?;
     file.write_all(bytes)?;
@@ -138,8 +140,8 @@ fn read_at<F: Read + Seek>(
     into: &mut Vec<u8>,
 ) -> io::Result<()>
     ensures count { OnOk result (length into.new.items ≡ count) }
-    ensures read { OnOk result (ReadAt F.stream_position F.remaining at into.new.items
-        file.old file.new) }
+    ensures read { OnOk result (ReadAt F.stream_position F.stream_bytes F.remaining at
+        into.new.items file.old file.new) }
     ensures refused { OnErr result (into.new.items ≡ []) }
 {
     into.clear();

@@ -1,7 +1,8 @@
-// A store in a file, which is opened by name at each call.
+//! A store in a file, which is opened by name at each call.
 
-ghost use Rattle.std.specs.Prelude.{◌≡◌, ◌<◌, ◌+◌, ◌-◌, ◌^◌, [], length, IfOk, OnOk, OnErr, IsErrOf};
+ghost use Rattle.std.specs.Prelude.{◌≡◌, ◌<◌, ◌+◌, ◌-◌, ◌^◌, [], length, string_bytes, IfOk, OnOk, OnErr, IsErrOf};
 ghost use Rattle.pipe_columns.specs.Causes.{HasCause};
+ghost use Rattle.pipe_spill.specs.FileFrames.{path_in};
 ghost use Rattle.pipe_spill.specs.FileStore.{faults_of, held_of, size_of, with_end};
 ghost use Rattle.pipe_spill.specs.declared.store.StoreError.TheVariants as store_error;
 
@@ -31,14 +32,15 @@ impl<R> Model for FileStore<R> {
 }
 
 impl<R: Files + Drop> FileStore<R> {
-    /// The store of a partition in a folder. No file is touched yet.
+    /// The store of a partition in a folder. No file is touched yet; a folder that isn't there, as
+    /// one without a name, fails the first put.
     pub fn new(rt: R, alloc: Global, dir: &Text, partition: usize) -> Result<Self, AllocError>
         ensures ends { IfOk result (λ s. s.ends ≡ []) }
         ensures faults { IfOk result (λ s. s.faults ≡ 0) }
     {
         Ok(FileStore {
             rt,
-            path: format!(in alloc; "{}/partition-{partition}.spill", dir.as_str())?,
+            path: path_in(alloc, dir.as_str(), partition)?,
             frames: FileFrames::new(alloc),
         })
     }
@@ -46,7 +48,7 @@ impl<R: Files + Drop> FileStore<R> {
 
 impl<R: Files + Drop> SpillStore for FileStore<R> {
     ghost use Rattle.std.specs.Prelude.{None, false};
-    ghost use Rattle.pipe_spill.specs.FileStore.{faults_of, held_of, never_sure};
+    ghost use Rattle.pipe_spill.specs.FileStore.{faults_of, held_of, sure_never_failed};
 
     ghost told = { λ s. None };
 
@@ -58,7 +60,7 @@ impl<R: Files + Drop> SpillStore for FileStore<R> {
 
     ghost tells_all = { λ s. tt };
 
-    ghost never_failed = { never_sure };
+    ghost never_failed = { sure_never_failed };
 
     fn held(&self) -> u64
         ensures { result ≡ held_of self.now }
@@ -98,6 +100,16 @@ impl<R: Files + Drop> SpillStore for FileStore<R> {
             Err(error) => Err(self.frames.refusal(error.kind())),
         }
     }
+}
+
+/// The path of a partition's file. That of a folder without a name names nothing.
+fn path_in(alloc: Global, dir: &str, partition: usize) -> Result<String, AllocError>
+    ensures { IfOk result (λ path. string_bytes path ≡ path_in dir.now partition) }
+{
+    if dir.is_empty() {
+        return Ok(String::new(alloc));
+    }
+    format!(in alloc; "{dir}/partition-{partition}.spill")
 }
 
 /// Opens the file of a path to write, which the first put makes or empties.

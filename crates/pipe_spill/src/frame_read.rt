@@ -1,9 +1,10 @@
-// Rows out of the bytes of a frame.
+//! Rows out of the bytes of a frame.
 
-ghost use Rattle.std.specs.Prelude.{◌≡◌, IfOk, IsErrOf};
+ghost use Rattle.std.specs.Prelude.{◌≡◌, IfOk, IsErrOf, List};
 ghost use Rattle.pipe_spill.specs.FrameBytes.{frame_bytes, IsFrameOfNone};
 ghost use Rattle.pipe_spill.specs.SpillRow.{AreRows};
 ghost use Rattle.pipe_spill.specs.declared.frame_read.FrameError.TheVariants as fault;
+ghost use Rattle.pipe_spill.specs.declared.spill_row.SpillRow.{SpillRow};
 
 use crate::row_read::{read_row, take_u64};
 use crate::spill_row::SpillRow;
@@ -47,6 +48,9 @@ pub fn read_frame(
 ) -> Result<Vec<SpillRow>, FrameError>
     ensures rows { IfOk result (λ rows. AreRows key_types.now input_types.now rows.items) }
     ensures frame { IfOk result (λ rows. frame_bytes input_types.now rows.items ≡ bytes.now) }
+    ensures read_back { IfOk result (λ read. (rows : List SpillRow)
+        → AreRows key_types.now input_types.now rows
+        → frame_bytes input_types.now rows ≡ bytes.now → rows ≡ read.items) }
     ensures not_a_frame { IsErrOf result fault.NotAFrame
         → IsFrameOfNone key_types.now input_types.now bytes.now }
 {

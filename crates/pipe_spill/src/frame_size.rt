@@ -1,7 +1,7 @@
-// How many bytes a frame takes, up to the last number: room is taken once, and want of it is met
-// before anything is written.
+//! How many bytes rows take in a frame, up to the last number: room is taken once, and want of it is
+//! met before anything is written.
 
-use crate::spill_row::SpillRow;
+use crate::spill_row::{SpillPayload, SpillRow};
 use pipe_columns::{AnyValue, DataType};
 
 /// How many bytes the code of a number takes.
@@ -41,16 +41,29 @@ fn value_size(value: &AnyValue, dtype: DataType) -> usize {
     }
 }
 
-/// How many bytes the frame of some rows takes.
-pub fn frame_size(rows: &[SpillRow], input_types: &[DataType]) -> usize {
-    let mut size = 8usize;
+/// How many bytes a row takes in a frame.
+fn row_size(row: &SpillRow, input_types: &[DataType]) -> usize {
+    let mut size = row.key.as_slice().len().saturating_add(16);
+    for (value, dtype) in row.values.as_slice().iter().zip(input_types) {
+        size = size.saturating_add(value_size(value, *dtype));
+    }
+    size
+}
+
+/// How many bytes some rows take in a frame.
+pub(crate) fn rows_size(rows: &[SpillRow], input_types: &[DataType]) -> usize {
+    let mut size = 0usize;
     for row in rows {
-        size = size
-            .saturating_add(16)
-            .saturating_add(row.key.as_slice().len());
-        for (value, dtype) in row.values.as_slice().iter().zip(input_types) {
-            size = size.saturating_add(value_size(value, *dtype));
-        }
+        size = size.saturating_add(row_size(row, input_types));
+    }
+    size
+}
+
+/// How many bytes the rows of some payloads take in a frame.
+pub(crate) fn payloads_size(payloads: &[SpillPayload], input_types: &[DataType]) -> usize {
+    let mut size = 0usize;
+    for payload in payloads {
+        size = size.saturating_add(rows_size(&payload.rows, input_types));
     }
     size
 }

@@ -1,4 +1,4 @@
-// A list of frames.
+//! A list of frames.
 
 ghost use Rattle.std.specs.Prelude.{◌≡◌};
 ghost use Rattle.pipe_spill.specs.Store.{contents};
@@ -21,16 +21,24 @@ impl Model for Frames {
 }
 
 impl Frames {
-    /// The frames in the order of the list.
+    /// The list of these frames. It takes no memory.
     pub fn new(items: Vec<Vec<u8>>) -> Frames
         ensures { result ≡ contents items.items }
     {
         Frames { items }
     }
 
+    /// The frames, lent. It takes no memory.
     pub fn as_slice(&self) -> &[Vec<u8>]
         ensures { contents result.now ≡ self.now }
     {
         &self.items
+    }
+
+    /// Gives the frames back. It takes no memory.
+    pub fn into_vec(self) -> Vec<Vec<u8>>
+        ensures { contents result.items ≡ self }
+    {
+        self.items
     }
 }

@@ -1,3 +1,5 @@
+//! The bytes of a key.
+
 ghost use Rattle.std.specs.Prelude.{◌≡◌};
 
 use std::marker::Model;
@@ -17,15 +19,24 @@ impl Model for KeyBytes {
 }
 
 impl KeyBytes {
+    /// The key of these bytes. It takes no memory.
     pub fn new(items: Vec<u8>) -> KeyBytes
         ensures { result ≡ items.items }
     {
         KeyBytes { bytes: items }
     }
 
+    /// The bytes, lent. It takes no memory.
     pub fn as_slice(&self) -> &[u8]
         ensures { result.now ≡ self.now }
     {
         &self.bytes
+    }
+
+    /// Gives the bytes back. It takes no memory.
+    pub fn into_vec(self) -> Vec<u8>
+        ensures { result.items ≡ self }
+    {
+        self.bytes
     }
 }

@@ -1,4 +1,4 @@
-// The codes of the worked rows, of the edges of each type, and bytes that are no code.
+//! The codes of the worked rows, of the edges of each type, and bytes that are no code.
 
 use crate::{DecodeError, decode_key, encode_key, encode_key_into, fold, partition_of};
 use pipe_columns::{AnyValue, DataType, Text};

@@ -12,6 +12,7 @@ mod frame_size;
 mod frame_write;
 mod frames;
 mod key_bytes;
+mod key_check;
 mod laws;
 mod memory_store;
 mod partition;
@@ -21,12 +22,13 @@ mod row_read;
 mod spill_row;
 mod store;
 mod values;
+mod worked;
 
 pub use decode::{DecodeError, decode_key, read_value};
 pub use encode::{append_value, encode_key, encode_key_into};
 pub use file_store::FileStore;
 pub use frame_read::{FrameError, read_frame};
-pub use frame_write::write_frame;
+pub use frame_write::{write_frame, write_payloads};
 pub use frames::Frames;
 pub use key_bytes::KeyBytes;
 pub use memory_store::MemoryStore;
@@ -37,3 +39,5 @@ pub use values::Values;
 
 #[cfg(test)]
 mod key_tests;
+#[cfg(test)]
+mod memory_tests;

@@ -1,4 +1,4 @@
-// A store in memory, which fails at listed calls.
+//! A store in memory, which fails at listed calls.
 
 ghost use Rattle.std.specs.Prelude.{◌≡◌, ◌<◌, ◌+◌, ◌-◌, ◌^◌, ◌↔◌, ◌==◌, ◌∷◌, ◌++◌, [], length, IfOk, OnOk, OnErr, IsErrOf, IsTrue};
 ghost use Rattle.pipe_columns.specs.Calls.{after_call, is_listed, no_calls};
@@ -7,8 +7,8 @@ ghost use Rattle.pipe_spill.specs.MemoryStore.{faults_of, held_of, is_sure, told
 ghost use Rattle.pipe_spill.specs.Store.{contents, IsFrameAt, with_frame};
 ghost use Rattle.pipe_spill.specs.declared.store.StoreError.TheVariants as store_error;
 
-use pipe_columns::FailingCalls;
 use crate::store::{SpillStore, StoreError};
+use pipe_columns::FailingCalls;
 use std::alloc::{AllocError, Global};
 use std::marker::Model;
 

@@ -1,3 +1,5 @@
+//! The partition of a key.
+
 ghost use Rattle.std.specs.Prelude.{◌≡◌, ◌<◌, ◌%◌};
 ghost use Rattle.pipe_columns.specs.Key.{fold_bytes};
 

@@ -1,8 +1,10 @@
+//! A number out of the bytes of its code.
+
 ghost use Rattle.std.specs.Prelude.{◌≡◌, ◌++◌, ◌^◌, ◌<◌, ◌≤◌, IfSome, IsNone, length, true};
 ghost use Rattle.std.specs.Int.{bytes_high_first};
 ghost use Rattle.pipe_columns.specs.AnyValue.{fits_number};
 ghost use Rattle.pipe_columns.specs.Key.{number_code};
-ghost use Rattle.pipe_spill.specs.KeyTypes.{width};
+ghost use Rattle.pipe_spill.specs.Reading.{width};
 
 use pipe_columns::DataType;
 

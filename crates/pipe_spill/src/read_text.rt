@@ -1,3 +1,5 @@
+//! A text out of the bytes of its code.
+
 ghost use Rattle.std.specs.Prelude.{◌≡◌, ◌≢◌, ◌++◌, IfOk, IsErrOf, IsUtf8, List, ℕ};
 ghost use Rattle.pipe_columns.specs.Key.{text_code};
 ghost use Rattle.pipe_spill.specs.declared.decode.DecodeError.TheVariants as fault;

@@ -1,19 +1,17 @@
-// One row out of the bytes of a frame.
+//! One row out of the bytes of a frame.
 
-ghost use Rattle.std.specs.Prelude.{◌≡◌, ◌++◌, ◌<◌, ◌^◌, IfOk, IfSome, IsErrOf, IsNone, OnOk, length};
+ghost use Rattle.std.specs.Prelude.{◌≡◌, ◌++◌, ◌<◌, ◌^◌, IfOk, IfSome, IsErrOf, IsNone, length};
 ghost use Rattle.std.specs.Int.{bytes_high_first};
-ghost use Rattle.pipe_columns.specs.Key.{code};
-ghost use Rattle.pipe_spill.specs.FrameBytes.{BeginsNoRow, BeginsNoTuple, row_bytes};
-ghost use Rattle.pipe_spill.specs.KeyTypes.{IsTuple};
-ghost use Rattle.pipe_spill.specs.SpillRow.{IsKey, IsRow};
-ghost use Rattle.pipe_spill.specs.declared.decode.DecodeError.TheVariants as key_fault;
+ghost use Rattle.pipe_spill.specs.FrameBytes.{row_bytes};
+ghost use Rattle.pipe_spill.specs.Reading.{BeginsNoRow};
+ghost use Rattle.pipe_spill.specs.SpillRow.{IsRow};
 ghost use Rattle.pipe_spill.specs.declared.frame_read.FrameError.TheVariants as fault;
 
-use crate::decode::{DecodeError, read_value};
+use crate::decode::{DecodeError, read_values};
 use crate::frame_read::FrameError;
 use crate::key_bytes::KeyBytes;
+use crate::key_check::is_key;
 use crate::spill_row::SpillRow;
-use crate::values::Values;
 use pipe_columns::{DataType, Place};
 use std::alloc::Global;
 
@@ -52,42 +50,6 @@ fn take_head(bytes: &[u8]) -> Option<(Place, u64, &[u8])>
     Some((Place { chunk, row }, size, rest))
 }
 
-/// Whether the bytes are the key of a tuple of the types. No value is kept.
-fn check_key(alloc: Global, key: &[u8], types: &[DataType]) -> Result<(), DecodeError>
-    ensures ok { OnOk result (IsKey types.now key.now) }
-    ensures not_a_key { IsErrOf result key_fault.NotAKey → IsKey types.now key.now → ⊥ }
-{
-    let mut rest = key;
-    for dtype in types {
-        rest = read_value(alloc, rest, *dtype)?.1;
-    }
-    if rest.is_empty() {
-        Ok(())
-    } else {
-        Err(DecodeError::NotAKey)
-    }
-}
-
-/// The tuple whose code the bytes begin with, and the bytes after it.
-fn read_values<'a>(
-    alloc: Global,
-    bytes: &'a [u8],
-    types: &[DataType],
-) -> Result<(Values, &'a [u8]), DecodeError>
-    ensures tuple { IfOk result (λ p. IsTuple types.now p.0) }
-    ensures code { IfOk result (λ p. code types.now p.0 ++ p.1.now ≡ bytes.now) }
-    ensures not_a_key { IsErrOf result key_fault.NotAKey → BeginsNoTuple types.now bytes.now }
-{
-    let mut values = Vec::with_capacity(alloc, types.len())?;
-    let mut rest = bytes;
-    for dtype in types {
-        let (value, after) = read_value(alloc, rest, *dtype)?;
-        values.push(value)?;
-        rest = after;
-    }
-    Ok((Values::new(values), rest))
-}
-
 /// What a fault of a code is to a frame.
 fn frame_error(error: DecodeError) -> FrameError
     ensures not_a_frame { result ≡ fault.NotAFrame → error ≡ DecodeError.NotAKey }
@@ -117,8 +79,8 @@ pub fn read_row<'a>(
         return Err(FrameError::NotAFrame);
     }
     let (key, rest) = rest.split_at(size as usize);
-    if let Err(error) = check_key(alloc, key, key_types) {
-        return Err(frame_error(error));
+    if !is_key(key, key_types) {
+        return Err(FrameError::NotAFrame);
     }
     match read_values(alloc, rest, input_types) {
         Ok((values, rest)) => {

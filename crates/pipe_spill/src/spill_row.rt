@@ -1,3 +1,5 @@
+//! Rows that are spilled, and payloads of them.
+
 use crate::key_bytes::KeyBytes;
 use crate::values::Values;
 use pipe_columns::Place;

@@ -1,4 +1,4 @@
-// Where frames are put, and fetched from by number.
+//! Where frames are put, and fetched from by number.
 
 ghost use Rattle.std.specs.Prelude.{◌≡◌, ◌<◌, ◌+◌, ◌-◌, ◌^◌, ℕ, List, [], Bool, Option, IfOk, OnOk, OnErr, IsErrOf, IsTrue};
 ghost use Rattle.pipe_columns.specs.Causes.{HasCause};

@@ -1,3 +1,5 @@
+//! A list of values.
+
 ghost use Rattle.std.specs.Prelude.{◌≡◌};
 
 use pipe_columns::AnyValue;
@@ -20,15 +22,24 @@ impl Model for Values {
 }
 
 impl Values {
+    /// The list of these values. It takes no memory.
     pub fn new(items: Vec<AnyValue>) -> Values
         ensures { result ≡ items.items }
     {
         Values { values: items }
     }
 
+    /// The values, lent. It takes no memory.
     pub fn as_slice(&self) -> &[AnyValue]
         ensures { result.now ≡ self.now }
     {
         &self.values
+    }
+
+    /// Gives the values back. It takes no memory.
+    pub fn into_vec(self) -> Vec<AnyValue>
+        ensures { result.items ≡ self }
+    {
+        self.values
     }
 }

@@ -1,4 +1,4 @@
-// Frames over a file that fails.
+//! Frames over a file that fails.
 
 use crate::file_frames::FileFrames;
 use std::alloc::Global;

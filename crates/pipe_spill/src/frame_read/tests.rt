@@ -1,50 +1,11 @@
-// Frames byte by byte, and bytes that are none.
+//! Frames byte by byte, and bytes that are none.
 
-ghost use Rattle.std.specs.Prelude.{[], ◌∷◌, IfOk};
-ghost use Rattle.pipe_columns.specs.declared.data_type.DataType.TheVariants as dt;
-ghost use Rattle.pipe_spill.specs.KeyTypes.{AreOfTypes};
-
-use crate::encode::encode_key;
 use crate::frame_read::read_frame;
-use crate::frame_write::write_frame;
-use crate::spill_row::SpillRow;
-use crate::values::Values;
-use pipe_columns::{AnyValue, DataType, Place};
+use crate::frame_write::tests::TWO_ROWS;
+use crate::partition::partition_of;
+use pipe_columns::DataType;
 use std::alloc::{AllocError, Global};
 use std::test::Fail;
-
-/// The frame of two rows of the key 2, with the values 6 and 7.
-const TWO_ROWS: [u8; 76] = [
-    0, 0, 0, 0, 0, 0, 0, 2, //
-    0, 0, 0, 0, 0, 0, 0, 1, 0, 0, 0, 0, 0, 0, 0, 9, //
-    1, 128, 0, 0, 0, 0, 0, 0, 2, 1, 128, 0, 0, 0, 0, 0, 0, 6, //
-    0, 0, 0, 0, 0, 0, 0, 2, 0, 0, 0, 0, 0, 0, 0, 9, //
-    1, 128, 0, 0, 0, 0, 0, 0, 2, 1, 128, 0, 0, 0, 0, 0, 0, 7,
-];
-
-/// A row of chunk 0 with an integer as its key and one as its input.
-fn row_of(alloc: Global, row: u32, key: i64, value: i64) -> Result<SpillRow, AllocError>
-    ensures { IfOk result (λ r. AreOfTypes (dt.Int64 ∷ []) r.values) }
-{
-    let mut values = Vec::new(alloc);
-    values.push(AnyValue::Int(value as i128))?;
-    Ok(SpillRow {
-        place: Place { chunk: 0, row },
-        key: encode_key(alloc, &[AnyValue::Int(key as i128)], &[DataType::Int64])?,
-        values: Values::new(values),
-    })
-}
-
-#[test]
-fn a_frame_of_two_rows(rt: HostRuntime) -> Result<(), Fail> {
-    let alloc = rt.alloc();
-    let first = row_of(alloc, 1, 2, 6)?;
-    let second = row_of(alloc, 2, 2, 7)?;
-    let frame = write_frame(alloc, &[first, second], &[DataType::Int64])?;
-    assert_eq!(rt; frame.as_slice(), TWO_ROWS.as_slice());
-    assert_eq!(rt; frame.capacity(), 76);
-    Ok(())
-}
 
 /// What bytes are read as: each row's place, key and inputs, or the error.
 fn answer_of(
@@ -78,6 +39,16 @@ fn rows_are_read_back(rt: HostRuntime) -> Result<(), Fail> {
     let want = "0.1 [1, 128, 0, 0, 0, 0, 0, 0, 2] [Int(6)]\n\
         0.2 [1, 128, 0, 0, 0, 0, 0, 0, 2] [Int(7)]\n";
     assert_eq!(rt; answer.as_str(), want);
+    Ok(())
+}
+
+#[test]
+fn rows_of_one_partition(rt: HostRuntime) -> Result<(), Fail> {
+    let types = [DataType::Int64];
+    let rows = read_frame(rt.alloc(), &TWO_ROWS, &types, &types)?;
+    for row in &rows {
+        assert_eq!(rt; partition_of(row.key.as_slice(), 16), 3);
+    }
     Ok(())
 }
 

@@ -1,4 +1,4 @@
-// What stores answer to two puts and the gets of what they hold, in memory and in files.
+//! What stores answer to two puts and the gets of what they hold, in memory and in files.
 
 use crate::file_store::FileStore;
 use crate::memory_store::MemoryStore;
@@ -79,16 +79,22 @@ fn frames_in_a_file_are_read_back(rt: HostRuntime) -> Result<(), Fail> {
     assert_eq!(rt; put_and_get(alloc, &mut store)?.as_str(), both);
     let text = fs::read_to_string(&rt, "spills/partition-3.spill")?;
     assert_eq!(rt; text.as_str(), "onesecond");
+    fs::remove_dir_all(&rt, "spills")?;
     Ok(())
 }
 
 #[test]
-fn a_folder_that_is_absent(rt: HostRuntime) -> Result<(), Fail> {
+fn folders_that_are_absent(rt: HostRuntime) -> Result<(), Fail> {
     let alloc = rt.alloc();
-    let dir = Text::new(alloc, "absent")?;
-    let mut store = FileStore::new(rt, alloc, &dir, 0)?;
-    let refused = "put Err(Failed)\nput Err(Failed)\n";
-    assert_eq!(rt; put_and_get(alloc, &mut store)?.as_str(), refused);
+    for name in ["absent", ""] {
+        let dir = Text::new(alloc, name)?;
+        let mut store = FileStore::new(rt, alloc, &dir, 3)?;
+        let refused = "put Err(Failed)\nput Err(Failed)\n";
+        assert_eq!(rt; put_and_get(alloc, &mut store)?.as_str(), refused);
+    }
+    for path in ["/partition-3.spill", "partition-3.spill"] {
+        assert!(rt; fs::metadata(&rt, path).is_err());
+    }
     Ok(())
 }
 

@@ -1,3 +1,4 @@
+-- The seek places the file, and what is written then stays.
 use Rattle.std.proofs.Common.{rules, ◌≡◌, ℕ, List, Option, Some, None, Result, Ok, Err, OnOk, IfSome}
 use Rattle.std.specs.Io.KnownBytes.{Appends, Keeps}
 use Rattle.pipe_spill.proofs.file_frames.write_at.Goals as goal
@@ -20,4 +21,4 @@ returns g c =
     let write = g.F.Write in
     let there : IfSome (seek.stream_position c.args.file.now) (λ _. seek.stream_position c.seek.new.self ≡ Some c.args.at) = search rules in
     let taken = kept (write.contents c.seek.new.self) (write.contents c.write_all.new.self) (write.contents c.flush.new.self) c.args.bytes.now c.in_ok-write_all.ensures.bytes c.flush.ensures.bytes in
-    anyway c.flush.result _ (record { placed = c.seek.new.self; there = there; taken = taken })
+    anyway c.flush.result _ (record { placed = c.seek.new.self; moved = record { there = there; kept = c.seek.ensures.bytes }; taken = taken })

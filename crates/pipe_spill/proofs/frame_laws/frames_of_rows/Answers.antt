@@ -1,3 +1,4 @@
+-- Frames are read in one way alone.
 use Rattle.pipe_spill.proofs.FrameOnce.{frames_injective, frames_no_front}
 use Rattle.pipe_spill.proofs.frame_laws.frames_of_rows.Goals as goal
 

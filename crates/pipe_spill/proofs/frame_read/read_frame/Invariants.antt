@@ -1,3 +1,4 @@
+-- So many rows were read.
 use Rattle.pipe_spill.proofs.FrameOnce.{AreReadTo}
 use Rattle.pipe_spill.proofs.frame_read.read_frame.Given as goal
 

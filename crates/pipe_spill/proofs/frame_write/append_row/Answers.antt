@@ -26,13 +26,13 @@ returns c =
     let t : List ℕ = c.extend_from_slice-2.new.self.items in
     let u : List ℕ = c.extend_from_slice-3.new.self.items in
     let v : List ℕ = c.extend_from_slice-4.new.self.items in
-    let w : List ℕ = c.append_values.new.frame.items in
+    let w : List ℕ = c.append_values.new.buffer.items in
     let first : s ≡ old ++ chunk = search rules in
     let second : t ≡ s ++ number = search rules in
     let third : u ≡ t ++ size = search rules in
     let fourth : v ≡ u ++ key = search rules in
     let same : c.as_slice.result.now ≡ row.values = search rules in
     let front = behind old (chunk ++ number ++ size) key u v (behind old (chunk ++ number) size t u (behind old chunk number s t first second) third) fourth in
-    let last : OnOk c.append_values.result (w ≡ v ++ inputs) = rw same at c.append_values.ensures in
+    let last : OnOk c.append_values.result (w ≡ v ++ inputs) = rw same at c.append_values.ensures.ok in
     then (w ≡ v ++ inputs) (w ≡ old ++ (chunk ++ number ++ size ++ key ++ inputs)) c.append_values.result
     (λ e. behind old (chunk ++ number ++ size ++ key) inputs v w front e) last

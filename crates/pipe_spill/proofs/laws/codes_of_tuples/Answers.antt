@@ -1,3 +1,4 @@
+-- Codes are ordered as tuples, and read in one way alone.
 use Rattle.pipe_spill.proofs.CodeOrder.{codes_injective, codes_no_front, codes_ordered}
 use Rattle.pipe_spill.proofs.laws.codes_of_tuples.Goals as goal
 

@@ -1,3 +1,4 @@
+-- Eight bytes, and the number that they are.
 use Rattle.std.proofs.Common.{rules, ◌≡◌, ◌<◌, ◌∙◌, ◌++◌, List, ℕ, length, take, drop, get_or, ap, take-append-drop}
 use Rattle.std.specs.Int.{bytes_high_first}
 use Rattle.std.proofs.lemmas.Nat.{be_bytes_8}

@@ -1,5 +1,0 @@
-use Rattle.pipe_spill.proofs.ValuesRead.{IsReadTo}
-use Rattle.pipe_spill.proofs.row_read.read_values.Given as goal
-
-abbrev pub invariant-loop-dtype : goal.invariant-loop-dtype
-invariant-loop-dtype l = IsReadTo l.types l.bytes l.values.items l.rest l.dtype-index

@@ -1,0 +1,30 @@
+-- Of the proofs alone: the path of a store's file, and what becomes of a file when a frame is written or read.
+use Rattle.std.specs.Prelude.{◌≡◌, ℕ, List, [], ◌∷◌, ◌++◌, codes, Option, Some, IfSome}
+use Rattle.std.specs.Fmt.{decimal}
+use Rattle.std.specs.Io.KnownBytes.{Appends, Consumes, Keeps}
+
+-- the path of a partition's file in a folder; a folder without a name has no file, so no path
+abbrev pub path_in : List ℕ → ℕ → List ℕ
+path_in [] partition = []
+path_in (b ∷ name) partition =
+    b ∷ name ++ codes "/partition-" ++ decimal partition ++ codes ".spill"
+
+-- a file was moved to a place, and its bytes stayed as they were
+pub record WasMoved {F : Type 0} (position : F → Option ℕ) (bytes : F → Option (List ℕ))
+    (at : ℕ) (before after : F) : Type 0 where
+  pub there : IfSome (position before) (λ _. position after ≡ Some at)
+  pub kept : Keeps (bytes before) (bytes after)
+
+-- a file was moved to a place, and then it took these bytes
+pub record WroteAt {F : Type 0} (position : F → Option ℕ) (bytes contents : F → Option (List ℕ))
+    (at : ℕ) (frame : List ℕ) (before after : F) : Type 0 where
+  pub placed : F
+  pub moved : WasMoved position bytes at before placed
+  pub taken : Appends (contents placed) (contents after) frame
+
+-- a file was moved to a place, and then it gave these bytes
+pub record ReadAt {F : Type 0} (position : F → Option ℕ) (bytes remaining : F → Option (List ℕ))
+    (at : ℕ) (frame : List ℕ) (before after : F) : Type 0 where
+  pub placed : F
+  pub moved : WasMoved position bytes at before placed
+  pub given : Consumes (remaining placed) (remaining after) frame
