@@ -1,11 +1,12 @@
 //! The values of an expression in the rows of a chunk.
 
-ghost use Rattle.std.specs.Prelude.{◌≡◌};
+ghost use Rattle.std.specs.Prelude.{◌≡◌, option_copied, slice_get};
 ghost use Rattle.pipe_exprs.specs.Evaluated.{items_of};
 
 use pipe_columns::AnyValue;
 
-/// The values of an expression in the rows of a chunk: those of one of its columns, or of their own.
+/// The values of an expression in the rows of a chunk: those of one of its columns, or values of
+/// their own.
 #[derive(Drop)]
 pub enum ColumnValues<'a> {
     Lent(&'a [AnyValue]),
@@ -21,5 +22,12 @@ impl<'a> ColumnValues<'a> {
             ColumnValues::Lent(values) => *values,
             ColumnValues::Own(values) => values,
         }
+    }
+
+    /// The value in a row, where there is one.
+    pub fn at(&self, row: usize) -> Option<&AnyValue>
+        ensures { option_copied result ≡ slice_get (items_of self.now) row }
+    {
+        self.as_slice().get(row)
     }
 }

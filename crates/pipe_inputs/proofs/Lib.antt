@@ -1,0 +1,3 @@
+pub mod ListFacts
+pub mod CellFacts
+pub mod TypeFacts

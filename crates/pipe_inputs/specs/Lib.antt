@@ -1,0 +1,3 @@
+pub mod ChunkRows
+pub mod RowTypes
+pub mod Cells
