@@ -1,10 +1,12 @@
 -- The rows of a chunk, as they are read from lists of values.
-use Rattle.std.proofs.Common.{◌≡◌, ◌∙◌, ℕ, zero, suc, ◌+◌, ◌<◌, List, [], ◌∷◌, length, map, get_or, refl, sym, ap, arith}
-use Rattle.std.specs.Prelude.{slice_get, option_copied, option_map, Option, Some, None, Bor, unwrap_or}
+use Rattle.std.proofs.Common.{◌≡◌, ◌∙◌, ℕ, zero, suc, ◌+◌, ◌<◌, List, [], ◌∷◌, length, map, get_or, refl, sym, ap, subst, arith}
+use Rattle.std.specs.Prelude.{All}
 use Rattle.std.specs.List.{range_with_len}
 use Rattle.std.proofs.lemmas.Simd.{map-map}
-use Rattle.std.proofs.lemmas.List.FromFn.{fill_by_all, get_or-map-range_with_len, length-map-range_with_len}
-use Rattle.std.proofs.lemmas.Option.{slice_get-map, unwrap_or-slice_get}
+use Rattle.std.proofs.lemmas.List.FromFn.{fill_by_all, get_or-map-range_with_len, length-map-range_with_len, length-range_with_len}
+use Rattle.std.proofs.lemmas.List.{length-map}
+use Rattle.std.proofs.lemmas.List.Elements.{All-map}
+use Rattle.std.proofs.lemmas.Option.{unwrap_or-slice_get}
 use Rattle.pipe_columns.specs.declared.any_value.AnyValue.{AnyValue}
 use Rattle.pipe_columns.specs.declared.any_value.AnyValue.TheVariants as av
 use Rattle.pipe_columns.specs.Frame.{FrameData, value_at}
@@ -59,11 +61,20 @@ rows_read_are q i height frame ks is all he ha =
     (length-map-range_with_len (row_read i ks is) 0 frame.height)
     (λ n h. get_or-map-range_with_len (row_read i ks is) 0 frame.height n n no_row h (omega arith) ∙ row_read_is q i n frame ks is h he ha))
 
--- one of the rows that are read
-pub row_at-read : (i height : ℕ) (ks is : List ColumnValues) (n : ℕ) → n < length (rows_read i height ks is) → row_at (rows_read i height ks is) n ≡ row_read i ks is n
-row_at-read i height ks is n h =
-    unwrap_or-slice_get (rows_read i height ks is) n no_row
-    ∙ get_or-map-range_with_len (row_read i ks is) 0 height n n no_row (omega (arith, length-map-range_with_len (row_read i ks is) 0 height)) (omega arith)
+-- rows that are read: how many there are, one of them, and how long their keys are
+pub length-seen : (rows : List Row) (i height : ℕ) (ks is : List ColumnValues) → rows_read i height ks is ≡ rows → height ≡ length rows
+length-seen rows i height ks is seen = sym (length-map-range_with_len (row_read i ks is) 0 height) ∙ ap length seen
+
+pub seen_at : (rows : List Row) (i height : ℕ) (ks is : List ColumnValues) (n : ℕ) → rows_read i height ks is ≡ rows → n < length rows → row_at rows n ≡ row_read i ks is n
+seen_at rows i height ks is n seen h =
+    ap (λ (t : List Row). row_at t n) (sym seen) ∙ unwrap_or-slice_get (rows_read i height ks is) n no_row
+    ∙ get_or-map-range_with_len (row_read i ks is) 0 height n n no_row (omega (arith, length-seen rows i height ks is seen)) (omega arith)
+
+pub keys-seen : (rows : List Row) (i height : ℕ) (ks is : List ColumnValues) → rows_read i height ks is ≡ rows → All (λ r. length r.key ≡ length ks) rows
+keys-seen rows i height ks is seen =
+    subst (All (λ (r : Row). length r.key ≡ length ks)) seen
+    (All-map (λ (r : Row). length r.key ≡ length ks) (row_read i ks is) (range_with_len 0 height)
+    (λ k d l. length-map ks (λ (values : ColumnValues). value_at (items_of values) (get_or (range_with_len 0 height) k d))))
 
 -- one of the rows of a chunk
 pub row_at-chunk : (q : QueryTree) (i : ℕ) (frame : FrameData) (n : ℕ) → n < frame.height → row_at (chunk_rows q i frame) n ≡ row_of q i frame n

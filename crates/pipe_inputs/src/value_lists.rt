@@ -1,9 +1,10 @@
 //! What a query's keys and inputs are in the rows of a chunk.
 
-ghost use Rattle.std.specs.Prelude.{◌≡◌, IfOk, map, true};
+ghost use Rattle.std.specs.Prelude.{◌≡◌, IfOk, OnOk, map, true};
 ghost use Rattle.pipe_columns.specs.Frame.{fields_of, FitsSchema};
 ghost use Rattle.pipe_exprs.specs.Evaluated.{items_of, row_values};
 ghost use Rattle.pipe_model.specs.Groupable.{is_fed};
+ghost use Rattle.pipe_aggs.specs.CheckedQuery.{IsSound};
 ghost use Rattle.pipe_aggs.specs.HashAggs.{input_of, IsThere};
 ghost use Rattle.pipe_aggs.specs.QueryTrees.{query_tree};
 ghost use Rattle.pipe_inputs.specs.Cells.{input_values};
@@ -19,8 +20,9 @@ pub(crate) fn key_lists<'a>(
     chunk: &'a DataChunk,
 ) -> Result<Vec<ColumnValues<'a>>, AllocError>
     requires { FitsSchema query.now.schema chunk.now.frame }
-    ensures { IfOk result (λ lists. map items_of lists.items
+    ensures values { IfOk result (λ lists. map items_of lists.items
         ≡ map (λ e. row_values e chunk.now.frame) (query_tree query.now).keys) }
+    ensures sound { OnOk result (IsSound query.now) }
 {
     let query = query.query();
     let mut lists = Vec::with_capacity(alloc, query.keys.len())?;

@@ -18,8 +18,8 @@ values-requires-clause-typed c =
     rw (c.deref-key-items.ensures.value, c.query-query.ensures.query, c.requires)
     (both_true _ _ (key-valued q c.loop-key.key-index (record { 0 = 0 }) c.query-query.ensures.groupable (rw (c.deref-key-items.ensures.value, c.query-query.ensures.query) at c.loop-key-test.true))).1
 
-pub returns : goal.returns
-returns c =
+pub returns-clause-values : goal.returns-clause-values
+returns-clause-values c =
     let q : Query = c.args.query.now in
     let keys : List Node = c.query-query.result.now.keys.items in
     let past : length c.deref-key-items.result.now ≤ c.loop-key.key-index = omega (arith, c.loop-key-test.false) in

@@ -1,0 +1,8 @@
+use Rattle.std.proofs.Common.{◌≡◌, ◌∙◌, length, subst, sym}
+use Rattle.std.specs.Prelude.{All}
+use Rattle.pipe_columns.specs.Row.{Row}
+use Rattle.pipe_inputs.proofs.CellFacts.{keys-seen}
+use Rattle.pipe_inputs.proofs.chunk_rows.ChunkRows.key_len.Goals as goal
+
+pub returns : goal.returns
+returns c = rw (c.len.ensures, c.self.inside.keys.ok.0) (keys-seen c.args.self.now c.self.inside.index c.self.inside.height c.self.inside.keys.items c.self.inside.inputs.items c.self.view_is)
