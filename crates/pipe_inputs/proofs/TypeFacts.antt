@@ -10,7 +10,6 @@ use Rattle.pipe_columns.specs.declared.data_type.DataType.TheVariants as dt
 use Rattle.pipe_columns.specs.declared.schema.Field.{Field}
 use Rattle.pipe_columns.specs.AnyValue.{fits, HasUtf8}
 use Rattle.pipe_columns.specs.Frame.{ColumnsHaveUtf8, FitsSchema, FrameData, HoldsTypes}
-use Rattle.pipe_columns.specs.Row.{Row}
 use Rattle.pipe_exprs.specs.Literals.{HasUtf8Literals}
 use Rattle.pipe_exprs.proofs.FitFacts.{both_true, value-fits}
 use Rattle.pipe_exprs.proofs.TextFacts.{value-utf8}
@@ -18,19 +17,19 @@ use Rattle.pipe_model.specs.Convertible.{unaliased}
 use Rattle.pipe_model.specs.Expr.{Expr, name_of}
 use Rattle.pipe_model.specs.Expr as expr
 use Rattle.pipe_model.specs.Groupable.{is_fed, IsGroupable, is_valued}
-use Rattle.pipe_model.specs.Output.{input_type, key_types}
-use Rattle.pipe_model.specs.Query.{AggTree, each, Input, QueryTree, rows_alone}
-use Rattle.pipe_model.specs.Rows.{AreChunksOf, chunk_rows, input_value, row_of, rows_from}
+use Rattle.pipe_model.specs.Output.{input_type}
+use Rattle.pipe_model.specs.Query.{AggTree, each, Input, rows_alone}
+use Rattle.pipe_model.specs.Rows.{chunk_rows, input_value, row_of, rows_from}
 use Rattle.pipe_model.specs.Typing.{is_row_wise, known_type, type_of}
 use Rattle.pipe_model.specs.Value.{value}
 use Rattle.pipe_model.specs.WrittenTree.{agg_named, agg_tree}
-use Rattle.pipe_aggs.specs.CheckedQuery.{input_types, IsSound}
-use Rattle.pipe_aggs.specs.HashAggs.{function_for, prototypes}
+use Rattle.pipe_aggs.specs.CheckedQuery.{IsSound}
+use Rattle.pipe_aggs.specs.HashAggs.{function_for}
 use Rattle.pipe_aggs.specs.QueryTrees.{agg_exprs, key_exprs, query_tree}
 use Rattle.pipe_aggs.specs.declared.query.Query.{Query}
 use Rattle.pipe_aggs.proofs.GroupableFacts.{groupable_of}
 use Rattle.pipe_aggs.proofs.HashAggFacts.{takes-for}
-use Rattle.pipe_inputs.specs.RowTypes.{AreTaken, HasTypes, IsRowOf}
+use Rattle.pipe_inputs.specs.RowTypes.{AreTaken, IsRowOf}
 
 -- ---- one value
 

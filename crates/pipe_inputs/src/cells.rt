@@ -44,11 +44,7 @@ fn compare_cell(values: &ColumnValues<'_>, row: usize, value: &AnyValue) -> Orde
 }
 
 /// The order of the values in a row and other values.
-pub(crate) fn compare_cells(
-    lists: &[ColumnValues<'_>],
-    row: usize,
-    other: &[AnyValue],
-) -> Ordering
+pub(crate) fn compare_cells(lists: &[ColumnValues<'_>], row: usize, other: &[AnyValue]) -> Ordering
     ensures { result ≡ tuple_cmp (cells lists.now row) other.now }
 {
     for i in 0..lists.len() {

@@ -54,12 +54,7 @@ fn query_of(alloc: Global) -> Result<Query, Fail> {
     })
 }
 
-fn column_of(
-    alloc: Global,
-    name: &str,
-    dtype: DataType,
-    first: AnyValue,
-) -> Result<Column, Fail> {
+fn column_of(alloc: Global, name: &str, dtype: DataType, first: AnyValue) -> Result<Column, Fail> {
     let values = vec![in alloc; first, AnyValue::Null]?;
     match Column::new(Text::new(alloc, name)?, dtype, false, values) {
         Some(column) => Ok(column),

@@ -27,10 +27,12 @@ loop-chunk-preserved c =
 pub returns : goal.returns
 returns c =
     let chunks : List DataChunk = c.args.chunks.now in
-    let all : take c.loop-chunk.chunk-index chunks ≡ chunks = take_all c.loop-chunk.chunk-index chunks (omega arith) in
-    (λ _. record {
-      columns = subst (All (λ (x : DataChunk). FitsSchema c.args.query.now.schema x.frame)) all c.loop-chunk.invariant.fit;
-      typed = subst (All (λ (x : DataChunk). HoldsTypes x.frame)) all c.loop-chunk.invariant.typed;
-      rows = omega (arith, c.loop-chunk.invariant.rows, c.loop-chunk.invariant.few, ap total_height all);
-      number = omega arith;
-    }, λ _. search rules)
+    let all : take c.loop-chunk.chunk-index chunks ≡ chunks = take_all c.loop-chunk.chunk-index chunks (omega arith) in (
+      λ _. record {
+        columns = subst (All (λ (x : DataChunk). FitsSchema c.args.query.now.schema x.frame)) all c.loop-chunk.invariant.fit;
+        typed = subst (All (λ (x : DataChunk). HoldsTypes x.frame)) all c.loop-chunk.invariant.typed;
+        rows = omega (arith, c.loop-chunk.invariant.rows, c.loop-chunk.invariant.few, ap total_height all);
+        number = omega arith;
+      },
+      λ _. search rules,
+    )

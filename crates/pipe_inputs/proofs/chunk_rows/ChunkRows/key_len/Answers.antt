@@ -1,6 +1,3 @@
-use Rattle.std.proofs.Common.{◌≡◌, ◌∙◌, length, subst, sym}
-use Rattle.std.specs.Prelude.{All}
-use Rattle.pipe_columns.specs.Row.{Row}
 use Rattle.pipe_inputs.proofs.CellFacts.{keys-seen}
 use Rattle.pipe_inputs.proofs.chunk_rows.ChunkRows.key_len.Goals as goal
 
