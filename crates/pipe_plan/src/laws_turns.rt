@@ -1,8 +1,10 @@
 //! Laws of turns: where a worker's chunks stand, and which rows it takes in them.
 
-ghost use Rattle.std.specs.Prelude.{◌≡◌, ◌+◌, ◌*◌, ◌/◌, ◌<◌, ◌≤◌, ℕ, List, [], ◌∷◌, ◌++◌, length, true, if◌then◌else◌};
+ghost use Rattle.std.specs.Prelude.{◌≡◌, ◌+◌, ◌*◌, ◌/◌, ◌<◌, ◌≤◌, ℕ, List, [], ◌∷◌, ◌++◌, length, true, if◌then◌else◌, slice_get, Some};
 ghost use Rattle.std.specs.List.{filter, flat_map};
+ghost use Rattle.pipe_columns.specs.declared.data_chunk.DataChunk.{DataChunk};
 ghost use Rattle.pipe_columns.specs.Row.{Row};
+ghost use Rattle.pipe_model.specs.Rows.{chunk_rows};
 ghost use Rattle.pipe_plan.specs.Rounds.{IsFront, run_until};
 ghost use Rattle.pipe_plan.specs.Kept.{is_kept};
 ghost use Rattle.pipe_plan.specs.Overflow.{overflow};
@@ -33,6 +35,9 @@ pub fn positions_of_turns()
 pub fn rows_of_turns()
     ensures turns { (r : Run) (w n : ℕ) → n ≤ length r.chunks
         → rows_before r w n ≡ flat_map (turn_rows r) (turns_before r w n) }
+    ensures turn { (r : Run) (w i : ℕ) (c : DataChunk) → slice_get r.chunks i ≡ Some c
+        → is_turn_of r w i ≡ true
+        → rows_before r w (i + 1) ≡ rows_before r w i ++ chunk_rows r.query i c.frame }
     ensures all { (r : Run) (w n : ℕ) → length r.chunks ≤ n → rows_before r w n ≡ of_worker r w }
     ensures next { (r : Run) (w i : ℕ) (taken : List Row) (x : Row) → IsAtRow r w i taken x
         → IsFront (taken ++ x ∷ []) (of_worker r w) }

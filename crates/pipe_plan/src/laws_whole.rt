@@ -1,6 +1,6 @@
 //! Laws of journals: event by event, their frames, and what is held where the plans are whole.
 
-ghost use Rattle.std.specs.Prelude.{◌≡◌, ◌<◌, ◌≤◌, ℕ, List, [], ◌∷◌, ◌++◌, length, map, false};
+ghost use Rattle.std.specs.Prelude.{◌≡◌, ◌<◌, ◌≤◌, ℕ, List, [], ◌∷◌, ◌++◌, length, map, false, slice_get, Some};
 ghost use Rattle.std.specs.List.{flat_map, range_with_len};
 ghost use Rattle.pipe_columns.specs.Groups.{sorted_keys};
 ghost use Rattle.pipe_model.specs.Answer.{answer, answer_of, answer_row, groups, tuple_cmp};
@@ -12,12 +12,19 @@ ghost use Rattle.pipe_plan.specs.Whole.{partition_rows, replayed_rows, rows_held
 ghost use Rattle.pipe_plan.specs.declared.event.PartitionEvent.{PartitionEvent};
 ghost use Rattle.pipe_plan.specs.Frames.{AreOfPieces};
 ghost use Rattle.pipe_plan.specs.Overflow.{overflow_count};
-ghost use Rattle.pipe_plan.specs.Replay.{after_event, replay};
+ghost use Rattle.pipe_plan.specs.Plan.{plan};
+ghost use Rattle.pipe_plan.specs.Replay.{after_event, events_by, replay, worker_of};
 ghost use Rattle.pipe_plan.specs.Run.{all_rows, AreLimits, Run};
 
-/// A replay goes on event by event.
+/// A replay goes on event by event, and the next event of its worker's plan keeps a journal within
+/// the plans.
 pub fn one_event_more()
-    ensures { (r : Run) (p : ℕ) (journal : List PartitionEvent) (e : PartitionEvent)
+    ensures nothing { (r : Run) (p : ℕ) → IsWithin r p [] }
+    ensures within { (r : Run) (p : ℕ) (journal : List PartitionEvent) (e : PartitionEvent)
+        → IsWithin r p journal → worker_of e < r.limits.workers
+        → slice_get (plan r (worker_of e) p) (length (events_by (worker_of e) journal)) ≡ Some e
+        → IsWithin r p (journal ++ e ∷ []) }
+    ensures replay { (r : Run) (p : ℕ) (journal : List PartitionEvent) (e : PartitionEvent)
         → replay r p (journal ++ e ∷ []) ≡ after_event r p journal (replay r p journal) e }
 {}
 
