@@ -26,21 +26,26 @@ pub count-joined : {A B : Type 0} (test : B → Bool) (f : A → List B) (xs : L
 count-joined test f [] = refl
 count-joined test f (x ∷ xs) = count-append test (f x) (flat_map f xs) ∙ ap (λ k. count_by test (f x) + k) (count-joined test f xs) ∙ sym (sum_by-cons (λ x. count_by test (f x)) x xs)
 
+-- and over a range, as their sum
 pub count-over : {B : Type 0} (test : B → Bool) (f : ℕ → List B) (n : ℕ) → count_by test (flat_map f (range_with_len 0 n)) ≡ sum_to n (λ k. count_by test (f k))
 count-over test f n = count-joined test f (range_with_len 0 n) ∙ sum_to-range n (λ k. count_by test (f k))
 
+-- equal terms have equal sums
 pub sum_to-same : (n : ℕ) (f g : ℕ → ℕ) → ((k : ℕ) → k < n → f k ≡ g k) → sum_to n f ≡ sum_to n g
 sum_to-same zero f g same = refl
 sum_to-same (suc n) f g same = omega (arith, sum_to-same n f g (λ k lt. same k (omega arith)), same n (omega arith))
 
+-- terms that are no greater have no greater sum
 pub sum_to-le : (n : ℕ) (f g : ℕ → ℕ) → ((k : ℕ) → k < n → f k ≤ g k) → sum_to n f ≤ sum_to n g
 sum_to-le zero f g le = omega arith
 sum_to-le (suc n) f g le = omega (arith, sum_to-le n f g (λ k lt. le k (omega arith)), le n (omega arith))
 
+-- sums of terms that are added
 pub sum_to-both : (n : ℕ) (f g : ℕ → ℕ) → sum_to n (λ k. f k + g k) ≡ sum_to n f + sum_to n g
 sum_to-both zero f g = refl
 sum_to-both (suc n) f g = omega (arith, sum_to-both n f g)
 
+-- a sum of nothing
 pub sum_to-zero : (n : ℕ) → sum_to n (λ k. 0) ≡ 0
 sum_to-zero zero = refl
 sum_to-zero (suc n) = omega (arith, sum_to-zero n)

@@ -55,10 +55,12 @@ overflow-typed r w p typed =
 
 -- ---- as many arrivals as pieces
 
+-- a rest that is something is one piece
 one_last : (w : ℕ) (l : List Row) → 0 < length l → length (last_piece l) ≡ 1
 one_last w [] some = absurd (omega arith)
 one_last w (x ∷ l) some = refl
 
+-- in a generic sink
 arrivals-generic : (r : Run) (w p : ℕ) → 0 < r.limits.buffer_size → is_generic r.limits.sink ≡ true → arrivals (plan r w p) ≡ length (payloads r w p)
 arrivals-generic r w p some generic =
     let b = r.limits.buffer_size in
@@ -81,6 +83,7 @@ arrivals-generic r w p some generic =
     omega (arith, full, parts, all, last (rest_of b rows) refl))
     (cases_Bool r.is_open)
 
+-- the plan lets all pieces arrive
 pub arrivals-plan : (r : Run) (w p : ℕ) → 0 < r.limits.buffer_size → arrivals (plan r w p) ≡ length (payloads r w p)
 arrivals-plan r w p some = ⊎_elim
     (λ generic. arrivals-generic r w p some generic)
@@ -94,6 +97,7 @@ arrivals-plan r w p some = ⊎_elim
 
 -- ---- one partition
 
+-- all pieces of a closed run are its overflow, in order
 pub joined-payloads : (r : Run) (w p : ℕ) → 0 < r.limits.buffer_size → r.is_open ≡ false → joined_lists (payloads r w p) ≡ overflow r w p
 joined-payloads r w p some shut =
     ap (λ o. joined_lists (if o then full_pieces r.limits.buffer_size (overflow r w p) else pieces r.limits.buffer_size (overflow r w p))) shut

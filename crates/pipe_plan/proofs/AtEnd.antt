@@ -76,9 +76,11 @@ last-none r w p some none =
     either true = refl
     either false = refl
 
+-- an open run has none
 pub last-open : (r : Run) (w p : ℕ) → r.is_open ≡ true → last_events r w p ≡ []
 last-open r w p is = ap (λ o. if o || (length (overflow r w p) % r.limits.buffer_size == 0) then [] else event.Arrive w ∷ []) is
 
+-- a closed one has one where a rest is left
 pub last-one : (r : Run) (w p : ℕ) → 0 < r.limits.buffer_size → r.is_open ≡ false → 0 < length (rest_of r.limits.buffer_size (overflow r w p)) → last_events r w p ≡ event.Arrive w ∷ []
 last-one r w p some shut any =
     let short : (length (overflow r w p) % r.limits.buffer_size == 0) ≡ false = ne_eqb (length (overflow r w p) % r.limits.buffer_size) 0 (λ is. absurd (omega (arith, is, any, length-rest r.limits.buffer_size (overflow r w p) some))) in
@@ -124,6 +126,7 @@ pub plan-last : (r : Run) (w p : ℕ) → 0 < r.limits.buffer_size → is_generi
 plan-last r w p some generic shut any =
     plan-generic r w p generic ∙ ap (λ (l : List PartitionEvent). events_before r w p (length r.chunks) ++ l) (last-one r w p some shut any)
 
+-- without a rest the plan ends with the turns
 pub plan-none : (r : Run) (w p : ℕ) → 0 < r.limits.buffer_size → is_generic r.limits.sink ≡ true → rest_of r.limits.buffer_size (overflow r w p) ≡ []
     → plan r w p ≡ events_before r w p (length r.chunks)
 plan-none r w p some generic none =

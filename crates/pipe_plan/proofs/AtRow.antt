@@ -51,6 +51,7 @@ piece-filled {A = A} n xs ys x some is = record {
       ∙ ap (λ (ps : List (List A)). ps ++ full_pieces n (rest_of n (xs ++ x ∷ []) ++ ys)) (full-filled n xs x some is);
 }
 
+-- the element behind a front stands at its length
 pub get-front : {A : Type 0} (front xs : List A) (x d : A) (k : ℕ) → IsFront (front ++ x ∷ []) xs → k ≡ length front → slice_index_or xs k d ≡ x
 get-front {A = A} front xs x d k f is =
     ap (λ (l : List A). slice_index_or l k d) (f.is ∙ append_assoc front (x ∷ []) f.rest)
@@ -60,9 +61,11 @@ get-front {A = A} front xs x d k f is =
 -- ---- where the row stands
 
 module _ (r : Run) (w i : ℕ) (taken : List Row) (x : Row) (at : IsAtRow r w i taken x) where
+  -- the position is one of a chunk
   in-chunks : i < length r.chunks
   in-chunks = slice_get_within r.chunks i at.chunk at.at
 
+  -- with this turn the worker takes the rows taken, this one, and those behind
   rows-reached : of_worker (run_until r (i + 1)) w ≡ taken ++ x ∷ at.back
   rows-reached =
       worker-yes r w i at.chunk at.at at.turn
@@ -110,6 +113,7 @@ module _ (r : Run) (w i : ℕ) (taken : List Row) (x : Row) (at : IsAtRow r w i 
         let after = sent-until r (i + 1) w p (omega (arith, in-chunks)) ∙ ap (λ (l : List Row). length l) (overflow-until r (i + 1) w p ∙ ap (sent_of r w p) rows-reached ∙ filter-append (overflows r w p) taken (x ∷ at.back) ∙ ap (λ (l : List Row). sent_of r w p taken ++ l) (filter-yes (overflows r w p) x at.back over)) in
         omega (arith, after, length-append (sent_of r w p taken) (x ∷ sent_of r w p at.back))
 
+    -- no fewer pieces are full than before the turn
     full-low : full_before r w p i ≤ length (sent_of r w p taken) / r.limits.buffer_size
     full-low = div-mono (sent_before r w p i) (length (sent_of r w p taken)) r.limits.buffer_size some sent-low
 
@@ -119,12 +123,14 @@ module _ (r : Run) (w i : ℕ) (taken : List Row) (x : Row) (at : IsAtRow r w i 
         ap (λ (l : List Row). length l) (filter-append (overflows r w p) taken (x ∷ []) ∙ ap (λ (l : List Row). sent_of r w p taken ++ l) (filter-yes (overflows r w p) x [] over))
         ∙ length-append (sent_of r w p taken) (x ∷ [])
 
+    -- a row that is kept, or of another partition
     sent-no : overflows r w p x ≡ false → length (sent_of r w p (taken ++ x ∷ [])) ≡ length (sent_of r w p taken)
     sent-no not_over =
         ap (λ (l : List Row). length l) (filter-append (overflows r w p) taken (x ∷ []) ∙ ap (λ (l : List Row). sent_of r w p taken ++ l) (filter-no (overflows r w p) x [] not_over) ∙ append-nil (sent_of r w p taken))
 
     -- ---- a row that fills no piece
 
+    -- it makes no event
     pub made-unfilled : (overflows r w p x ≡ true → length (rest_of r.limits.buffer_size (sent_of r w p taken)) + 1 ≢ r.limits.buffer_size)
         → events_made r w p i (taken ++ x ∷ []) ≡ events_made r w p i taken
     made-unfilled not_full = ⊎_elim
@@ -137,12 +143,15 @@ module _ (r : Run) (w i : ℕ) (taken : List Row) (x : Row) (at : IsAtRow r w i 
     -- ---- a row that fills one
 
     module _ (over : overflows r w p x ≡ true) (filled : length (rest_of r.limits.buffer_size (sent_of r w p taken)) + 1 ≡ r.limits.buffer_size) where
+      -- one piece more is full
       one_more : (length (sent_of r w p taken) + 1) / r.limits.buffer_size ≡ length (sent_of r w p taken) / r.limits.buffer_size + 1
       one_more = div-filled (length (sent_of r w p taken)) r.limits.buffer_size some (omega (arith, filled, length-rest r.limits.buffer_size (sent_of r w p taken) some))
 
+      -- the turn has an arrival left
       few : length (sent_of r w p taken) / r.limits.buffer_size - full_before r w p i < fills r w p i
       few = omega (arith, one_more, full-low, div-mono (length (sent_of r w p taken) + 1) (sent_before r w p (i + 1)) r.limits.buffer_size some (sent-high over))
 
+      -- it makes one event
       pub made-filled : events_made r w p i (taken ++ x ∷ []) ≡ events_made r w p i taken + 1
       made-filled = ap (λ k. length (events_before r w p i) + (k - full_before r w p i)) (ap (λ k. k / r.limits.buffer_size) (sent-yes over) ∙ one_more) ∙ omega (arith, full-low)
 

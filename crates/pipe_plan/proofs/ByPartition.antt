@@ -102,6 +102,7 @@ apart-filter test q (x ∷ rs) all =
     let rest = apart-filter test q rs all.1 in
     elim (test x) as (λ b. AllByRecursion (λ p. eq_by_cmp place_cmp q p ≡ false) (map (λ r. r.place) (cond b (x ∷ filter test rs) (filter test rs)))) [ true ↦ (all.0, rest) | false ↦ rest ]
 
+-- so a filter keeps places apart
 distinct-filter : (test : Row → Bool) (rs : List Row) → HaveDistinctPlaces rs → HaveDistinctPlaces (filter test rs)
 unfolding IsDistinct
 distinct-filter test [] apart = tt

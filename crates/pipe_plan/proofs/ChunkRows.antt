@@ -14,29 +14,36 @@ pub each-one : {A : Type 0} (P : A → Type 0) (front back : List A) (x : A) →
 each-one P [] back x all = all.0
 each-one P (y ∷ front) back x all = each-one P front back x all.1
 
+-- and of one that an equal list shows
 pub each-at : {A : Type 0} (P : A → Type 0) (xs front back : List A) (x : A) → AllByRecursion P xs → xs ≡ front ++ x ∷ back → P x
 each-at P xs front back x all is = each-one P front back x (subst (AllByRecursion P) is all)
 
+-- what holds in two lists holds in both together
 pub each-append : {A : Type 0} (P : A → Type 0) (xs ys : List A) → AllByRecursion P xs → AllByRecursion P ys → AllByRecursion P (xs ++ ys)
 each-append P [] ys all others = others
 each-append P (x ∷ xs) ys all others = (all.0, each-append P xs ys all.1 others)
 
+-- what holds of each image
 pub each-map : {A B : Type 0} (P : B → Type 0) (f : A → B) (xs : List A) → ((x : A) → P (f x)) → AllByRecursion P (map f xs)
 each-map P f [] all = tt
 each-map P f (x ∷ xs) all = (all x, each-map P f xs all)
 
+-- what holds of all holds in a list
 pub each-any : {A : Type 0} (P : A → Type 0) (xs : List A) → ((x : A) → P x) → AllByRecursion P xs
 each-any P [] all = tt
 each-any P (x ∷ xs) all = (all x, each-any P xs all)
 
+-- what holds in a list holds in its front
 pub each-front : {A : Type 0} (P : A → Type 0) (xs ys : List A) → AllByRecursion P (xs ++ ys) → AllByRecursion P xs
 each-front P [] ys all = tt
 each-front P (x ∷ xs) ys all = (all.0, each-front P xs ys all.1)
 
+-- what follows from what holds
 pub each-more : {A : Type 0} (P Q : A → Type 0) (xs : List A) → ((x : A) → P x → Q x) → AllByRecursion P xs → AllByRecursion Q xs
 each-more P Q [] more all = tt
 each-more P Q (x ∷ xs) more all = (more x all.0, each-more P Q xs more all.1)
 
+-- what holds in a list holds of what a filter keeps
 pub each-filter : {A : Type 0} (P : A → Type 0) (test : A → Bool) (xs : List A) → AllByRecursion P xs → AllByRecursion P (filter test xs)
 each-filter P test [] all = tt
 each-filter P test (x ∷ xs) all =
@@ -45,16 +52,19 @@ each-filter P test (x ∷ xs) all =
 
 -- ---- ranges of numbers
 
+-- one range behind another
 pub range-append : (a n m : ℕ) → range_with_len a (n + m) ≡ range_with_len a n ++ range_with_len (a + n) m
 range-append a zero m = ap (λ k. range_with_len a k) {x = 0 + m} {y = m} (omega arith) ∙ ap (λ k. range_with_len k m) {x = a} {y = a + 0} (omega arith)
 range-append a (suc n) m =
     ap (λ k. range_with_len a k) {x = suc n + m} {y = suc (n + m)} (omega arith)
     ∙ ap (λ l. a ∷ l) (range-append (a + 1) n m ∙ ap (λ k. range_with_len (a + 1) n ++ range_with_len k m) {x = a + 1 + n} {y = a + suc n} (omega arith))
 
+-- the numbers of a range lie below its end
 pub range-before : (a n : ℕ) → AllByRecursion (λ i. i < a + n) (range_with_len a n)
 range-before a zero = tt
 range-before a (suc n) = (omega arith, each-more (λ i. i < a + 1 + n) (λ i. i < a + suc n) (range_with_len (a + 1) n) (λ i lt. omega arith) (range-before (a + 1) n))
 
+-- and not below its start
 pub range-behind : (a n : ℕ) → AllByRecursion (λ i. a ≤ i) (range_with_len a n)
 range-behind a zero = tt
 range-behind a (suc n) = (omega arith, each-more (λ i. a + 1 ≤ i) (λ i. a ≤ i) (range_with_len (a + 1) n) (λ i le. omega arith) (range-behind (a + 1) n))

@@ -61,6 +61,7 @@ within-next r p journal e within lt next = record {
 pub within-none : (r : Run) (p : ℕ) → IsWithin r p []
 within-none r p = record { workers = All-nil (λ e. worker_of e < r.limits.workers); plans = λ w lt. record { rest = plan r w p; is = refl } }
 
+-- a front is no longer
 front-le : {A : Type 0} (xs ys : List A) → IsFront xs ys → length xs ≤ length ys
 front-le {A = A} xs ys f = omega (arith, ap (λ (l : List A). length l) f.is, length-append xs f.rest)
 

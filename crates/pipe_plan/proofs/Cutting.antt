@@ -40,6 +40,7 @@ abbrev pub last_piece : {A : Type 0} → List A → List (List A)
 last_piece [] = []
 last_piece (x ∷ xs) = (x ∷ xs) ∷ []
 
+-- such a list is its last piece
 pub pieces-short : {A : Type 0} (n : ℕ) (xs : List A) → length xs < n → pieces n xs ≡ last_piece xs
 pieces-short n [] lt = refl
 pieces-short {A = A} n (x ∷ xs) lt =
@@ -59,6 +60,7 @@ in_full-front : (n m : ℕ) → 0 < n → (n + m) / n * n ≡ n + m / n * n
 in_full-front n m some =
     ap (λ k. k / n * n) {x = n + m} {y = 1 * n + m} (omega arith) ∙ ap (λ k. k * n) (mul-add-div_right some 1 m) ∙ omega arith
 
+-- a full piece in front is the first full one
 pub full-front : {A : Type 0} (n : ℕ) (front xs : List A) → 0 < n → length front ≡ n → full_pieces n (front ++ xs) ≡ front ∷ full_pieces n xs
 full-front {A = A} n front xs some is =
     let m = length xs / n * n in
@@ -68,9 +70,11 @@ full-front {A = A} n front xs some is =
     ∙ ap (λ (l : List A). pieces n l) (take-append-add front xs m)
     ∙ pieces-full n front (take m xs) some is
 
+-- a shorter list has none
 pub full-short : {A : Type 0} (n : ℕ) (xs : List A) → length xs < n → full_pieces n xs ≡ []
 full-short {A = A} n xs lt = ap (λ (k : ℕ). pieces n (take (k * n) xs)) (div-eq_of_lt lt) ∙ ap (λ (k : ℕ). pieces {A = A} n (take k xs)) {x = 0 * n} {y = 0} (omega arith)
 
+-- it leaves the rest as it was
 pub rest-front : {A : Type 0} (n : ℕ) (front xs : List A) → 0 < n → length front ≡ n → rest_of n (front ++ xs) ≡ rest_of n xs
 rest-front {A = A} n front xs some is =
     let m = length xs / n * n in
@@ -78,6 +82,7 @@ rest-front {A = A} n front xs some is =
     ap (λ k. k / n * n) {x = length (front ++ xs)} {y = n + length xs} (omega (arith, length-append front xs)) ∙ in_full-front n (length xs) some ∙ omega arith in
     ap (λ (k : ℕ). drop k (front ++ xs)) count ∙ drop-append-add front xs m
 
+-- a shorter list is its own rest
 pub rest-short : {A : Type 0} (n : ℕ) (xs : List A) → length xs < n → rest_of n xs ≡ xs
 rest-short n xs lt = ap (λ (k : ℕ). drop (k * n) xs) (div-eq_of_lt lt) ∙ ap (λ (k : ℕ). drop k xs) {x = 0 * n} {y = 0} (omega arith)
 
@@ -106,6 +111,7 @@ length-full {A = A} n xs some = by_pieces (λ xs. length (full_pieces n xs) ≡ 
 pub length-rest : {A : Type 0} (n : ℕ) (xs : List A) → 0 < n → length (rest_of n xs) ≡ length xs % n
 length-rest n xs some = length-drop (length xs / n * n) xs ∙ omega (arith, div-add-mod' (length xs) n)
 
+-- so the rest is shorter than a piece
 pub rest-lt : {A : Type 0} (n : ℕ) (xs : List A) → 0 < n → length (rest_of n xs) < n
 rest-lt n xs some = omega (arith, length-rest n xs some, mod-lt (length xs) some)
 
@@ -145,6 +151,7 @@ full-append {A = A} n xs ys some = by_pieces (λ xs. full_pieces n (xs ++ ys) �
     (λ front xs is e. ap (λ (l : List A). full_pieces n l) (append_assoc front xs ys) ∙ full-front n front (xs ++ ys) some is ∙ ap (λ ps. front ∷ ps) e
     ∙ sym (ap (λ (l : List A). full_pieces n (front ++ xs) ++ full_pieces n (l ++ ys)) (rest-front n front xs some is) ∙ ap (λ ps. ps ++ full_pieces n (rest_of n xs ++ ys)) (full-front n front xs some is))) xs
 
+-- and the rest is that of the rest with what comes after
 pub rest-append : {A : Type 0} (n : ℕ) (xs ys : List A) → 0 < n → rest_of n (xs ++ ys) ≡ rest_of n (rest_of n xs ++ ys)
 rest-append {A = A} n xs ys some = by_pieces (λ xs. rest_of n (xs ++ ys) ≡ rest_of n (rest_of n xs ++ ys)) n some
     (λ xs lt. sym (ap (λ (l : List A). rest_of n (l ++ ys)) (rest-short n xs lt)))
@@ -158,6 +165,7 @@ full-filled {A = A} n xs x some is =
     full-append n xs (x ∷ []) some ∙ ap (λ ps. full_pieces n xs ++ ps)
     (ap (λ (l : List A). full_pieces n l) (sym (append-nil (rest_of n xs ++ x ∷ []))) ∙ full-front n (rest_of n xs ++ x ∷ []) [] some size ∙ ap (λ ps. (rest_of n xs ++ x ∷ []) ∷ ps) (full-short n [] (omega arith)))
 
+-- then nothing is left
 pub rest-filled : {A : Type 0} (n : ℕ) (xs : List A) (x : A) → 0 < n → length (rest_of n xs) + 1 ≡ n → rest_of n (xs ++ x ∷ []) ≡ []
 rest-filled {A = A} n xs x some is =
     let size : length (rest_of n xs ++ x ∷ []) ≡ n = omega (arith, length-append (rest_of n xs) (x ∷ [])) in
@@ -170,6 +178,7 @@ full-unfilled n xs x some not =
     let short : length (rest_of n xs ++ x ∷ []) < n = omega (arith, length-append (rest_of n xs) (x ∷ []), rest-lt n xs some, not) in
     full-append n xs (x ∷ []) some ∙ ap (λ ps. full_pieces n xs ++ ps) (full-short n (rest_of n xs ++ x ∷ []) short) ∙ append-nil (full_pieces n xs)
 
+-- then it joins the rest
 pub rest-unfilled : {A : Type 0} (n : ℕ) (xs : List A) (x : A) → 0 < n → length (rest_of n xs) + 1 ≢ n → rest_of n (xs ++ x ∷ []) ≡ rest_of n xs ++ x ∷ []
 rest-unfilled n xs x some not =
     let short : length (rest_of n xs ++ x ∷ []) < n = omega (arith, length-append (rest_of n xs) (x ∷ []), rest-lt n xs some, not) in
@@ -187,6 +196,7 @@ div-filled n b some is =
     let e : (n / b + 1) * b + 0 ≡ n + 1 = omega (arith, div-add-mod' n b, is) in
     sym (ap (λ k. k / b) e) ∙ div-mul-add (n / b + 1) b 0 some
 
+-- or no more
 pub div-unfilled : (n b : ℕ) → 0 < b → n % b + 1 ≢ b → (n + 1) / b ≡ n / b
 div-unfilled n b some not =
     let lt : n % b + 1 < b = omega (arith, mod-lt n some, not) in

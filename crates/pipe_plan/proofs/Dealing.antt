@@ -38,6 +38,7 @@ same-turn n i k some same low high =
 pub turn-at : (r : Run) (w j : ℕ) → w < r.limits.workers → is_turn_of r w (w + j * r.limits.workers) ≡ true
 turn-at r w j lt = eq-eqb ((w + j * r.limits.workers) % r.limits.workers) w (ap (λ k. k % r.limits.workers) {x = w + j * r.limits.workers} {y = j * r.limits.workers + w} (omega arith) ∙ mod-mul-add j r.limits.workers w lt)
 
+-- has the number j
 pub turn-number : (r : Run) (w j : ℕ) → w < r.limits.workers → (w + j * r.limits.workers) / r.limits.workers ≡ j
 turn-number r w j lt = ap (λ k. k / r.limits.workers) {x = w + j * r.limits.workers} {y = j * r.limits.workers + w} (omega arith) ∙ div-mul-add j r.limits.workers w lt
 

@@ -8,6 +8,7 @@ use Rattle.pipe_model.proofs.CountFacts.{count-cons}
 pub filter-yes : {A : Type 0} (test : A → Bool) (x : A) (xs : List A) → test x ≡ true → filter test (x ∷ xs) ≡ x ∷ filter test xs
 filter-yes test x xs is = ap (λ b. cond b (x ∷ filter test xs) (filter test xs)) is
 
+-- and where it fails
 pub filter-no : {A : Type 0} (test : A → Bool) (x : A) (xs : List A) → test x ≡ false → filter test (x ∷ xs) ≡ filter test xs
 filter-no test x xs is = ap (λ b. cond b (x ∷ filter test xs) (filter test xs)) is
 

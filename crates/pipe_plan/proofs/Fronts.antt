@@ -59,9 +59,11 @@ typed-front : (r s : Run) (w p : ℕ) → is_generic r.limits.sink ≡ false →
 typed-front r s w p typed = record { rest = plan s w p; is = ap (λ (l : List PartitionEvent). l ++ plan s w p) (sym (plan-typed r w p typed)) }
 
 module _ (r : Run) (o : Bool) (chunks : List DataChunk) (stores : List StoreSeen) (w : ℕ) where
+  -- the rows of a worker
   pub rows-front : IsFront (of_worker r w) (of_worker (longer_run r o chunks stores) w)
   rows-front = record { rest = more_rows r w chunks; is = worker-later r o chunks stores w }
 
+  -- those that it keeps
   pub kept-front : IsFront (kept_rows r w) (kept_rows (longer_run r o chunks stores) w)
   kept-front =
       let s = longer_run r o chunks stores in
@@ -74,15 +76,18 @@ module _ (r : Run) (o : Bool) (chunks : List DataChunk) (stores : List StoreSeen
       }
 
 module _ (r : Run) (o : Bool) (chunks : List DataChunk) (stores : List StoreSeen) (w p : ℕ) where
+  -- those that overflow
   pub overflow-front : IsFront (overflow r w p) (overflow (longer_run r o chunks stores) w p)
   overflow-front = record { rest = more_overflow r o chunks stores w p; is = overflow-later r o chunks stores w p }
 
+  -- their full pieces
   pub full-front-later : 0 < r.limits.buffer_size → IsFront (full_pieces r.limits.buffer_size (overflow r w p)) (full_pieces r.limits.buffer_size (overflow (longer_run r o chunks stores) w p))
   full-front-later some = record {
     rest = full_pieces r.limits.buffer_size (rest_of r.limits.buffer_size (overflow r w p) ++ more_overflow r o chunks stores w p);
     is = ap (λ (l : List Row). full_pieces r.limits.buffer_size l) (overflow-later r o chunks stores w p) ∙ full-append r.limits.buffer_size (overflow r w p) (more_overflow r o chunks stores w p) some;
   }
 
+  -- all pieces of an open run
   pub payloads-later : 0 < r.limits.buffer_size → r.is_open ≡ true → IsFront (payloads r w p) (payloads (longer_run r o chunks stores) w p)
   payloads-later some opened =
       let b = r.limits.buffer_size in
@@ -90,6 +95,7 @@ module _ (r : Run) (o : Bool) (chunks : List DataChunk) (stores : List StoreSeen
       front-of (full_pieces b (overflow r w p)) (payloads r w p) (payloads s w p) (payloads-open r w p opened)
       (front-trans (full_pieces b (overflow r w p)) (full_pieces b (overflow s w p)) (payloads s w p) (full-front-later some) (payloads-full s w p some))
 
+  -- and its plans
   pub plan-later : r.is_open ≡ true → IsFront (plan r w p) (plan (longer_run r o chunks stores) w p)
   plan-later opened =
       let s = longer_run r o chunks stores in
@@ -103,28 +109,36 @@ module _ (r : Run) (o : Bool) (chunks : List DataChunk) (stores : List StoreSeen
 -- ---- runs that go on
 
 module _ (r s : Run) (on : GoesOn r s) where
+  -- the rows of a worker
   pub rows-on : (w : ℕ) → IsFront (of_worker r w) (of_worker s w)
   rows-on w = subst (λ (s : Run). IsFront (of_worker r w) (of_worker s w)) (goes-on r s on) (rows-front r s.is_open on.more s.stores w)
 
+  -- those that it keeps
   pub kept-on : (w : ℕ) → IsFront (kept_rows r w) (kept_rows s w)
   kept-on w = subst (λ (s : Run). IsFront (kept_rows r w) (kept_rows s w)) (goes-on r s on) (kept-front r s.is_open on.more s.stores w)
 
+  -- those that overflow
   pub overflow-on : (w p : ℕ) → IsFront (overflow r w p) (overflow s w p)
   overflow-on w p = subst (λ (s : Run). IsFront (overflow r w p) (overflow s w p)) (goes-on r s on) (overflow-front r s.is_open on.more s.stores w p)
 
+  -- their full pieces
   pub full-on : (w p : ℕ) → 0 < r.limits.buffer_size → IsFront (full_pieces r.limits.buffer_size (overflow r w p)) (full_pieces r.limits.buffer_size (overflow s w p))
   full-on w p some =
       subst (λ (s : Run). IsFront (full_pieces r.limits.buffer_size (overflow r w p)) (full_pieces r.limits.buffer_size (overflow s w p))) (goes-on r s on) (full-front-later r s.is_open on.more s.stores w p some)
 
+  -- all pieces of an open run
   pub payloads-on : (w p : ℕ) → 0 < r.limits.buffer_size → r.is_open ≡ true → IsFront (payloads r w p) (payloads s w p)
   payloads-on w p some opened = subst (λ (s : Run). IsFront (payloads r w p) (payloads s w p)) (goes-on r s on) (payloads-later r s.is_open on.more s.stores w p some opened)
 
+  -- its plans
   pub plan-on : (w p : ℕ) → r.is_open ≡ true → IsFront (plan r w p) (plan s w p)
   plan-on w p opened = subst (λ (s : Run). IsFront (plan r w p) (plan s w p)) (goes-on r s on) (plan-later r s.is_open on.more s.stores w p opened)
 
+  -- the events of turns stay
   pub events-on : (w p n : ℕ) → n ≤ length r.chunks → events_before s w p n ≡ events_before r w p n
   events-on w p n le = subst (λ (s : Run). events_before s w p n ≡ events_before r w p n) (goes-on r s on) (events-later r s.is_open on.more s.stores w p n le)
 
+  -- and so do picks
   pub picks-on : (w n : ℕ) → n ≤ length r.chunks → picks_before s w n ≡ picks_before r w n
   picks-on w n le = subst (λ (s : Run). picks_before s w n ≡ picks_before r w n) (goes-on r s on) (picks-later r s.is_open on.more s.stores w n le)
 
@@ -165,6 +179,7 @@ replay-front r s p journal some limit fronts within =
     omega (arith, arrivals-at w front back, ap (λ (l : List PartitionEvent). arrivals (events_by w l)) is, arrivals-within r w p (events_by w journal) some (within.plans w (mine r front back (event.Arrive w) journal within.workers is))) in
     ap (λ (ps : List (List Row)). slice_index_or ps k []) f.is ∙ get_or_append_left (payloads r w p) f.rest [] k lt)
 
+-- so does one where a run goes on
 pub replay-on : (r s : Run) (p : ℕ) (journal : List PartitionEvent) → GoesOn r s → 0 < r.limits.buffer_size → r.is_open ≡ true → IsWithin r p journal → replay s p journal ≡ replay r p journal
 replay-on r s p journal on some opened within = replay-front r s p journal some (ap (λ (l : Limits). l.payload_limit) on.limits) (λ w. payloads-on r s on w p some opened) within
 

@@ -33,6 +33,7 @@ distinct-append {A = A} same (x ∷ xs) ys =
     neither false true = refl
     neither false false = refl
 
+-- an element is in two lists together where it is in one
 pub is_member-append : {A : Type 0} (same : A → A → Bool) (xs ys : List A) (q : A) → is_member same (xs ++ ys) q ≡ (is_member same xs q || is_member same ys q)
 is_member-append same [] ys q = refl
 is_member-append same (x ∷ xs) ys q = elim (same q x) as (λ c. (c || is_member same (xs ++ ys) q) ≡ ((c || is_member same xs q) || is_member same ys q)) [ true ↦ refl | false ↦ is_member-append same xs ys q ]
@@ -71,9 +72,11 @@ held-append {A = A} same n xs ys le =
     ∙ ap (λ k. take k (distinct same xs ++ news)) room
     ∙ take-append-add (distinct same xs) news (n - length (distinct same xs))
 
+-- with room all distinct elements are held
 held-all : {A : Type 0} (same : A → A → Bool) (n : ℕ) (xs : List A) → length (distinct same xs) ≤ n → first_distinct same n xs ≡ distinct same xs
 held-all same n xs le = take_all n (distinct same xs) le
 
+-- without room more elements change nothing
 pub held-full : {A : Type 0} (same : A → A → Bool) (n : ℕ) (xs ys : List A) → n ≤ length (distinct same xs) → first_distinct same n (xs ++ ys) ≡ first_distinct same n xs
 held-full {A = A} same n xs ys le =
     ap (λ (l : List A). take n l) (distinct-append same xs ys) ∙ take-append-le n (distinct same xs) (filter (λ y. not (is_member same xs y)) (distinct same ys)) le

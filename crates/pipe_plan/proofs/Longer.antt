@@ -80,6 +80,7 @@ kept-decided l xs more key came =
 abbrev pub more_rows : Run → ℕ → List DataChunk → List Row
 more_rows r w chunks = filter (λ x. is_turn_of r w x.place.chunk) (rows_from r.query (0 + length r.chunks) chunks)
 
+-- its rows in all chunks are those before and these
 pub worker-later : (r : Run) (o : Bool) (chunks : List DataChunk) (stores : List StoreSeen) (w : ℕ) → of_worker (longer_run r o chunks stores) w ≡ of_worker r w ++ more_rows r w chunks
 worker-later r o chunks stores w =
     ap (λ (l : List Row). filter (λ x. is_turn_of r w x.place.chunk) l) (rows-append r.query 0 r.chunks chunks)
@@ -106,6 +107,7 @@ kept-same r o chunks stores w = filter-within (is_kept (longer_run r o chunks st
 abbrev pub more_overflow : Run → Bool → List DataChunk → List StoreSeen → ℕ → ℕ → List Row
 more_overflow r o chunks stores w p = filter (overflows (longer_run r o chunks stores) w p) (more_rows r w chunks)
 
+-- what overflows in all chunks is what did before and this
 pub overflow-later : (r : Run) (o : Bool) (chunks : List DataChunk) (stores : List StoreSeen) (w p : ℕ)
     → overflow (longer_run r o chunks stores) w p ≡ overflow r w p ++ more_overflow r o chunks stores w p
 overflow-later r o chunks stores w p =

@@ -25,6 +25,7 @@ unfolding IsDistinct
 distinct-push same [] x apart others = (tt, tt)
 distinct-push same (y ∷ xs) x apart others = (each-append (λ z. same y z ≡ false) xs (x ∷ []) apart.0 (others.0, tt), distinct-push same xs x apart.1 others.1)
 
+-- the front of a list whose elements are apart
 distinct-front : {A : Type 0} (same : A → A → Bool) (xs ys : List A) → IsDistinct same (xs ++ ys) → IsDistinct same xs
 unfolding IsDistinct
 distinct-front same [] ys apart = tt
@@ -54,6 +55,7 @@ arrivals-grow w events (event.Arrive v) = ⊎_elim
 arrivals-grow w events (event.Merge v) = omega (arith, arrivals-still w events (event.Merge v) refl)
 arrivals-grow w events (event.Dump v) = omega (arith, arrivals-still w events (event.Dump v) refl)
 
+-- what arrived still did
 still-arrived : (r : Run) (events : List PartitionEvent) (e : PartitionEvent) (names : List PieceName) → AllByRecursion (Arrived r events) names → AllByRecursion (Arrived r (events ++ e ∷ [])) names
 still-arrived r events e names all =
     each-more (Arrived r events) (Arrived r (events ++ e ∷ [])) names (λ n h. (h.0, omega (arith, h.1, arrivals-grow n.worker events e))) all
@@ -73,6 +75,7 @@ not_next r before v n h =
     and-false true = refl
     and-false false = refl
 
+-- one event more
 named-event : (r : Run) (p : ℕ) (before : List PartitionEvent) (s : Replayed) (e : PartitionEvent) → worker_of e < r.limits.workers → AreNamed r p before s → AreNamed r p (before ++ e ∷ []) (after_event r p before s e)
 named-event r p before s (event.Arrive v) lt named =
     let name : PieceName = record { worker = v; number = arrivals (events_by v before) } in
@@ -117,6 +120,7 @@ named-event r p before s (event.Dump v) lt named =
       | false ↦ record { waiting = named.waiting; frames = named.frames; waiting_rows = named.waiting_rows; frame_rows = named.frame_rows; apart = named.apart; arrived = still }
     ]
 
+-- all events
 named-from : (r : Run) (p : ℕ) (before : List PartitionEvent) (s : Replayed) (events : List PartitionEvent) → AreOfWorkers r events → AreNamed r p before s → AreNamed r p (before ++ events) (replay_from r p before s events)
 named-from r p before s [] ours named = subst (λ (l : List PartitionEvent). AreNamed r p l s) (sym (append-nil before)) named
 named-from r p before s (e ∷ events) ours named =

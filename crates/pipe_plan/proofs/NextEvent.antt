@@ -22,19 +22,23 @@ pub get-behind : {A : Type 0} (front xs : List A) (k : ℕ) → slice_get (front
 get-behind [] xs k = ap (λ i. slice_get xs i) {x = 0 + k} {y = k} (omega arith)
 get-behind (y ∷ front) xs k = ap (λ i. slice_get (y ∷ (front ++ xs)) i) {x = length (y ∷ front) + k} {y = suc (length front + k)} (omega arith) ∙ get-behind front xs k
 
+-- the element in a run of copies
 pub get-replicate : {A : Type 0} (n k : ℕ) (x : A) (xs : List A) → k < n → slice_get (replicate n x ++ xs) k ≡ Some x
 get-replicate zero k x xs lt = absurd (omega arith)
 get-replicate (suc n) zero x xs lt = refl
 get-replicate (suc n) (suc k) x xs lt = get-replicate n k x xs (omega arith)
 
+-- the front of a front
 pub front-trans : {A : Type 0} (xs ys zs : List A) → IsFront xs ys → IsFront ys zs → IsFront xs zs
 front-trans xs ys zs f g = record { rest = f.rest ++ g.rest; is = g.is ∙ ap (λ l. l ++ g.rest) f.is ∙ append_assoc xs f.rest g.rest }
 
 -- ---- the parts of a plan
 
+-- the plan in a generic sink
 pub plan-generic : (r : Run) (w p : ℕ) → is_generic r.limits.sink ≡ true → plan r w p ≡ events_before r w p (length r.chunks) ++ last_events r w p
 plan-generic r w p is = ap (λ b. if b then events_before r w p (length r.chunks) ++ last_events r w p else []) is
 
+-- and in a typed one
 pub plan-typed : (r : Run) (w p : ℕ) → is_generic r.limits.sink ≡ false → plan r w p ≡ []
 plan-typed r w p is = ap (λ b. if b then events_before r w p (length r.chunks) ++ last_events r w p else []) is
 
@@ -60,6 +64,7 @@ plan-front r w p n generic le =
 abbrev pub fills : Run → ℕ → ℕ → ℕ → ℕ
 fills r w p i = full_before r w p (i + 1) - full_before r w p i
 
+-- its pick's event there, if any
 abbrev pub picked : Run → ℕ → ℕ → ℕ → List PartitionEvent
 picked r w p i = if is_pick r i && (picked_partition r w i == p) then events_of w (action_at r i) else []
 
@@ -68,6 +73,7 @@ record AtTurn (r : Run) (w p i : ℕ) : Type 0 where
   rest : List PartitionEvent
   is : plan r w p ≡ events_before r w p i ++ (replicate (fills r w p i) (event.Arrive w) ++ (picked r w p i ++ rest))
 
+-- each turn stands so in the plan
 at-turn : (r : Run) (w p i : ℕ) → is_generic r.limits.sink ≡ true → i < length r.chunks → is_turn_of r w i ≡ true → AtTurn r w p i
 at-turn r w p i generic lt turn =
     let front = plan-front r w p (i + 1) generic (omega arith) in
@@ -115,6 +121,7 @@ next-last r w p e generic is =
 
 -- ---- the pieces that arrived by then
 
+-- those of the turns before, and those that the turn made
 pub arrivals-made : (r : Run) (w p i k : ℕ) → 0 < r.limits.buffer_size → is_generic r.limits.sink ≡ true → i < length r.chunks → is_turn_of r w i ≡ true → k ≤ fills r w p i
     → arrivals (take (length (events_before r w p i) + k) (plan r w p)) ≡ full_before r w p i + k
 arrivals-made r w p i k some generic lt turn few =

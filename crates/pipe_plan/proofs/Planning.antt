@@ -22,12 +22,14 @@ use Rattle.pipe_plan.proofs.Turning.{turns-append}
 
 -- ---- one position more
 
+-- a turn is one more
 pub turns-yes : (r : Run) (w n : ℕ) → is_turn_of r w n ≡ true → turns_before r w (n + 1) ≡ turns_before r w n ++ n ∷ []
 turns-yes r w n is =
     turns-append r w n 1
     ∙ ap (λ (k : ℕ). turns_before r w n ++ filter (is_turn_of r w) (k ∷ [])) {x = 0 + n} {y = n} (omega arith)
     ∙ ap (λ (l : List ℕ). turns_before r w n ++ l) (filter-yes (is_turn_of r w) n [] is)
 
+-- another position is none
 pub turns-no : (r : Run) (w n : ℕ) → is_turn_of r w n ≡ false → turns_before r w (n + 1) ≡ turns_before r w n
 turns-no r w n is =
     turns-append r w n 1
@@ -35,21 +37,25 @@ turns-no r w n is =
     ∙ ap (λ (l : List ℕ). turns_before r w n ++ l) (filter-no (is_turn_of r w) n [] is)
     ∙ append-nil (turns_before r w n)
 
+-- a turn adds its events
 pub events-yes : (r : Run) (w p n : ℕ) → is_turn_of r w n ≡ true → events_before r w p (n + 1) ≡ events_before r w p n ++ turn_events r w p n
 events-yes r w p n is =
     ap (λ (l : List ℕ). flat_map (turn_events r w p) l) (turns-yes r w n is)
     ∙ flat_map-append (turn_events r w p) (turns_before r w n) (n ∷ [])
     ∙ ap (λ l. events_before r w p n ++ l) (append-nil (turn_events r w p n))
 
+-- another position adds none
 pub events-no : (r : Run) (w p n : ℕ) → is_turn_of r w n ≡ false → events_before r w p (n + 1) ≡ events_before r w p n
 events-no r w p n is = ap (λ (l : List ℕ). flat_map (turn_events r w p) l) (turns-no r w n is)
 
+-- a turn may be a pick
 pub picks-yes : (r : Run) (w n : ℕ) → is_turn_of r w n ≡ true → picks_before r w (n + 1) ≡ picks_before r w n + (if is_pick r n then 1 else 0)
 picks-yes r w n is =
     ap (λ (l : List ℕ). count_by (is_pick r) l) (turns-yes r w n is)
     ∙ count-append (is_pick r) (turns_before r w n) (n ∷ [])
     ∙ ap (λ k. picks_before r w n + k) (count-cons (is_pick r) n [] ∙ omega arith)
 
+-- another position is none
 pub picks-no : (r : Run) (w n : ℕ) → is_turn_of r w n ≡ false → picks_before r w (n + 1) ≡ picks_before r w n
 picks-no r w n is = ap (λ (l : List ℕ). count_by (is_pick r) l) (turns-no r w n is)
 
@@ -87,14 +93,17 @@ count-le test other (x ∷ xs) implies =
     (λ fails. omega (arith, count-cons test x xs, count-cons other x xs, rest, ap one_if fails))
     (cases_Bool (test x))
 
+-- no fewer rows are sent by the next position
 pub sent-le : (r : Run) (w p n : ℕ) → sent_before r w p n ≤ sent_before r w p (n + 1)
 sent-le r w p n = count-le (λ (x : Row). nat_lt x.place.chunk n) (λ (x : Row). nat_lt x.place.chunk (n + 1)) (overflow r w p) (λ x is. lt-ltb x.place.chunk (n + 1) (omega (arith, ltb-true x.place.chunk n is)))
 
+-- so no fewer pieces are full
 pub full-le : (r : Run) (w p n : ℕ) → 0 < r.limits.buffer_size → full_before r w p n ≤ full_before r w p (n + 1)
 full-le r w p n some = div-mono (sent_before r w p n) (sent_before r w p (n + 1)) r.limits.buffer_size some (sent-le r w p n)
 
 -- ---- arrivals
 
+-- so many arrivals
 pub arrivals-replicate : (w n : ℕ) → arrivals (replicate n (event.Arrive w)) ≡ n
 arrivals-replicate w zero = refl
 arrivals-replicate w (suc n) = count-cons is_arrival (event.Arrive w) (replicate n (event.Arrive w)) ∙ omega (arith, arrivals-replicate w n)

@@ -21,6 +21,7 @@ use Rattle.pipe_plan.proofs.Turning.{events-later, picks-later, sent-all, sent-l
 pub until-on : (r : Run) (n : ℕ) → longer_run (run_until r n) r.is_open (drop n r.chunks) r.stores ≡ r
 until-on r n = ap (λ (cs : List DataChunk). record r { chunks = cs }) (take-append-drop n r.chunks)
 
+-- it has so many chunks
 until-length : (r : Run) (n : ℕ) → n ≤ length r.chunks → length (run_until r n).chunks ≡ n
 until-length r n le = length-take-le n r.chunks le
 
@@ -45,11 +46,13 @@ sent-until r n w p le =
     ∙ ap (λ k. sent_before (run_until r n) w p k) (sym size)
     ∙ sent-all (run_until r n) w p
 
+-- the events of the turns by then are those in the whole run
 pub events-until : (r : Run) (n w p : ℕ) → n ≤ length r.chunks → events_before (run_until r n) w p n ≡ events_before r w p n
 events-until r n w p le =
     sym (events-later (run_until r n) r.is_open (drop n r.chunks) r.stores w p n (omega (arith, until-length r n le)))
     ∙ ap (λ (s : Run). events_before s w p n) (until-on r n)
 
+-- and so are the picks
 pub picks-until : (r : Run) (n w : ℕ) → n ≤ length r.chunks → picks_before (run_until r n) w n ≡ picks_before r w n
 picks-until r n w le =
     sym (picks-later (run_until r n) r.is_open (drop n r.chunks) r.stores w n (omega (arith, until-length r n le)))
@@ -57,6 +60,7 @@ picks-until r n w le =
 
 -- ---- one chunk more
 
+-- the first elements with the one behind them
 pub take-next : {A : Type 0} (xs : List A) (i : ℕ) (x : A) → slice_get xs i ≡ Some x → take (i + 1) xs ≡ take i xs ++ x ∷ []
 take-next xs i x at = take_more xs i x (slice_get_within xs i x at) ∙ ap (λ y. take i xs ++ y ∷ []) (get_or_from_slice_get xs i x x at)
 
@@ -70,6 +74,7 @@ worker-next r w i c at =
     ∙ ap (λ k. of_worker (run_until r i) w ++ mine (rows_from r.query k (c ∷ []))) {x = 0 + length (take i r.chunks)} {y = i} (omega (arith, until-length r i (omega (arith, slice_get_within r.chunks i c at))))
     ∙ ap (λ (l : List Row). of_worker (run_until r i) w ++ mine l) (append-nil (chunk_rows r.query i c.frame))
 
+-- in a worker's turn it takes them
 pub worker-yes : (r : Run) (w i : ℕ) (c : DataChunk) → slice_get r.chunks i ≡ Some c → is_turn_of r w i ≡ true
     → of_worker (run_until r (i + 1)) w ≡ of_worker (run_until r i) w ++ chunk_rows r.query i c.frame
 worker-yes r w i c at turn =
@@ -77,6 +82,7 @@ worker-yes r w i c at turn =
     ∙ ap (λ (l : List Row). of_worker (run_until r i) w ++ l) (filter-all (λ x. is_turn_of r w x.place.chunk) (chunk_rows r.query i c.frame)
     (λ front back x is. ap (is_turn_of r w) (each-at (λ (x : Row). x.place.chunk ≡ i) (chunk_rows r.query i c.frame) front back x (chunk_rows-at r.query i c.frame) is) ∙ turn))
 
+-- and else none
 pub worker-no : (r : Run) (w i : ℕ) (c : DataChunk) → slice_get r.chunks i ≡ Some c → is_turn_of r w i ≡ false
     → of_worker (run_until r (i + 1)) w ≡ of_worker (run_until r i) w
 worker-no r w i c at not_turn =

@@ -20,6 +20,7 @@ use Rattle.pipe_plan.proofs.Filtering.{filter-no, filter-yes}
 
 -- ---- one event more
 
+-- a replay that goes on, with one event more
 replay_from-push : (r : Run) (p : ℕ) (before : List PartitionEvent) (s : Replayed) (events : List PartitionEvent) (e : PartitionEvent)
     → replay_from r p before s (events ++ e ∷ []) ≡ after_event r p (before ++ events) (replay_from r p before s events) e
 replay_from-push r p before s [] e = ap (λ (l : List PartitionEvent). after_event r p l s e) (sym (append-nil before))
@@ -27,6 +28,7 @@ replay_from-push r p before s (d ∷ events) e =
     replay_from-push r p (before ++ d ∷ []) (after_event r p before s d) events e
     ∙ ap (λ (l : List PartitionEvent). after_event r p l (replay_from r p (before ++ d ∷ []) (after_event r p before s d) events) e) (append_assoc before (d ∷ []) events)
 
+-- a replay with one event more
 pub replay-push : (r : Run) (p : ℕ) (journal : List PartitionEvent) (e : PartitionEvent) → replay r p (journal ++ e ∷ []) ≡ after_event r p journal (replay r p journal) e
 replay-push r p journal e = replay_from-push r p [] nothing_yet journal e
 
@@ -52,18 +54,22 @@ replay_from-same r s p before state (e ∷ events) limit same =
 
 -- ---- arrivals of one event more
 
+-- the events of a worker with one event more
 pub events_by-push : (w : ℕ) (events : List PartitionEvent) (e : PartitionEvent) → events_by w (events ++ e ∷ []) ≡ events_by w events ++ events_by w (e ∷ [])
 events_by-push w events e = filter-append (λ e. worker_of e == w) events (e ∷ [])
 
+-- a worker's own arrival is one more
 pub arrivals-own : (w : ℕ) (events : List PartitionEvent) → arrivals (events_by w (events ++ event.Arrive w ∷ [])) ≡ arrivals (events_by w events) + 1
 arrivals-own w events =
     ap arrivals (events_by-push w events (event.Arrive w) ∙ ap (λ (l : List PartitionEvent). events_by w events ++ l) (filter-yes (λ e. worker_of e == w) (event.Arrive w) [] (eq-eqb w w refl)))
     ∙ count-append is_arrival (events_by w events) (event.Arrive w ∷ [])
 
+-- another worker's event is none
 pub arrivals-other : (w : ℕ) (events : List PartitionEvent) (e : PartitionEvent) → worker_of e ≢ w → arrivals (events_by w (events ++ e ∷ [])) ≡ arrivals (events_by w events)
 arrivals-other w events e apart =
     ap arrivals (events_by-push w events e ∙ ap (λ (l : List PartitionEvent). events_by w events ++ l) (filter-no (λ e. worker_of e == w) e [] (ne_eqb (worker_of e) w apart)) ∙ append-nil (events_by w events))
 
+-- an event that is no arrival is none
 pub arrivals-still : (w : ℕ) (events : List PartitionEvent) (e : PartitionEvent) → is_arrival e ≡ false → arrivals (events_by w (events ++ e ∷ [])) ≡ arrivals (events_by w events)
 arrivals-still w events e still = ⊎_elim
     (λ mine.
@@ -75,9 +81,11 @@ arrivals-still w events e still = ⊎_elim
 
 -- ---- rows
 
+-- two lists of lists are joined one behind the other
 pub joined-append : {A : Type 0} (ps qs : List (List A)) → joined_lists (ps ++ qs) ≡ joined_lists ps ++ joined_lists qs
 joined-append {A = A} ps qs = flat_map-append (λ (piece : List A). piece) ps qs
 
+-- a piece more counts as its rows
 pub joined-push : {A : Type 0} (test : A → Bool) (ps : List (List A)) (piece : List A) → count_by test (joined_lists (ps ++ piece ∷ [])) ≡ count_by test (joined_lists ps) + count_by test piece
 joined-push {A = A} test ps piece = ap (λ (l : List A). count_by test l) (joined-append ps (piece ∷ []) ∙ ap (λ l. joined_lists ps ++ l) (append-nil piece)) ∙ count-append test (joined_lists ps) piece
 
@@ -95,6 +103,7 @@ count-piece {A = A} test ps k = ⊎_elim
 abbrev pub taken : (Row → Bool) → Run → ℕ → List PartitionEvent → ℕ → ℕ
 taken test r p events w = count_by test (joined_lists (take (arrivals (events_by w events)) (payloads r w p)))
 
+-- the rows of a partition count as those of its three parts
 count-rows : (test : Row → Bool) (s : Replayed) → count_by test (rows_of s) ≡ count_by test s.merged + (count_by test (joined_lists s.waiting) + count_by test (joined_lists s.frames))
 count-rows test s = count-append test s.merged (joined_lists s.waiting ++ joined_lists s.frames) ∙ ap (λ k. count_by test s.merged + k) (count-append test (joined_lists s.waiting) (joined_lists s.frames))
 
@@ -103,6 +112,7 @@ taken-still : (test : Row → Bool) (r : Run) (p : ℕ) (events : List Partition
     → sum_to r.limits.workers (taken test r p (events ++ e ∷ [])) ≡ sum_to r.limits.workers (taken test r p events)
 taken-still test r p events e still = sum_to-same r.limits.workers _ _ (λ w lt. ap (λ k. count_by test (joined_lists (take k (payloads r w p)))) (arrivals-still w events e still))
 
+-- an event more leaves the rows those of the pieces that arrived
 event-rows : (test : Row → Bool) (r : Run) (p : ℕ) (before : List PartitionEvent) (s : Replayed) (e : PartitionEvent) → worker_of e < r.limits.workers
     → count_by test (rows_of s) ≡ sum_to r.limits.workers (taken test r p before)
     → count_by test (rows_of (after_event r p before s e)) ≡ sum_to r.limits.workers (taken test r p (before ++ e ∷ []))
@@ -123,6 +133,7 @@ event-rows test r p before s (event.Dump v) lt is =
       | false ↦ omega (arith, still, is)
     ]
 
+-- and so do all events
 replay_from-rows : (test : Row → Bool) (r : Run) (p : ℕ) (before : List PartitionEvent) (s : Replayed) (events : List PartitionEvent) → AreOfWorkers r events
     → count_by test (rows_of s) ≡ sum_to r.limits.workers (taken test r p before)
     → count_by test (rows_of (replay_from r p before s events)) ≡ sum_to r.limits.workers (taken test r p (before ++ events))

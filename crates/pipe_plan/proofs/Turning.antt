@@ -40,15 +40,18 @@ flat_map-within {A = A} {B = B} f g (x ∷ xs) same =
     ∙ ap (λ (l : List B). g x ++ l) (flat_map-within f g xs (λ front back y is. same (x ∷ front) back y (ap (λ (l : List A). x ∷ l) is)))
 
 module _ (r : Run) (o : Bool) (chunks : List DataChunk) (stores : List StoreSeen) where
+  -- a chunk has its height
   pub height-later : (i : ℕ) → i < length r.chunks → height_at (longer_run r o chunks stores) i ≡ height_at r i
   height-later i lt =
       let heights : List DataChunk → List ℕ = λ cs. map (λ c. c.frame.height) cs in
       ap (λ (l : List ℕ). slice_index_or l i 0) (map-append (λ (c : DataChunk). c.frame.height) r.chunks chunks)
       ∙ get_or_append_left (heights r.chunks) (heights chunks) 0 i (omega (arith, lt, length-map r.chunks (λ (c : DataChunk). c.frame.height)))
 
+  -- a pick is one
   pub pick-later : (i : ℕ) → i < length r.chunks → is_pick (longer_run r o chunks stores) i ≡ is_pick r i
   pick-later i lt = ap (λ h. nat_lt 0 h && asks (action_at r i)) (height-later i lt)
 
+  -- as many are
   pub picks-later : (w n : ℕ) → n ≤ length r.chunks → picks_before (longer_run r o chunks stores) w n ≡ picks_before r w n
   picks-later w n le =
       count-within (is_pick (longer_run r o chunks stores)) (is_pick r) (turns_before r w n)
@@ -64,6 +67,7 @@ module _ (r : Run) (o : Bool) (chunks : List DataChunk) (stores : List StoreSeen
       let none : count_by test more ≡ 0 = count-none test more (λ front back x is. le-ltb x.place.chunk n (omega (arith, le, each-at (λ (x : Row). 0 + length r.chunks ≤ x.place.chunk) more front back x behind is))) in
       ap (λ (l : List Row). count_by test l) (overflow-later r o chunks stores w p) ∙ count-append test (overflow r w p) more ∙ omega (arith, none)
 
+  -- a turn has the events that it had
   pub turn-later : (w p i : ℕ) → i < length r.chunks → turn_events (longer_run r o chunks stores) w p i ≡ turn_events r w p i
   turn-later w p i lt =
       let s = longer_run r o chunks stores in
@@ -74,6 +78,7 @@ module _ (r : Run) (o : Bool) (chunks : List DataChunk) (stores : List StoreSeen
       ∙ ap (λ b. events (sent_before r w p (i + 1)) (sent_before r w p i) b (picks_before s w i)) (pick-later i lt)
       ∙ ap (λ k. events (sent_before r w p (i + 1)) (sent_before r w p i) (is_pick r i) k) (picks-later w i (omega arith))
 
+  -- and so do all turns
   pub events-later : (w p n : ℕ) → n ≤ length r.chunks → events_before (longer_run r o chunks stores) w p n ≡ events_before r w p n
   events-later w p n le =
       flat_map-within (turn_events (longer_run r o chunks stores) w p) (turn_events r w p) (turns_before r w n)
