@@ -11,11 +11,6 @@ use Rattle.pipe_columns.specs.Frame.{FrameData}
 abbrev pub frame_given : FinalizedSink → FrameData
 frame_given (finalized.Finished frame) = frame
 
--- the chunks that a source gives
-abbrev pub chunks_given : SourceResult → List DataChunk
-chunks_given source.Finished = []
-chunks_given (source.GotMoreData chunks) = chunks.items
-
 -- of some chunks the first are those given, and the others are left
 pub record AreFirst (given chunks : List DataChunk) (Left : List DataChunk → Type 0) : Type 0 where
   pub first : take (length given) chunks ≡ given

@@ -1,6 +1,6 @@
 //! What takes chunks.
 
-ghost use Rattle.std.specs.Prelude.{◌≡◌, ◌∷◌, ◌++◌, [], List, IfOk, OnOk};
+ghost use Rattle.std.specs.Prelude.{◌≡◌, ◌∷◌, ◌++◌, [], List, ℕ, IfOk, OnOk};
 ghost use Rattle.pipe_columns.specs.declared.data_chunk.DataChunk.{DataChunk};
 ghost use Rattle.pipe_columns.specs.Chunks.{frame_given};
 ghost use Rattle.pipe_columns.specs.Frame.{FrameData};
@@ -26,6 +26,9 @@ pub enum FinalizedSink {
 pub trait Sink {
     /// Why a sink refuses.
     type Fault;
+
+    /// What the kind of sink is called.
+    ghost name: { List ℕ };
 
     /// Whether a sink takes a chunk, as it stands.
     ghost takes: { Self → DataChunk → Type 0 };
@@ -55,5 +58,6 @@ pub trait Sink {
         ensures purpose { purpose self.new ≡ purpose self.old };
 
     /// The name of the kind of sink.
-    fn fmt(&self) -> &str;
+    fn fmt(&self) -> &str
+        ensures { result.now ≡ name };
 }

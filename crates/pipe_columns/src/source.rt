@@ -1,6 +1,6 @@
 //! What gives chunks.
 
-ghost use Rattle.std.specs.Prelude.{List, IfOk};
+ghost use Rattle.std.specs.Prelude.{◌≡◌, List, ℕ, IfOk};
 ghost use Rattle.pipe_columns.specs.declared.data_chunk.DataChunk.{DataChunk};
 ghost use Rattle.pipe_columns.specs.Chunks.{GaveFirst};
 
@@ -20,6 +20,9 @@ pub trait Source {
     /// Why a source refuses.
     type Fault;
 
+    /// What the kind of source is called.
+    ghost name: { List ℕ };
+
     /// The chunks that a source still has to give, in order.
     ghost left: { Self → List DataChunk → Type 0 };
 
@@ -28,5 +31,6 @@ pub trait Source {
         ensures given { IfOk result (λ r. GaveFirst r (left self.old) (left self.new)) };
 
     /// The name of the kind of source.
-    fn fmt(&self) -> &str;
+    fn fmt(&self) -> &str
+        ensures { result.now ≡ name };
 }

@@ -1,9 +1,8 @@
 //! A sink that counts rows and a source of one chunk, as the traits have them.
 
-ghost use Rattle.std.specs.Prelude.{◌≡◌, ◌+◌, ◌<◌, ◌^◌, ◌∷◌, ◌++◌, [], ℕ, List, IfOk, OnOk, codes, sum_by};
+ghost use Rattle.std.specs.Prelude.{◌≡◌, ◌+◌, ◌<◌, ◌^◌, ◌∷◌, [], IfOk, codes, sum_by};
 ghost use Rattle.std.specs.Option.{option_to_list};
-ghost use Rattle.pipe_columns.specs.declared.data_chunk.DataChunk.{DataChunk};
-ghost use Rattle.pipe_columns.specs.Chunks.{frame_given, GaveFirst};
+ghost use Rattle.pipe_columns.specs.Chunks.{frame_given};
 
 use crate::{DataChunk, DataFrame, FinalizedSink, Sink, SinkResult, Source, SourceResult};
 use std::alloc::{AllocError, Global};
@@ -18,6 +17,8 @@ struct Counted {
 
 impl Sink for Counted {
     type Fault = &'static str;
+
+    ghost name = { codes "counted" };
 
     ghost takes = { λ s chunk. s.rows + chunk.frame.height < 2 ^ 64 };
 
@@ -40,9 +41,7 @@ impl Sink for Counted {
         Ok(FinalizedSink::Finished(frame))
     }
 
-    fn fmt(&self) -> &str
-        ensures { result.now ≡ codes "counted" }
-    {
+    fn fmt(&self) -> &str {
         "counted"
     }
 }
@@ -57,6 +56,8 @@ struct Single {
 impl Source for Single {
     type Fault = AllocError;
 
+    ghost name = { codes "single" };
+
     ghost left = { λ s chunks. option_to_list s.chunk ≡ chunks };
 
     fn get_batches(&mut self) -> Result<SourceResult, AllocError> {
@@ -68,9 +69,7 @@ impl Source for Single {
         Ok(SourceResult::GotMoreData(chunks))
     }
 
-    fn fmt(&self) -> &str
-        ensures { result.now ≡ codes "single" }
-    {
+    fn fmt(&self) -> &str {
         "single"
     }
 }
