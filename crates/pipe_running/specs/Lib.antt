@@ -1,5 +1,6 @@
 pub mod Pick
 pub mod Mean
+pub mod Held
 pub mod Runs
 pub mod Transitions
 pub mod TransitionLaws

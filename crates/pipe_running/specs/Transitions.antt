@@ -11,13 +11,12 @@ use Rattle.pipe_native.specs.Native.{Native}
 use Rattle.pipe_running.specs.declared.interface.Finalized.{Finalized}
 use Rattle.pipe_running.specs.declared.interface.Finalized.TheVariants as finalized
 use Rattle.pipe_running.specs.declared.count.CountAgg.{CountAgg}
-use Rattle.pipe_running.specs.declared.first.FirstAgg.{FirstAgg}
-use Rattle.pipe_running.specs.declared.last.LastAgg.{LastAgg}
 use Rattle.pipe_running.specs.declared.min_max.Direction.{Direction}
 use Rattle.pipe_running.specs.declared.min_max.Direction.TheVariants as direction
 use Rattle.pipe_running.specs.declared.min_max.MinMaxAgg.{MinMaxAgg}
 use Rattle.pipe_running.specs.declared.sum.SumAgg.{SumAgg}
 use Rattle.pipe_model.specs.Aggregate.{addend, counted}
+use Rattle.pipe_running.specs.Held.{HeldState}
 use Rattle.pipe_running.specs.Mean.{MeanState}
 use Rattle.pipe_running.specs.Pick.{earlier_place, later_place, least, lesser}
 
@@ -84,6 +83,7 @@ number_order direction.Max m n = int_cmp n m
 abbrev pub native_order : {K : Type 0} → Native K → Direction → K → K → Ordering
 native_order k d m n = number_order d (k.number m) (k.number n)
 
+-- whether two directions are the same
 abbrev pub same_direction : Direction → Direction → Bool
 same_direction direction.Min direction.Min = true
 same_direction direction.Min direction.Max = false
@@ -119,21 +119,25 @@ extreme_value k (Some n) = av.Int (k.number n)
 -- ---- first and last
 
 -- a first before any value
-abbrev pub empty_first : DataType → FirstAgg
+abbrev pub empty_first : DataType → HeldState
 empty_first t = record { dtype = t; held = None }
 
-abbrev pub first_after : Place → AnyValue → FirstAgg → FirstAgg
+-- a first with one more value
+abbrev pub first_after : Place → AnyValue → HeldState → HeldState
 first_after p v s = record { dtype = s.dtype; held = Some (lesser earlier_place (p, v) s.held) }
 
-abbrev pub firsts_joined : FirstAgg → FirstAgg → FirstAgg
+-- two firsts together
+abbrev pub firsts_joined : HeldState → HeldState → HeldState
 firsts_joined a b = record { dtype = a.dtype; held = least earlier_place b.held a.held }
 
 -- a last before any value
-abbrev pub empty_last : DataType → LastAgg
+abbrev pub empty_last : DataType → HeldState
 empty_last t = record { dtype = t; held = None }
 
-abbrev pub last_after : Place → AnyValue → LastAgg → LastAgg
+-- a last with one more value
+abbrev pub last_after : Place → AnyValue → HeldState → HeldState
 last_after p v s = record { dtype = s.dtype; held = Some (lesser later_place (p, v) s.held) }
 
-abbrev pub lasts_joined : LastAgg → LastAgg → LastAgg
+-- two lasts together
+abbrev pub lasts_joined : HeldState → HeldState → HeldState
 lasts_joined a b = record { dtype = a.dtype; held = least later_place b.held a.held }

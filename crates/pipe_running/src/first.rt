@@ -1,25 +1,42 @@
+//! The first value by place.
+
 ghost use Rattle.std.specs.Prelude.{◌≡◌, true, false, refl};
-ghost use Rattle.pipe_running.specs.declared.interface.Finalized.TheVariants as finalized;
-ghost use Rattle.pipe_model.specs.Aggregate.{entry_value};
-ghost use Rattle.pipe_running.specs.Transitions.{empty_first, first_after, firsts_joined};
-ghost use Rattle.pipe_running.specs.TransitionLaws.{none_by_one};
 
 use crate::interface::{AggregateFn, Finalized};
 use pipe_columns::{AnyValue, DataType, Place};
+use std::marker::Model;
+use std::mem;
 
 /// A running first value by place: the value at the least place so far.
 #[derive(Drop)]
 pub struct FirstAgg {
+    place: Place,
     dtype: DataType,
-    held: Option<(Place, AnyValue)>,
+    came: bool,
+    value: AnyValue,
+}
+
+impl Model for FirstAgg {
+    ghost use Rattle.pipe_running.specs.Held.{HeldState, entry_if};
+
+    ghost Value = { HeldState };
+
+    ghost view = { λ s. record { dtype = s.dtype; held = entry_if s.came s.place s.value } };
 }
 
 impl FirstAgg {
+    ghost use Rattle.pipe_running.specs.Transitions.{empty_first};
+
     /// The first of no value, for values of a type.
     pub fn new(dtype: DataType) -> FirstAgg
         ensures { result ≡ empty_first dtype }
     {
-        FirstAgg { dtype, held: None }
+        FirstAgg {
+            place: Place { chunk: 0, row: 0 },
+            dtype,
+            came: false,
+            value: AnyValue::Null,
+        }
     }
 
     /// The first of no value, for values of the same type.
@@ -31,6 +48,11 @@ impl FirstAgg {
 }
 
 impl AggregateFn for FirstAgg {
+    ghost use Rattle.pipe_running.specs.declared.interface.Finalized.TheVariants as finalized;
+    ghost use Rattle.pipe_model.specs.Aggregate.{entry_value};
+    ghost use Rattle.pipe_running.specs.Transitions.{empty_first, first_after, firsts_joined};
+    ghost use Rattle.pipe_running.specs.TransitionLaws.{none_by_one};
+
     ghost seen = { λ s. 0 };
 
     ghost takes = { λ s v. true };
@@ -58,12 +80,10 @@ impl AggregateFn for FirstAgg {
     }
 
     fn pre_agg(&mut self, place: Place, value: AnyValue) {
-        let is_first = match &self.held {
-            Some((held, _)) => place < *held,
-            None => true,
-        };
-        if is_first {
-            self.held = Some((place, value));
+        if !self.came || place < self.place {
+            self.place = place;
+            self.came = true;
+            self.value = value;
         }
     }
 
@@ -72,15 +92,17 @@ impl AggregateFn for FirstAgg {
     }
 
     fn combine(&mut self, other: FirstAgg) {
-        if let Some((place, value)) = other.held {
-            self.pre_agg(place, value);
+        if other.came {
+            self.pre_agg(other.place, other.value);
         }
     }
 
     fn finalize(&mut self) -> Finalized {
-        match self.held.take() {
-            Some((_, value)) => Finalized::One(value),
-            None => Finalized::One(AnyValue::Null),
+        let value = mem::replace(&mut self.value, AnyValue::Null);
+        if mem::replace(&mut self.came, false) {
+            Finalized::One(value)
+        } else {
+            Finalized::One(AnyValue::Null)
         }
     }
 }

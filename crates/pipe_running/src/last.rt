@@ -1,25 +1,42 @@
+//! The last value by place.
+
 ghost use Rattle.std.specs.Prelude.{◌≡◌, true, false, refl};
-ghost use Rattle.pipe_running.specs.declared.interface.Finalized.TheVariants as finalized;
-ghost use Rattle.pipe_model.specs.Aggregate.{entry_value};
-ghost use Rattle.pipe_running.specs.Transitions.{empty_last, last_after, lasts_joined};
-ghost use Rattle.pipe_running.specs.TransitionLaws.{none_by_one};
 
 use crate::interface::{AggregateFn, Finalized};
 use pipe_columns::{AnyValue, DataType, Place};
+use std::marker::Model;
+use std::mem;
 
 /// A running last value by place: the value at the greatest place so far.
 #[derive(Drop)]
 pub struct LastAgg {
+    place: Place,
     dtype: DataType,
-    held: Option<(Place, AnyValue)>,
+    came: bool,
+    value: AnyValue,
+}
+
+impl Model for LastAgg {
+    ghost use Rattle.pipe_running.specs.Held.{HeldState, entry_if};
+
+    ghost Value = { HeldState };
+
+    ghost view = { λ s. record { dtype = s.dtype; held = entry_if s.came s.place s.value } };
 }
 
 impl LastAgg {
+    ghost use Rattle.pipe_running.specs.Transitions.{empty_last};
+
     /// The last of no value, for values of a type.
     pub fn new(dtype: DataType) -> LastAgg
         ensures { result ≡ empty_last dtype }
     {
-        LastAgg { dtype, held: None }
+        LastAgg {
+            place: Place { chunk: 0, row: 0 },
+            dtype,
+            came: false,
+            value: AnyValue::Null,
+        }
     }
 
     /// The last of no value, for values of the same type.
@@ -31,6 +48,11 @@ impl LastAgg {
 }
 
 impl AggregateFn for LastAgg {
+    ghost use Rattle.pipe_running.specs.declared.interface.Finalized.TheVariants as finalized;
+    ghost use Rattle.pipe_model.specs.Aggregate.{entry_value};
+    ghost use Rattle.pipe_running.specs.Transitions.{empty_last, last_after, lasts_joined};
+    ghost use Rattle.pipe_running.specs.TransitionLaws.{none_by_one};
+
     ghost seen = { λ s. 0 };
 
     ghost takes = { λ s v. true };
@@ -58,12 +80,10 @@ impl AggregateFn for LastAgg {
     }
 
     fn pre_agg(&mut self, place: Place, value: AnyValue) {
-        let is_last = match &self.held {
-            Some((held, _)) => *held < place,
-            None => true,
-        };
-        if is_last {
-            self.held = Some((place, value));
+        if !self.came || self.place < place {
+            self.place = place;
+            self.came = true;
+            self.value = value;
         }
     }
 
@@ -72,15 +92,17 @@ impl AggregateFn for LastAgg {
     }
 
     fn combine(&mut self, other: LastAgg) {
-        if let Some((place, value)) = other.held {
-            self.pre_agg(place, value);
+        if other.came {
+            self.pre_agg(other.place, other.value);
         }
     }
 
     fn finalize(&mut self) -> Finalized {
-        match self.held.take() {
-            Some((_, value)) => Finalized::One(value),
-            None => Finalized::One(AnyValue::Null),
+        let value = mem::replace(&mut self.value, AnyValue::Null);
+        if mem::replace(&mut self.came, false) {
+            Finalized::One(value)
+        } else {
+            Finalized::One(AnyValue::Null)
         }
     }
 }
