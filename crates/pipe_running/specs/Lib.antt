@@ -5,6 +5,7 @@ pub mod Runs
 pub mod Transitions
 pub mod TransitionLaws
 pub mod States
+pub mod Lent
 pub mod StateLaws
 pub mod Least
 pub mod Stands

@@ -6,6 +6,7 @@ ghost use Rattle.pipe_running.specs.Transitions.{count_after, empty_count};
 ghost use Rattle.pipe_running.specs.TransitionLaws.{count_by_one};
 
 use crate::interface::{AggregateFn, Finalized};
+use crate::lent::AggregateLent;
 use pipe_columns::{AnyValue, DataType, Place};
 use std::mem;
 
@@ -51,10 +52,8 @@ impl<const INCLUDE_NULL: bool> AggregateFn for CountAgg<INCLUDE_NULL> {
         false
     }
 
-    fn pre_agg(&mut self, _place: Place, value: AnyValue) {
-        if INCLUDE_NULL || !matches!(&value, AnyValue::Null) {
-            self.count += 1;
-        }
+    fn pre_agg(&mut self, place: Place, value: AnyValue) {
+        self.pre_agg_lent(place, &value);
     }
 
     fn dtype(&self) -> DataType {
@@ -68,5 +67,13 @@ impl<const INCLUDE_NULL: bool> AggregateFn for CountAgg<INCLUDE_NULL> {
     fn finalize(&mut self) -> Finalized {
         let count = mem::replace(&mut self.count, 0);
         Finalized::One(AnyValue::Int(i128::from(count)))
+    }
+}
+
+impl<const INCLUDE_NULL: bool> AggregateLent for CountAgg<INCLUDE_NULL> {
+    fn pre_agg_lent(&mut self, _place: Place, value: &AnyValue) {
+        if INCLUDE_NULL || !matches!(value, AnyValue::Null) {
+            self.count += 1;
+        }
     }
 }

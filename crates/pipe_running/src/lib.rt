@@ -7,6 +7,7 @@ mod function;
 mod interface;
 mod last;
 mod laws;
+mod lent;
 mod mean;
 mod min_max;
 mod null;

@@ -2,6 +2,7 @@ ghost use Rattle.std.specs.Prelude.{◌≡◌, true, false, refl};
 ghost use Rattle.pipe_model.specs.Aggregate.{addend};
 
 use crate::interface::{AggregateFn, Finalized};
+use crate::lent::AggregateLent;
 use pipe_columns::{AnyValue, DataType, Place};
 use pipe_native::NumericNative;
 use std::marker::Model;
@@ -78,11 +79,8 @@ impl AggregateFn for MeanAgg<i128> {
         true
     }
 
-    fn pre_agg(&mut self, _place: Place, value: AnyValue) {
-        if !matches!(&value, AnyValue::Null) {
-            self.sum += number_in(&value);
-            self.count += 1;
-        }
+    fn pre_agg(&mut self, place: Place, value: AnyValue) {
+        self.pre_agg_lent(place, &value);
     }
 
     fn dtype(&self) -> DataType {
@@ -103,5 +101,14 @@ impl AggregateFn for MeanAgg<i128> {
             AnyValue::Int(sum)
         };
         Finalized::Pair(sum, AnyValue::Int(i128::from(count)))
+    }
+}
+
+impl AggregateLent for MeanAgg<i128> {
+    fn pre_agg_lent(&mut self, _place: Place, value: &AnyValue) {
+        if !matches!(value, AnyValue::Null) {
+            self.sum += number_in(value);
+            self.count += 1;
+        }
     }
 }

@@ -4,6 +4,7 @@ ghost use Rattle.pipe_columns.specs.AnyValue.{fits};
 ghost use Rattle.pipe_running.specs.declared.interface.Finalized.TheVariants as finalized;
 
 use crate::interface::{AggregateFn, Finalized};
+use crate::lent::AggregateLent;
 use pipe_columns::{AnyValue, DataType, Place};
 use pipe_native::NumericNative;
 use std::cmp::Ordering;
@@ -100,10 +101,8 @@ impl<K: NumericNative> AggregateFn for MinMaxAgg<K> {
         true
     }
 
-    fn pre_agg(&mut self, _place: Place, value: AnyValue) {
-        if let AnyValue::Int(number) = value {
-            self.take(K::narrowed(number));
-        }
+    fn pre_agg(&mut self, place: Place, value: AnyValue) {
+        self.pre_agg_lent(place, &value);
     }
 
     fn dtype(&self) -> DataType {
@@ -120,6 +119,14 @@ impl<K: NumericNative> AggregateFn for MinMaxAgg<K> {
         match self.extreme.take() {
             Some(number) => Finalized::One(AnyValue::Int(number.widened())),
             None => Finalized::One(AnyValue::Null),
+        }
+    }
+}
+
+impl<K: NumericNative> AggregateLent for MinMaxAgg<K> {
+    fn pre_agg_lent(&mut self, _place: Place, value: &AnyValue) {
+        if let AnyValue::Int(number) = value {
+            self.take(K::narrowed(*number));
         }
     }
 }

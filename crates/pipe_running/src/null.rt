@@ -4,6 +4,7 @@ ghost use Rattle.pipe_running.specs.declared.interface.Finalized.TheVariants as 
 ghost use Rattle.pipe_running.specs.TransitionLaws.{none_by_one};
 
 use crate::interface::{AggregateFn, Finalized};
+use crate::lent::AggregateLent;
 use pipe_columns::{AnyValue, DataType, Place};
 
 /// An aggregate that is null whatever the values, of the type that it was made with.
@@ -57,4 +58,8 @@ impl AggregateFn for NullAgg {
     fn finalize(&mut self) -> Finalized {
         Finalized::One(AnyValue::Null)
     }
+}
+
+impl AggregateLent for NullAgg {
+    fn pre_agg_lent(&mut self, _place: Place, _value: &AnyValue) {}
 }

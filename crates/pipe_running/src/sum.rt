@@ -5,6 +5,7 @@ ghost use Rattle.pipe_running.specs.Transitions.{empty_sum, sum_after, sum_state
 ghost use Rattle.pipe_running.specs.TransitionLaws.{none_by_one};
 
 use crate::interface::{AggregateFn, Finalized};
+use crate::lent::AggregateLent;
 use pipe_columns::{AnyValue, DataType, Place};
 use pipe_native::NumericNative;
 use std::mem;
@@ -66,9 +67,8 @@ impl<K: NumericNative> AggregateFn for SumAgg<K> {
         true
     }
 
-    fn pre_agg(&mut self, _place: Place, value: AnyValue) {
-        self.sum = plus(self.sum, &value);
-        self.came = self.came || !matches!(&value, AnyValue::Null);
+    fn pre_agg(&mut self, place: Place, value: AnyValue) {
+        self.pre_agg_lent(place, &value);
     }
 
     fn dtype(&self) -> DataType {
@@ -84,5 +84,12 @@ impl<K: NumericNative> AggregateFn for SumAgg<K> {
         self.came = false;
         let sum = mem::replace(&mut self.sum, K::narrowed(0));
         Finalized::One(AnyValue::Int(sum.widened()))
+    }
+}
+
+impl<K: NumericNative> AggregateLent for SumAgg<K> {
+    fn pre_agg_lent(&mut self, _place: Place, value: &AnyValue) {
+        self.sum = plus(self.sum, value);
+        self.came = self.came || !matches!(value, AnyValue::Null);
     }
 }
