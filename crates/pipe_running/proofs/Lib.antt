@@ -1,4 +1,5 @@
 pub mod RunFacts
+pub mod EndFacts
 pub mod LeastFacts
 pub mod SumFacts
 pub mod KindFacts

@@ -3,6 +3,7 @@
 ghost use Rattle.std.specs.Prelude.{◌≡◌, true, false, refl};
 
 use crate::interface::{AggregateFn, Finalized};
+use crate::lent::plain_copy;
 use pipe_columns::{AnyValue, DataType, Place};
 use std::marker::Model;
 use std::mem;
@@ -25,7 +26,9 @@ impl Model for FirstAgg {
 }
 
 impl FirstAgg {
-    ghost use Rattle.pipe_running.specs.Transitions.{empty_first};
+    ghost use Rattle.std.specs.Prelude.{◌&&◌};
+    ghost use Rattle.pipe_running.specs.Held.{is_earlier, is_text};
+    ghost use Rattle.pipe_running.specs.Transitions.{empty_first, first_after};
 
     /// The first of no value, for values of a type.
     pub fn new(dtype: DataType) -> FirstAgg
@@ -44,6 +47,23 @@ impl FirstAgg {
         ensures { result ≡ empty_first self.now.dtype }
     {
         FirstAgg::new(self.dtype)
+    }
+
+    /// Whether a value at a place would be held.
+    pub(crate) fn would_hold(&self, place: Place) -> bool
+        ensures { result ≡ is_earlier place self.now.held }
+    {
+        !self.came || place < self.place
+    }
+
+    /// Takes one more value that is lent, and is no text that would be held.
+    pub(crate) fn pre_agg_lent(&mut self, place: Place, value: &AnyValue)
+        requires { (is_text value.now && is_earlier place self.old.held) ≡ false }
+        ensures { self.new ≡ first_after place value.now self.old }
+    {
+        if self.would_hold(place) {
+            self.pre_agg(place, plain_copy(value));
+        }
     }
 }
 
@@ -80,7 +100,7 @@ impl AggregateFn for FirstAgg {
     }
 
     fn pre_agg(&mut self, place: Place, value: AnyValue) {
-        if !self.came || place < self.place {
+        if self.would_hold(place) {
             self.place = place;
             self.came = true;
             self.value = value;

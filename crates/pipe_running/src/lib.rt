@@ -4,6 +4,7 @@
 mod count;
 mod first;
 mod function;
+mod function_lent;
 mod interface;
 mod last;
 mod laws;
