@@ -5,6 +5,7 @@ use Rattle.std.specs.declared.cmp.Ordering.TheVariants.{Less, Equal, Greater}
 use Rattle.std.specs.Bool.{then_some}
 use Rattle.std.specs.List.{slice_get}
 use Rattle.std.specs.Ordering.{is_gt, match_ordering, nat_cmp, ordering_then, ordering_reverse}
+use Rattle.std.proofs.lemmas.Bool.{and_parts}
 use Rattle.std.proofs.lemmas.Cmp.{nat_cmp_total, tied_itself, upto}
 use Rattle.std.specs.Cmp.{nat_cmp_is}
 use Rattle.std.proofs.lemmas.Option.{unwrap_or-slice_get}
@@ -17,12 +18,13 @@ use Rattle.pipe_running.specs.declared.function.AggregateFunction.{AggregateFunc
 use Rattle.pipe_running.specs.declared.function.AggregateFunction.TheVariants as function
 use Rattle.pipe_running.specs.Held.{HeldState, is_earlier, is_later, is_text}
 use Rattle.pipe_running.specs.Lent.{end_of_run, keeps_text, text_of_run}
-use Rattle.pipe_running.specs.Pick.{earlier_place, later_place, lesser}
+use Rattle.pipe_running.specs.Pick.{nearer}
 use Rattle.pipe_running.specs.Runs.{after_run}
 use Rattle.pipe_running.specs.States.{after_value}
 use Rattle.pipe_running.specs.Transitions.{first_after, last_after}
-use Rattle.pipe_running.proofs.KindFacts.{earlier-total, later-total, place_cmp-total}
-use Rattle.pipe_running.proofs.LeastFacts.{second_on_ties}
+use Rattle.pipe_model.specs.Least.{by_place, from_last}
+use Rattle.pipe_model.proofs.LeastFacts.{second_on_ties}
+use Rattle.pipe_model.proofs.PlaceFacts.{by_place-total, place_total}
 use Rattle.pipe_running.proofs.RunFacts.{run-within}
 
 -- a row of a chunk
@@ -42,11 +44,11 @@ abbrev holding : HeldState → Place × AnyValue → HeldState
 holding s e = record { dtype = s.dtype; held = Some e }
 
 -- an entry that is not later than a row stays through it
-stays : (chunk row : ℕ) (v : AnyValue) (e : Place × AnyValue) → is_gt (place_cmp e.0 (at chunk row)) ≡ false → lesser earlier_place (at chunk row, v) (Some e) ≡ e
+stays : (chunk row : ℕ) (v : AnyValue) (e : Place × AnyValue) → is_gt (place_cmp e.0 (at chunk row)) ≡ false → nearer by_place (at chunk row, v) (Some e) ≡ e
 stays chunk row v e h = by (place_cmp e.0 (at chunk row)) refl where
-  by : (r : Ordering) → place_cmp e.0 (at chunk row) ≡ r → lesser earlier_place (at chunk row, v) (Some e) ≡ e
-  by Less f = let back : place_cmp (at chunk row) e.0 ≡ Greater = place_cmp-total.antisymm (at chunk row) e.0 ∙ ap ordering_reverse f in rw back refl
-  by Equal f = let back : place_cmp (at chunk row) e.0 ≡ Equal = place_cmp-total.antisymm (at chunk row) e.0 ∙ ap ordering_reverse f in rw back refl
+  by : (r : Ordering) → place_cmp e.0 (at chunk row) ≡ r → nearer by_place (at chunk row, v) (Some e) ≡ e
+  by Less f = let back : place_cmp (at chunk row) e.0 ≡ Greater = place_total.antisymm (at chunk row) e.0 ∙ ap ordering_reverse f in rw back refl
+  by Equal f = let back : place_cmp (at chunk row) e.0 ≡ Equal = place_total.antisymm (at chunk row) e.0 ∙ ap ordering_reverse f in rw back refl
   by Greater f = cc
 
 -- and so through a run from there on
@@ -54,7 +56,7 @@ stays-run : (chunk row : ℕ) (values : List AnyValue) (s : HeldState) (e : Plac
     → after_run first_after chunk row values (holding s e) ≡ holding s e
 stays-run chunk row [] s e h = refl
 stays-run chunk row (v ∷ vs) s e h =
-    let next : is_gt (place_cmp e.0 (at chunk (row + 1))) ≡ false = upto place_cmp-total e.0 (at chunk row) (at chunk (row + 1)) h (ap is_gt (later_row chunk row (row + 1) (omega arith))) in
+    let next : is_gt (place_cmp e.0 (at chunk (row + 1))) ≡ false = upto place_total e.0 (at chunk row) (at chunk (row + 1)) h (ap is_gt (later_row chunk row (row + 1) (omega arith))) in
     ap (λ (f : Place × AnyValue). after_run first_after chunk (row + 1) vs (holding s f)) (stays chunk row v e h) ∙ stays-run chunk (row + 1) vs s e next
 
 -- a first takes the first value of a run alone
@@ -62,25 +64,25 @@ pub first-run : (chunk row : ℕ) (values : List AnyValue) (v : AnyValue) (s : H
 first-run chunk row [] v s e = cc
 first-run chunk row (w ∷ ws) v s e =
     let same : v ≡ w = some_same v w e in
-    let now : Place × AnyValue = lesser earlier_place (at chunk row, w) s.held in
-    stays-run chunk (row + 1) ws s now (upto place_cmp-total now.0 (at chunk row) (at chunk (row + 1)) (under s.held) (ap is_gt (later_row chunk row (row + 1) (omega arith))))
+    let now : Place × AnyValue = nearer by_place (at chunk row, w) s.held in
+    stays-run chunk (row + 1) ws s now (upto place_total now.0 (at chunk row) (at chunk (row + 1)) (under s.held) (ap is_gt (later_row chunk row (row + 1) (omega arith))))
     ∙ ap (λ (x : AnyValue). first_after (at chunk row) x s) (sym same)
   where
     some_same : (x y : AnyValue) → Some x ≡ Some y → x ≡ y
     some_same x y e = cc
 
-    under : (o : Option (Place × AnyValue)) → is_gt (place_cmp (lesser earlier_place (at chunk row, w) o).0 (at chunk row)) ≡ false
-    under None = ap is_gt (tied_itself place_cmp-total (at chunk row))
-    under (Some f) = (second_on_ties earlier-total (at chunk row, w) f).under_first
+    under : (o : Option (Place × AnyValue)) → is_gt (place_cmp (nearer by_place (at chunk row, w) o).0 (at chunk row)) ≡ false
+    under None = ap is_gt (tied_itself place_total (at chunk row))
+    under (Some f) = (second_on_ties by_place-total (at chunk row, w) f).under_first
 
 -- ---- a last
 
 -- the last of two values at a later place is alone taken
-absorbs : (p q : Place) (v w : AnyValue) (o : Option (Place × AnyValue)) → place_cmp p q ≡ Less → lesser later_place (q, w) (Some (lesser later_place (p, v) o)) ≡ lesser later_place (q, w) o
+absorbs : (p q : Place) (v w : AnyValue) (o : Option (Place × AnyValue)) → place_cmp p q ≡ Less → nearer from_last (q, w) (Some (nearer from_last (p, v) o)) ≡ nearer from_last (q, w) o
 absorbs p q v w None e = rw e refl
 absorbs p q v w (Some f) e = by (place_cmp f.0 p) refl where
-  by : (r : Ordering) → place_cmp f.0 p ≡ r → lesser later_place (q, w) (Some (match_ordering r (p, v) f f)) ≡ lesser later_place (q, w) (Some f)
-  by Less g = let far : place_cmp f.0 q ≡ Less = place_cmp-total.trans f.0 p q g e in rw (e, far) refl
+  by : (r : Ordering) → place_cmp f.0 p ≡ r → nearer from_last (q, w) (Some (match_ordering r (p, v) f f)) ≡ nearer from_last (q, w) (Some f)
+  by Less g = let far : place_cmp f.0 q ≡ Less = place_total.trans f.0 p q g e in rw (e, far) refl
   by Equal g = refl
   by Greater g = refl
 
@@ -89,6 +91,7 @@ abbrev last_of : AnyValue → List AnyValue → AnyValue
 last_of v [] = v
 last_of v (w ∷ ws) = last_of w ws
 
+-- it stands at the end
 last_of-is : (v : AnyValue) (vs : List AnyValue) → slice_get (v ∷ vs) (length vs) ≡ Some (last_of v vs)
 last_of-is v [] = refl
 last_of-is v (w ∷ ws) = last_of-is w ws
@@ -127,11 +130,6 @@ some_text values i (Some v) e t = ap (λ (p : Option AnyValue). Some (unwrap_or 
 text_within : (values : List AnyValue) (i : ℕ) → is_text (value_at values i) ≡ true → Some (value_at values i) ≡ slice_get values i
 text_within values i t = some_text values i (slice_get values i) refl t
 
--- the first of two tests that both pass
-first_part : (a b : Bool) → (a && b) ≡ true → a ≡ true
-first_part true b e = refl
-first_part false b e = e
-
 -- a running aggregate that keeps a text of a run takes that value alone
 pub text-alone : (chunk row : ℕ) (values : List AnyValue) (f : AggregateFunction)
     → IfSome (text_of_run chunk row values f) (λ i. after_run after_value chunk row values f ≡ after_value (record { chunk = chunk; row = row + i }) (value_at values i) f)
@@ -140,7 +138,7 @@ text-alone chunk row values (function.First a) = by (is_text (value_at values 0)
       → IfSome (if b then Some 0 else None) (λ i. after_run after_value chunk row values (function.First a) ≡ after_value (at chunk (row + i)) (value_at values i) (function.First a))
   by true e =
       sym (run-within function.First (λ p v s. first_after p v s) after_value (λ p v s. refl) chunk row values a)
-      ∙ ap function.First (first-run chunk row values (value_at values 0) a (text_within values 0 (first_part (is_text (value_at values 0)) (is_earlier (at chunk (row + 0)) a.held) e)))
+      ∙ ap function.First (first-run chunk row values (value_at values 0) a (text_within values 0 (and_parts (is_text (value_at values 0)) (is_earlier (at chunk (row + 0)) a.held) e).0))
       ∙ ap (λ (n : ℕ). function.First (first_after (at chunk n) (value_at values 0) a)) (omega arith)
   by false e = tt
 text-alone chunk row values (function.Last a) = by (is_text (value_at values (length values - 1)) && is_later (at chunk (row + (length values - 1))) a.held) refl where
@@ -149,7 +147,7 @@ text-alone chunk row values (function.Last a) = by (is_text (value_at values (le
   by true e =
       let last : ℕ = length values - 1 in
       sym (run-within function.Last (λ p v s. last_after p v s) after_value (λ p v s. refl) chunk row values a)
-      ∙ ap function.Last (last-run chunk row values (value_at values last) a (text_within values last (first_part (is_text (value_at values last)) (is_later (at chunk (row + last)) a.held) e)))
+      ∙ ap function.Last (last-run chunk row values (value_at values last) a (text_within values last (and_parts (is_text (value_at values last)) (is_later (at chunk (row + last)) a.held) e).0))
   by false e = tt
 text-alone chunk row values f = tt
 

@@ -7,6 +7,6 @@ pub mod TransitionLaws
 pub mod States
 pub mod Lent
 pub mod StateLaws
-pub mod Least
 pub mod Stands
 pub mod SameKind
+pub mod GroupStates

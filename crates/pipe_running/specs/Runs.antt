@@ -9,7 +9,7 @@ after_run after chunk row [] s = s
 after_run after chunk row (v ∷ vs) s =
     after_run after chunk (row + 1) vs (after (record { chunk = chunk; row = row }) v s)
 
--- those values with their places
-abbrev pub placed : ℕ → ℕ → List AnyValue → List (Place × AnyValue)
+-- what stands in those rows, with their places
+abbrev pub placed : {V : Type 0} → ℕ → ℕ → List V → List (Place × V)
 placed chunk row [] = []
 placed chunk row (v ∷ vs) = (record { chunk = chunk; row = row }, v) ∷ placed chunk (row + 1) vs

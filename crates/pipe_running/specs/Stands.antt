@@ -20,10 +20,9 @@ use Rattle.pipe_running.specs.declared.sum.SumAgg.{SumAgg}
 use Rattle.pipe_running.specs.declared.function.AggregateFunction.{AggregateFunction}
 use Rattle.pipe_running.specs.declared.function.AggregateFunction.TheVariants as function
 use Rattle.pipe_model.specs.Aggregate.{exact_sum, present, values_in}
+use Rattle.pipe_model.specs.Least.{by_place, from_last, HoldsLeast}
 use Rattle.pipe_columns.specs.DataType.{has_mean, sum_type}
-use Rattle.pipe_running.specs.Least.{HoldsLeast}
 use Rattle.pipe_running.specs.Mean.{MeanState}
-use Rattle.pipe_running.specs.Pick.{earlier_place, later_place}
 use Rattle.pipe_running.specs.States.{first_type}
 
 -- the number of entries, or of those that are no null
@@ -59,8 +58,8 @@ ExtremeStands k a entries =
 
 -- a running aggregate is in the state that a list of placed values makes of it
 abbrev pub Stands : AggregateFunction → List (Place × AnyValue) → Type 0
-Stands (function.First a) entries = HoldsLeast earlier_place a.held entries
-Stands (function.Last a) entries = HoldsLeast later_place a.held entries
+Stands (function.First a) entries = HoldsLeast by_place a.held entries
+Stands (function.Last a) entries = HoldsLeast from_last a.held entries
 Stands (function.Count a) entries = a.count ≡ tally false entries
 Stands (function.Len a) entries = a.count ≡ tally true entries
 Stands (function.SumU32 a) entries = SumStands native_u32 a entries
@@ -101,24 +100,8 @@ Suits (function.MinMaxI64 a) t = t ≡ dt.Int64
 
 -- the types of what a running aggregate gives: a mean gives a sum and a count
 abbrev pub given_types : AggregateFunction → List DataType
-given_types (function.First a) = first_type (function.First a) ∷ []
-given_types (function.Last a) = first_type (function.Last a) ∷ []
-given_types (function.Count a) = first_type (function.Count a) ∷ []
-given_types (function.Len a) = first_type (function.Len a) ∷ []
-given_types (function.SumU32 a) = first_type (function.SumU32 a) ∷ []
-given_types (function.SumU64 a) = first_type (function.SumU64 a) ∷ []
-given_types (function.SumI32 a) = first_type (function.SumI32 a) ∷ []
-given_types (function.SumI64 a) = first_type (function.SumI64 a) ∷ []
 given_types (function.Mean a) = dt.Int128 ∷ dt.UInt32 ∷ []
-given_types (function.Null a) = first_type (function.Null a) ∷ []
-given_types (function.MinMaxU8 a) = first_type (function.MinMaxU8 a) ∷ []
-given_types (function.MinMaxU16 a) = first_type (function.MinMaxU16 a) ∷ []
-given_types (function.MinMaxU32 a) = first_type (function.MinMaxU32 a) ∷ []
-given_types (function.MinMaxU64 a) = first_type (function.MinMaxU64 a) ∷ []
-given_types (function.MinMaxI8 a) = first_type (function.MinMaxI8 a) ∷ []
-given_types (function.MinMaxI16 a) = first_type (function.MinMaxI16 a) ∷ []
-given_types (function.MinMaxI32 a) = first_type (function.MinMaxI32 a) ∷ []
-given_types (function.MinMaxI64 a) = first_type (function.MinMaxI64 a) ∷ []
+given_types f = first_type f ∷ []
 
 -- values fit types, one to one
 abbrev pub FitTypes : List AnyValue → List DataType → Type 0
@@ -132,44 +115,7 @@ abbrev pub is_pair : Finalized → Bool
 is_pair (finalized.One v) = false
 is_pair (finalized.Pair v w) = true
 
--- whether what a running aggregate gives depends on places
-abbrev pub looks_at_places : AggregateFunction → Bool
-looks_at_places (function.First a) = true
-looks_at_places (function.Last a) = true
-looks_at_places (function.Count a) = false
-looks_at_places (function.Len a) = false
-looks_at_places (function.SumU32 a) = false
-looks_at_places (function.SumU64 a) = false
-looks_at_places (function.SumI32 a) = false
-looks_at_places (function.SumI64 a) = false
-looks_at_places (function.Mean a) = false
-looks_at_places (function.Null a) = false
-looks_at_places (function.MinMaxU8 a) = false
-looks_at_places (function.MinMaxU16 a) = false
-looks_at_places (function.MinMaxU32 a) = false
-looks_at_places (function.MinMaxU64 a) = false
-looks_at_places (function.MinMaxI8 a) = false
-looks_at_places (function.MinMaxI16 a) = false
-looks_at_places (function.MinMaxI32 a) = false
-looks_at_places (function.MinMaxI64 a) = false
-
 -- whether a running aggregate is a mean
 abbrev pub is_mean : AggregateFunction → Bool
-is_mean (function.First a) = false
-is_mean (function.Last a) = false
-is_mean (function.Count a) = false
-is_mean (function.Len a) = false
-is_mean (function.SumU32 a) = false
-is_mean (function.SumU64 a) = false
-is_mean (function.SumI32 a) = false
-is_mean (function.SumI64 a) = false
 is_mean (function.Mean a) = true
-is_mean (function.Null a) = false
-is_mean (function.MinMaxU8 a) = false
-is_mean (function.MinMaxU16 a) = false
-is_mean (function.MinMaxU32 a) = false
-is_mean (function.MinMaxU64 a) = false
-is_mean (function.MinMaxI8 a) = false
-is_mean (function.MinMaxI16 a) = false
-is_mean (function.MinMaxI32 a) = false
-is_mean (function.MinMaxI64 a) = false
+is_mean f = false

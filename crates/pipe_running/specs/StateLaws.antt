@@ -1,4 +1,4 @@
--- What one more value leaves of a running aggregate of any kind.
+-- Of the proofs alone: what one more value leaves of a running aggregate of any kind.
 use Rattle.std.specs.Prelude.{◌≡◌, ◌+◌, ◌≤◌, refl, true, false}
 use Rattle.pipe_columns.specs.declared.any_value.AnyValue.{AnyValue}
 use Rattle.pipe_columns.specs.declared.place.Place.{Place}
@@ -10,43 +10,13 @@ use Rattle.pipe_running.specs.TransitionLaws.{count_by_one, none_by_one}
 -- a count grows by one at most
 pub function_by_one : (p : Place) (v : AnyValue) (f : AggregateFunction)
     → seen (after_value p v f) ≤ seen f + 1
-function_by_one p v (function.First a) = none_by_one
-function_by_one p v (function.Last a) = none_by_one
 function_by_one p v (function.Count a) = count_by_one false v a.count
 function_by_one p v (function.Len a) = count_by_one true v a.count
-function_by_one p v (function.SumU32 a) = none_by_one
-function_by_one p v (function.SumU64 a) = none_by_one
-function_by_one p v (function.SumI32 a) = none_by_one
-function_by_one p v (function.SumI64 a) = none_by_one
 function_by_one p v (function.Mean a) = count_by_one false v a.count
-function_by_one p v (function.Null a) = none_by_one
-function_by_one p v (function.MinMaxU8 a) = none_by_one
-function_by_one p v (function.MinMaxU16 a) = none_by_one
-function_by_one p v (function.MinMaxU32 a) = none_by_one
-function_by_one p v (function.MinMaxU64 a) = none_by_one
-function_by_one p v (function.MinMaxI8 a) = none_by_one
-function_by_one p v (function.MinMaxI16 a) = none_by_one
-function_by_one p v (function.MinMaxI32 a) = none_by_one
-function_by_one p v (function.MinMaxI64 a) = none_by_one
+function_by_one p v f = none_by_one
 
 -- what a running aggregate takes stays
 pub function_takes_alike : (p : Place) (v w : AnyValue) (f : AggregateFunction)
     → takes (after_value p v f) w ≡ takes f w
 function_takes_alike p v w (function.First a) = refl
-function_takes_alike p v w (function.Last a) = refl
-function_takes_alike p v w (function.Count a) = refl
-function_takes_alike p v w (function.Len a) = refl
-function_takes_alike p v w (function.SumU32 a) = refl
-function_takes_alike p v w (function.SumU64 a) = refl
-function_takes_alike p v w (function.SumI32 a) = refl
-function_takes_alike p v w (function.SumI64 a) = refl
-function_takes_alike p v w (function.Mean a) = refl
-function_takes_alike p v w (function.Null a) = refl
-function_takes_alike p v w (function.MinMaxU8 a) = refl
-function_takes_alike p v w (function.MinMaxU16 a) = refl
-function_takes_alike p v w (function.MinMaxU32 a) = refl
-function_takes_alike p v w (function.MinMaxU64 a) = refl
-function_takes_alike p v w (function.MinMaxI8 a) = refl
-function_takes_alike p v w (function.MinMaxI16 a) = refl
-function_takes_alike p v w (function.MinMaxI32 a) = refl
-function_takes_alike p v w (function.MinMaxI64 a) = refl
+function_takes_alike p v w f = refl

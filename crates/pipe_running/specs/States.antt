@@ -162,45 +162,19 @@ takes (function.MinMaxI64 a) v = fits v dt.Int64
 
 -- how many values a running aggregate has counted, 0 where it counts none
 abbrev pub seen : AggregateFunction → ℕ
-seen (function.First a) = 0
-seen (function.Last a) = 0
 seen (function.Count a) = a.count
 seen (function.Len a) = a.count
-seen (function.SumU32 a) = 0
-seen (function.SumU64 a) = 0
-seen (function.SumI32 a) = 0
-seen (function.SumI64 a) = 0
 seen (function.Mean a) = a.count
-seen (function.Null a) = 0
-seen (function.MinMaxU8 a) = 0
-seen (function.MinMaxU16 a) = 0
-seen (function.MinMaxU32 a) = 0
-seen (function.MinMaxU64 a) = 0
-seen (function.MinMaxI8 a) = 0
-seen (function.MinMaxI16 a) = 0
-seen (function.MinMaxI32 a) = 0
-seen (function.MinMaxI64 a) = 0
+seen f = 0
 
--- whether a running aggregate is computed on physical numbers
+-- whether a running aggregate works on numbers: a sum, a mean, a least or a greatest value
 abbrev pub is_physical : AggregateFunction → Bool
 is_physical (function.First a) = false
 is_physical (function.Last a) = false
 is_physical (function.Count a) = false
 is_physical (function.Len a) = false
-is_physical (function.SumU32 a) = true
-is_physical (function.SumU64 a) = true
-is_physical (function.SumI32 a) = true
-is_physical (function.SumI64 a) = true
-is_physical (function.Mean a) = true
 is_physical (function.Null a) = false
-is_physical (function.MinMaxU8 a) = true
-is_physical (function.MinMaxU16 a) = true
-is_physical (function.MinMaxU32 a) = true
-is_physical (function.MinMaxU64 a) = true
-is_physical (function.MinMaxI8 a) = true
-is_physical (function.MinMaxI16 a) = true
-is_physical (function.MinMaxI32 a) = true
-is_physical (function.MinMaxI64 a) = true
+is_physical f = true
 
 -- the type of the first column of a running aggregate
 abbrev pub first_type : AggregateFunction → DataType

@@ -1,4 +1,4 @@
--- What one more value leaves of a state's count.
+-- Of the proofs alone: what one more value leaves of a state's count.
 use Rattle.std.specs.Prelude.{ℕ, ◌+◌, ◌≤◌, Bool, true, false}
 use Rattle.std.proofs.Common.{arith}
 use Rattle.pipe_columns.specs.declared.any_value.AnyValue.{AnyValue}

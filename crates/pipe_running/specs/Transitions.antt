@@ -18,7 +18,8 @@ use Rattle.pipe_running.specs.declared.sum.SumAgg.{SumAgg}
 use Rattle.pipe_model.specs.Aggregate.{addend, counted}
 use Rattle.pipe_running.specs.Held.{HeldState}
 use Rattle.pipe_running.specs.Mean.{MeanState}
-use Rattle.pipe_running.specs.Pick.{earlier_place, later_place, least, lesser}
+use Rattle.pipe_model.specs.Least.{by_place, from_last}
+use Rattle.pipe_running.specs.Pick.{nearer, nearest}
 
 -- ---- counts
 
@@ -100,7 +101,7 @@ extreme_after k av.Null s = s
 extreme_after k (av.Boolean b) s = s
 extreme_after k (av.Int n) s = record {
   direction = s.direction;
-  extreme = Some (lesser (native_order k s.direction) (k.wrap n) s.extreme);
+  extreme = Some (nearer (native_order k s.direction) (k.wrap n) s.extreme);
 }
 extreme_after k (av.Text t) s = s
 
@@ -108,7 +109,7 @@ extreme_after k (av.Text t) s = s
 abbrev pub extremes_joined : {K : Type 0} → Native K → MinMaxAgg K → MinMaxAgg K → MinMaxAgg K
 extremes_joined k a b = record {
   direction = a.direction;
-  extreme = least (native_order k a.direction) b.extreme a.extreme;
+  extreme = nearest (native_order k a.direction) b.extreme a.extreme;
 }
 
 -- the least or greatest number as a value, null for none
@@ -124,11 +125,11 @@ empty_first t = record { dtype = t; held = None }
 
 -- a first with one more value
 abbrev pub first_after : Place → AnyValue → HeldState → HeldState
-first_after p v s = record { dtype = s.dtype; held = Some (lesser earlier_place (p, v) s.held) }
+first_after p v s = record { dtype = s.dtype; held = Some (nearer by_place (p, v) s.held) }
 
 -- two firsts together
 abbrev pub firsts_joined : HeldState → HeldState → HeldState
-firsts_joined a b = record { dtype = a.dtype; held = least earlier_place b.held a.held }
+firsts_joined a b = record { dtype = a.dtype; held = nearest by_place b.held a.held }
 
 -- a last before any value
 abbrev pub empty_last : DataType → HeldState
@@ -136,8 +137,8 @@ empty_last t = record { dtype = t; held = None }
 
 -- a last with one more value
 abbrev pub last_after : Place → AnyValue → HeldState → HeldState
-last_after p v s = record { dtype = s.dtype; held = Some (lesser later_place (p, v) s.held) }
+last_after p v s = record { dtype = s.dtype; held = Some (nearer from_last (p, v) s.held) }
 
 -- two lasts together
 abbrev pub lasts_joined : HeldState → HeldState → HeldState
-lasts_joined a b = record { dtype = a.dtype; held = least later_place b.held a.held }
+lasts_joined a b = record { dtype = a.dtype; held = nearest from_last b.held a.held }

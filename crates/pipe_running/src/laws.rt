@@ -9,13 +9,12 @@ ghost use Rattle.pipe_columns.specs.declared.data_type.DataType.TheVariants as d
 ghost use Rattle.pipe_columns.specs.declared.place.Place.{Place};
 ghost use Rattle.pipe_columns.specs.AnyValue.{fits};
 ghost use Rattle.pipe_running.specs.declared.function.AggregateFunction.{AggregateFunction};
-ghost use Rattle.pipe_model.specs.Aggregate.{agg, values_in};
-ghost use Rattle.pipe_model.specs.Kind.{Kind};
+ghost use Rattle.pipe_model.specs.Aggregate.{agg, reads_places, values_in};
 ghost use Rattle.pipe_model.specs.Kind as kind;
 ghost use Rattle.pipe_running.specs.Runs.{after_run, placed};
 ghost use Rattle.pipe_running.specs.SameKind.{SameKind};
 ghost use Rattle.pipe_columns.specs.Place.{DistinctPlaces};
-ghost use Rattle.pipe_running.specs.Stands.{FitTypes, Stands, Suits, given_types, is_mean, is_pair, looks_at_places};
+ghost use Rattle.pipe_running.specs.Stands.{FitTypes, Stands, Suits, given_types, is_mean, is_pair};
 ghost use Rattle.pipe_running.specs.States.{after_entries, after_value, alike, fresh, given, joined, kind_of, output_values, seen, takes};
 
 /// Each call keeps what a running aggregate stands for, whatever the order of places, and of the
@@ -49,7 +48,7 @@ pub fn what_stays()
 /// What a running aggregate gives of the list that it stands for.
 pub fn what_is_given()
     ensures agg { (f : AggregateFunction) (t : DataType) (entries : List (Place × AnyValue))
-        → Suits f t → Stands f entries → (looks_at_places f ≡ true → DistinctPlaces entries)
+        → Suits f t → Stands f entries → (reads_places (kind_of f) ≡ true → DistinctPlaces entries)
         → output_values (given f) ≡ agg (kind_of f) t entries }
     ensures pair { (f : AggregateFunction) → is_pair (given f) ≡ is_mean f }
     ensures fits { (f : AggregateFunction) (t : DataType) (entries : List (Place × AnyValue))
@@ -64,7 +63,7 @@ pub fn what_is_given()
 pub fn entries_one_by_one()
     ensures stands { (f : AggregateFunction) (t : DataType) (entries : List (Place × AnyValue))
         → Suits f t → list_all (λ e. takes f e.1) entries ≡ true
-        → (looks_at_places f ≡ true → DistinctPlaces entries)
+        → (reads_places (kind_of f) ≡ true → DistinctPlaces entries)
         → output_values (given (after_entries entries (fresh f))) ≡ agg (kind_of f) t entries }
     ensures fits { (f : AggregateFunction) (t : DataType) (entries : List (Place × AnyValue))
         → Suits f t → list_all (λ e. takes f e.1) entries ≡ true
@@ -85,10 +84,4 @@ pub fn how_states_merge()
     ensures fresh { (f : AggregateFunction) (entries : List (Place × AnyValue))
         → Stands f entries → DistinctPlaces entries
         → (given (joined f (fresh f)) ≡ given f) × (given (joined (fresh f) f) ≡ given f) }
-{}
-
-/// An aggregate does not depend on the order of its list.
-pub fn order_of_entries()
-    ensures { (k : Kind) (t : DataType) (xs ys : List (Place × AnyValue))
-        → IsPermutation xs ys → DistinctPlaces xs → agg k t xs ≡ agg k t ys }
 {}

@@ -25,7 +25,7 @@ pub struct MinMaxAgg<K> {
 
 impl<K: NumericNative> MinMaxAgg<K> {
     ghost use Rattle.std.specs.Prelude.{Some};
-    ghost use Rattle.pipe_running.specs.Pick.{lesser};
+    ghost use Rattle.pipe_running.specs.Pick.{nearer};
     ghost use Rattle.pipe_running.specs.Transitions.{empty_extreme, native_order};
 
     /// The minimum or maximum of no value.
@@ -59,7 +59,7 @@ impl<K: NumericNative> MinMaxAgg<K> {
     fn take(&mut self, number: K)
         ensures direction { self.new.direction ≡ self.old.direction }
         ensures extreme { self.new.extreme
-            ≡ Some (lesser (native_order K.native self.old.direction) number self.old.extreme) }
+            ≡ Some (nearer (native_order K.native self.old.direction) number self.old.extreme) }
     {
         let stays = match self.extreme {
             Some(held) => !self.is_before(number, held),

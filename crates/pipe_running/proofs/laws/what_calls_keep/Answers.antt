@@ -1,5 +1,5 @@
 use Rattle.pipe_running.proofs.MergeFacts.{stands-both}
-use Rattle.pipe_running.proofs.StandFacts.{seen-short, stands-after, stands-fresh, stands-permutation, stands-run}
+use Rattle.pipe_running.proofs.StandFacts.{seen-short, stands-after, stands-fresh, stands-moved, stands-run}
 use Rattle.pipe_running.proofs.laws.what_calls_keep.Goals as goal
 
 pub returns-clause-fresh : goal.returns-clause-fresh
@@ -15,7 +15,7 @@ pub returns-clause-joined : goal.returns-clause-joined
 returns-clause-joined c = stands-both
 
 pub returns-clause-order : goal.returns-clause-order
-returns-clause-order c = stands-permutation
+returns-clause-order c = stands-moved
 
 pub returns-clause-seen : goal.returns-clause-seen
 returns-clause-seen c = seen-short

@@ -1,4 +1,4 @@
-use Rattle.pipe_running.proofs.KindStays.{splits-alike}
+use Rattle.pipe_running.proofs.AlikeFacts.{splits-alike}
 use Rattle.pipe_running.proofs.tests.given_of.Goals as goal
 
 pub combine-requires-clause-alike : goal.combine-requires-clause-alike
