@@ -10,3 +10,5 @@ pub mod FitFacts
 pub mod KindStays
 pub mod EntryFacts
 pub mod EndFacts
+pub mod GroupStateFacts
+pub mod StatesHoldFacts

@@ -5,6 +5,7 @@ use Rattle.pipe_columns.specs.declared.any_value.AnyValue.{AnyValue}
 use Rattle.pipe_columns.specs.declared.data_type.DataType.{DataType}
 use Rattle.pipe_columns.specs.declared.place.Place.{Place}
 use Rattle.pipe_columns.specs.declared.schema.Field.{Field}
+use Rattle.pipe_columns.specs.AnyValue.{fits}
 use Rattle.pipe_columns.specs.Frame.{value_at}
 use Rattle.pipe_columns.specs.Place.{place_cmp}
 use Rattle.pipe_model.specs.Aggregate.{agg}
@@ -103,10 +104,11 @@ pub record GroupStands (prototypes : List AggregateFunction) (first : Option Pla
 
 -- ---- what they are for
 
--- a running aggregate serves a kind over values of a type: it is one of such values, and what it
--- gives is what the kind gives
+-- a running aggregate serves a kind over values of a type: it is one of such values and takes them,
+-- and what it gives is what the kind gives
 pub record Serves (f : AggregateFunction) (k : Kind) (t : DataType) : Type 0 where
   pub suits : Suits f t
+  pub takes : (v : AnyValue) → fits v t ≡ true → takes f v ≡ true
   pub gives : (entries : List (Place × AnyValue)) → agg (kind_of f) t entries ≡ agg k t entries
 
 -- prototypes serve the aggregates of a query, one to one
@@ -116,3 +118,10 @@ ServeAll schema [] (f ∷ fs) = ⊥
 ServeAll schema (a ∷ others) [] = ⊥
 ServeAll schema (a ∷ others) (f ∷ fs) =
     Serves f a.kind (input_type schema a.input) × ServeAll schema others fs
+
+-- the inputs of a row fit what the aggregates are fed, from the input at position j on
+abbrev pub FitsFrom : ℕ → List Field → List AggTree → List AnyValue → Type 0
+FitsFrom j schema [] inputs = Unit {0}
+FitsFrom j schema (a ∷ others) inputs =
+    (fits (value_at inputs j) (input_type schema a.input) ≡ true)
+    × FitsFrom (j + 1) schema others inputs

@@ -5,6 +5,7 @@ mod count;
 mod first;
 mod function;
 mod function_lent;
+mod group_laws;
 mod interface;
 mod last;
 mod laws;

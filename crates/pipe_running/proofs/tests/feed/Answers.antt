@@ -3,11 +3,11 @@ use Rattle.pipe_columns.specs.declared.place.Place.{Place}
 use Rattle.pipe_running.specs.States.{after_value, seen}
 use Rattle.pipe_running.specs.StateLaws.{function_by_one}
 use Rattle.pipe_running.proofs.KindStays.{same-after}
-use Rattle.pipe_running.proofs.MergeFacts.{alike-from, alike-through}
+use Rattle.pipe_running.proofs.AlikeFacts.{alike-itself, alike-through}
 use Rattle.pipe_running.proofs.tests.feed.Goals as goal
 
 pub loop-index-init : goal.loop-index-init
-loop-index-init c = (alike-from c.args.function.now c.args.function.now refl refl, omega arith)
+loop-index-init c = (alike-itself c.args.function.now, omega arith)
 
 pub loop-index-preserved : goal.loop-index-preserved
 loop-index-preserved c =
