@@ -28,11 +28,11 @@ use Rattle.pipe_model.proofs.PlaceFacts.{by_place-total, place_total}
 use Rattle.pipe_running.proofs.RunFacts.{run-within}
 
 -- a row of a chunk
-abbrev at : ℕ → ℕ → Place
+abbrev pub at : ℕ → ℕ → Place
 at chunk row = record { chunk = chunk; row = row }
 
 -- of two rows of a chunk the one with the lesser number comes first
-later_row : (chunk m n : ℕ) → m < n → place_cmp (at chunk m) (at chunk n) ≡ Less
+pub later_row : (chunk m n : ℕ) → m < n → place_cmp (at chunk m) (at chunk n) ≡ Less
 later_row chunk m n h =
     let below : nat_cmp m n ≡ Less = sym (nat_cmp_is m n Less h) in
     ap (λ (o : Ordering). ordering_then o (nat_cmp m n)) (tied_itself nat_cmp_total chunk) ∙ below

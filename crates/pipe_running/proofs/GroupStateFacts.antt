@@ -39,7 +39,7 @@ abbrev pub Entries : Type 0
 Entries = List (Place × List AnyValue)
 
 -- the places of rows
-abbrev places_of : Entries → List Place
+abbrev pub places_of : Entries → List Place
 places_of entries = map (λ e. e.0) entries
 
 -- ---- kinds
@@ -74,7 +74,7 @@ kinds-take j inputs (f ∷ fs) (s ∷ ss) k t = (k.0.takes (value_at inputs j) �
 -- ---- inputs
 
 -- the inputs of two lists of rows
-inputs_at-append : (j : ℕ) (xs ys : Entries) → inputs_at j (xs ++ ys) ≡ inputs_at j xs ++ inputs_at j ys
+pub inputs_at-append : (j : ℕ) (xs ys : Entries) → inputs_at j (xs ++ ys) ≡ inputs_at j xs ++ inputs_at j ys
 inputs_at-append j xs ys = map-append (λ (e : Place × List AnyValue). (e.0, value_at e.1 j)) xs ys
 
 -- there are as many as rows
@@ -123,7 +123,7 @@ stand-seen j (s ∷ ss) xs h = (omega (arith, seen-short s (inputs_at j xs) h.0,
 -- ---- the least place
 
 -- the places of two lists of rows
-places_of-append : (xs ys : Entries) → places_of (xs ++ ys) ≡ places_of xs ++ places_of ys
+pub places_of-append : (xs ys : Entries) → places_of (xs ++ ys) ≡ places_of xs ++ places_of ys
 places_of-append xs ys = map-append (λ (e : Place × List AnyValue). e.0) xs ys
 
 -- ---- a group

@@ -11,4 +11,5 @@ pub mod KindStays
 pub mod EntryFacts
 pub mod EndFacts
 pub mod GroupStateFacts
+pub mod GroupRunFacts
 pub mod StatesHoldFacts

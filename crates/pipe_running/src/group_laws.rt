@@ -10,11 +10,13 @@ ghost use Rattle.pipe_columns.specs.declared.schema.Field.{Field};
 ghost use Rattle.pipe_model.specs.Answer.{aggs_from};
 ghost use Rattle.pipe_model.specs.Query.{AggTree};
 ghost use Rattle.pipe_running.specs.declared.function.AggregateFunction.{AggregateFunction};
-ghost use Rattle.pipe_running.specs.GroupStates.{fed_from, FitsFrom, fresh_states, given_all, GroupStands, joined_states, ServeAll, StatesHold, TakesFrom};
+ghost use Rattle.pipe_running.specs.GroupStates.{fed_from, FitsFrom, fresh_states, given_all, GroupStands, joined_states, least_with_run, run_from, ServeAll, StatesHold, TakesFrom};
 ghost use Rattle.pipe_running.specs.Pick.{nearer, nearest};
+ghost use Rattle.pipe_running.specs.Runs.{placed};
 ghost use Rattle.pipe_running.specs.Stands.{FitTypes, given_types};
 
-/// What a group keeps of its rows, whatever comes: no row, one more, another group's, another order.
+/// What a group keeps of its rows, whatever comes: no row, one more, a run of rows, another group's,
+/// another order.
 pub fn what_groups_keep()
     ensures fresh { (prototypes : List AggregateFunction)
         → GroupStands prototypes None (fresh_states prototypes) [] }
@@ -23,6 +25,11 @@ pub fn what_groups_keep()
         → TakesFrom 0 prototypes inputs → GroupStands prototypes first states entries
         → GroupStands prototypes (Some (nearer place_cmp p first)) (fed_from p 0 inputs states)
         (entries ++ (p, inputs) ∷ []) }
+    ensures run { (prototypes states : List AggregateFunction) (first : Option Place)
+        (entries : List (Place × List AnyValue)) (chunk row : ℕ) (rows : List (List AnyValue))
+        → All (TakesFrom 0 prototypes) rows → GroupStands prototypes first states entries
+        → GroupStands prototypes (least_with_run chunk row rows first)
+        (run_from chunk row 0 rows states) (entries ++ placed chunk row rows) }
     ensures joined { (prototypes states others : List AggregateFunction) (first other : Option Place)
         (xs ys : List (Place × List AnyValue))
         → GroupStands prototypes first states xs → GroupStands prototypes other others ys

@@ -13,6 +13,7 @@ mod lent;
 mod mean;
 mod min_max;
 mod null;
+mod number_laws;
 mod sum;
 
 pub use count::CountAgg;
