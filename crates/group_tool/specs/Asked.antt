@@ -62,9 +62,9 @@ abbrev pub is_query : Asked → Bool
 is_query (asks q) = true
 is_query a = false
 
--- ---- how a refusal is told
+-- ---- how a refusal is reported
 
--- the name by which a fault is told
+-- the name by which a fault is reported
 abbrev pub fault_name : QueryFault → List ℕ
 fault_name query_fault.DoubleName = codes "DoubleName"
 fault_name query_fault.NoKey = codes "NoKey"
@@ -85,6 +85,6 @@ reason no_query = codes "shape"
 reason (faulty f) = fault_name f
 reason (asks q) = []
 
--- the line that tells the refusal of a query
+-- the line of a refused query
 abbrev pub refusal_line : Asked → List ℕ
 refusal_line a = codes "query refused: " ++ reason a ++ codes "\n"

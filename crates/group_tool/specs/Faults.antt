@@ -4,6 +4,7 @@ use Rattle.pipe_io.specs.Files.{Files}
 use Rattle.group_tool.specs.declared.fault.ToolFault.{ToolFault}
 use Rattle.group_tool.specs.declared.fault.ToolFault.TheVariants as fault
 use Rattle.group_tool.specs.Asked.{Asked, faulty, no_json, no_query, other_words}
+use Rattle.group_tool.specs.declared.status.TheConstants.{DONE, INPUT_FAILED, INPUT_REFUSED, NOT_BUILT, NO_MEMORY, OUTPUT_FAILED, QUERY_REFUSED, TOO_LARGE}
 use Rattle.group_tool.specs.Headline.{IsDue}
 use Rattle.group_tool.specs.Status.{status_line}
 use Rattle.pipe_csv.specs.declared.csv_error.CsvError.{CsvError}
@@ -11,15 +12,15 @@ use Rattle.pipe_csv.specs.declared.csv_error.CsvError.TheVariants as e
 
 -- the exit status of a fault
 abbrev pub status_of : ToolFault → ℕ
-status_of fault.NotBuilt = 11
-status_of fault.NotJson = 3
-status_of fault.NotAQuery = 3
-status_of (fault.Faulty f) = 3
-status_of fault.Refused = 4
-status_of fault.InputFailed = 5
-status_of fault.OutputFailed = 6
-status_of fault.TooLarge = 7
-status_of fault.Memory = 10
+status_of fault.NotBuilt = NOT_BUILT
+status_of fault.NotJson = QUERY_REFUSED
+status_of fault.NotAQuery = QUERY_REFUSED
+status_of (fault.Faulty f) = QUERY_REFUSED
+status_of fault.Refused = INPUT_REFUSED
+status_of fault.InputFailed = INPUT_FAILED
+status_of fault.OutputFailed = OUTPUT_FAILED
+status_of fault.TooLarge = TOO_LARGE
+status_of fault.Memory = NO_MEMORY
 
 -- what is asked where the words have this fault
 abbrev pub asked_by : ToolFault → Asked
@@ -28,7 +29,7 @@ asked_by fault.NotAQuery = no_query
 asked_by (fault.Faulty f) = faulty f
 asked_by f = other_words
 
--- the line that tells a fault
+-- the line of a fault
 abbrev pub fault_line : ToolFault → List ℕ
 fault_line f = status_line (asked_by f) (status_of f)
 
@@ -54,10 +55,10 @@ IsOfWords f a = ⊥
 -- what a fault says of what is asked and, where the input tells them, of its files; nothing is said
 -- of what failed outside
 abbrev pub IsCaused : ToolFault → Asked → Option Files → Type 0
-IsCaused fault.Refused a told = IsDue 4 a told
+IsCaused fault.Refused a told = IsDue INPUT_REFUSED a told
 IsCaused fault.InputFailed a told = ⊤
-IsCaused fault.OutputFailed a told = IsDue 0 a told
-IsCaused fault.TooLarge a told = IsDue 7 a told
+IsCaused fault.OutputFailed a told = IsDue DONE a told
+IsCaused fault.TooLarge a told = IsDue TOO_LARGE a told
 IsCaused f a told = IsOfWords f a
 
 -- a fault that comes before anything is written

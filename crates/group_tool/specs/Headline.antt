@@ -10,6 +10,8 @@ use Rattle.pipe_io.specs.Files.{Files, file_of}
 use Rattle.pipe_io.specs.Output.{WroteFront}
 use Rattle.pipe_csv.specs.Texts.{csv_text}
 use Rattle.group_tool.specs.Asked.{Asked, asks, faulty, no_json, no_query, other_words}
+use Rattle.group_tool.specs.declared.read.TheConstants.{CHUNK_ROWS}
+use Rattle.group_tool.specs.declared.status.TheConstants.{DONE, INPUT_FAILED, INPUT_REFUSED, NOT_BUILT, NO_MEMORY, OUTPUT_FAILED, QUERY_REFUSED, TOO_LARGE}
 
 -- the name of the file that is read: standard input
 abbrev pub input_name : List ℕ
@@ -21,7 +23,7 @@ most_bytes = 2 ^ 30
 
 -- how standard input is cut into chunks
 abbrev pub read_options : ReadOptions
-read_options = record { chunk_size = 50000 }
+read_options = record { chunk_size = CHUNK_ROWS }
 
 -- the chunks of standard input
 abbrev pub input_chunks : Files → List Field → CsvChunks
@@ -31,24 +33,24 @@ input_chunks files schema = csv_chunks files (input_name ∷ []) schema read_opt
 abbrev pub answer_text : Files → QueryTree → List ℕ
 answer_text files q = csv_text (answer (input_chunks files q.schema).chunks q 1)
 
--- the status that a text owes, where nothing fails: 7 for too many bytes, 4 for a misfit
+-- the status that a text owes, where nothing fails: too many bytes come before a misfit
 abbrev pub text_status : List Field → List ℕ → ℕ
 text_status schema text =
-    if nat_lt most_bytes (length text) then 7
-    else (if is_ok (text_rows 1 schema text) then 0 else 4)
+    if nat_lt most_bytes (length text) then TOO_LARGE
+    else (if is_ok (text_rows 1 schema text) then DONE else INPUT_REFUSED)
 
--- the status that a file owes, where nothing fails: 4 where there is none
+-- the status that a file owes, where nothing fails; a missing one is refused
 abbrev pub file_status : List Field → Option (List ℕ) → ℕ
-file_status schema None = 4
+file_status schema None = INPUT_REFUSED
 file_status schema (Some text) = text_status schema text
 
--- the status that is owed over files, where nothing fails: 11 for other than one word, 3 for a word
--- that is no query or has a fault
+-- the status that is owed over files, where nothing fails: other than one word is not built, and a
+-- word that is no query or has a fault is refused
 abbrev pub due_status : Asked → Files → ℕ
-due_status other_words files = 11
-due_status no_json files = 3
-due_status no_query files = 3
-due_status (faulty f) files = 3
+due_status other_words files = NOT_BUILT
+due_status no_json files = QUERY_REFUSED
+due_status no_query files = QUERY_REFUSED
+due_status (faulty f) files = QUERY_REFUSED
 due_status (asks q) files = file_status q.schema (file_of files input_name)
 
 -- where the input tells its files, this status is due
@@ -60,7 +62,8 @@ IsDue status a told = IfSome told (λ files. due_status a files ≡ status)
 abbrev pub EndsAsDue : ℕ → Asked → Option Files → Type 0
 EndsAsDue status a told =
     IfSome told (λ files.
-    (status ≡ due_status a files) ⊎ (status ≡ 5) ⊎ (status ≡ 6) ⊎ (status ≡ 10))
+    (status ≡ due_status a files) ⊎ (status ≡ INPUT_FAILED) ⊎ (status ≡ OUTPUT_FAILED)
+    ⊎ (status ≡ NO_MEMORY))
 
 -- where the input tells its files, these are the chunks of standard input, which fits
 abbrev pub AreInput : List Field → Option Files → List DataChunk → Type 0

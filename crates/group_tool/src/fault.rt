@@ -1,4 +1,4 @@
-//! The faults of a run, and how they are told.
+//! The faults of a run, and how they are reported.
 
 ghost use Rattle.std.specs.Prelude.{◌≡◌, ◌≢◌};
 ghost use Rattle.std.specs.Io.KnownBytes.{Appends};
@@ -7,11 +7,12 @@ ghost use Rattle.pipe_io.specs.Output.{WroteFront};
 ghost use Rattle.group_tool.specs.Asked.{faulty, refusal_line};
 ghost use Rattle.group_tool.specs.Faults.{fault_line, status_of};
 
+use crate::status::{INPUT_FAILED, INPUT_REFUSED, NOT_BUILT, NO_MEMORY, OUTPUT_FAILED, QUERY_REFUSED, TOO_LARGE};
 use pipe_aggs::QueryFault;
 use pipe_ends::{Output, OutputError, write_all};
 
 /// Why a run ended without its answer.
-#[derive(Clone, Copy, Debug, PartialEq, Eq)]
+#[derive(Debug, Drop, PartialEq, Eq)]
 pub enum ToolFault {
     /// There isn't exactly one word.
     NotBuilt,
@@ -34,19 +35,19 @@ pub enum ToolFault {
 }
 
 /// The exit status of a fault.
-fn status(fault: ToolFault) -> u8
-    ensures { result ≡ status_of fault }
+fn status(fault: &ToolFault) -> u8
+    ensures { result ≡ status_of fault.now }
 {
     match fault {
-        ToolFault::NotBuilt => 11,
-        ToolFault::NotJson => 3,
-        ToolFault::NotAQuery => 3,
-        ToolFault::Faulty(_) => 3,
-        ToolFault::Refused => 4,
-        ToolFault::InputFailed => 5,
-        ToolFault::OutputFailed => 6,
-        ToolFault::TooLarge => 7,
-        ToolFault::Memory => 10,
+        ToolFault::NotBuilt => NOT_BUILT,
+        ToolFault::NotJson => QUERY_REFUSED,
+        ToolFault::NotAQuery => QUERY_REFUSED,
+        ToolFault::Faulty(_) => QUERY_REFUSED,
+        ToolFault::Refused => INPUT_REFUSED,
+        ToolFault::InputFailed => INPUT_FAILED,
+        ToolFault::OutputFailed => OUTPUT_FAILED,
+        ToolFault::TooLarge => TOO_LARGE,
+        ToolFault::Memory => NO_MEMORY,
     }
 }
 
@@ -69,14 +70,14 @@ fn query_line(fault: QueryFault) -> &'static [u8]
 }
 
 /// The line of a fault, with its end.
-fn line(fault: ToolFault) -> &'static [u8]
-    ensures { result.now ≡ fault_line fault }
+fn line(fault: &ToolFault) -> &'static [u8]
+    ensures { result.now ≡ fault_line fault.now }
 {
     match fault {
         ToolFault::NotBuilt => b"not built\n",
         ToolFault::NotJson => b"query refused: json\n",
         ToolFault::NotAQuery => b"query refused: shape\n",
-        ToolFault::Faulty(fault) => query_line(fault),
+        ToolFault::Faulty(fault) => query_line(*fault),
         ToolFault::Refused => b"input refused\n",
         ToolFault::InputFailed => b"input failed\n",
         ToolFault::OutputFailed => b"output failed\n",
@@ -85,17 +86,17 @@ fn line(fault: ToolFault) -> &'static [u8]
     }
 }
 
-/// Tells a fault by its line, and answers its exit status. Where memory is wanting for the line the
+/// Reports a fault by its line, and answers its exit status. Where memory is wanting for the line the
 /// status is that of wanting memory.
-pub fn tell<E: Output>(faults: &mut E, fault: ToolFault) -> u8
-    ensures status { result ≢ 10 → result ≡ status_of fault }
-    ensures whole { result ≢ 10 → (Rose (E.faults faults.old) (E.faults faults.new) → ⊥)
-        → Appends (E.told faults.old) (E.told faults.new) (fault_line fault) }
-    ensures front { WroteFront (E.told faults.old) (E.told faults.new) (fault_line fault) }
+pub fn report<E: Output>(messages: &mut E, fault: ToolFault) -> u8
+    ensures status { result ≢ NO_MEMORY → result ≡ status_of fault }
+    ensures whole { result ≢ NO_MEMORY → (Rose (E.faults messages.old) (E.faults messages.new) → ⊥)
+        → Appends (E.told messages.old) (E.told messages.new) (fault_line fault) }
+    ensures front { WroteFront (E.told messages.old) (E.told messages.new) (fault_line fault) }
 {
-    match write_all(faults, line(fault)) {
-        Ok(()) => status(fault),
-        Err(OutputError::Failed) => status(fault),
-        Err(OutputError::Memory) => 10,
+    match write_all(messages, line(&fault)) {
+        Ok(()) => status(&fault),
+        Err(OutputError::Failed) => status(&fault),
+        Err(OutputError::Memory) => NO_MEMORY,
     }
 }

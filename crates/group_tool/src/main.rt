@@ -4,38 +4,29 @@
 
 mod fault;
 mod read;
+mod status;
 #[cfg(test)]
 mod tests;
 mod tool;
 mod words;
 mod worked;
 
-use crate::fault::{ToolFault, tell};
+use crate::fault::{ToolFault, report};
 use crate::tool::run_tool;
+use crate::words::unread_words;
 use pipe_columns::Text;
 use pipe_ends::{RealFiles, RealOutput};
 use std::alloc::Global;
-use std::env::{self, Env, FillError};
-use std::io::{self, ErrorKind};
+use std::env::{self, Env};
+use std::io;
 use std::process::ExitCode;
-
-/// The fault of words of which one isn't UTF-8: a sole word is no JSON, and others are too many.
-fn not_text(rt: &impl Env) -> ToolFault {
-    match rt.arg(2, &mut []) {
-        Err(FillError::NotPresent) => ToolFault::NotJson,
-        _ => ToolFault::NotBuilt,
-    }
-}
 
 /// The words after the program's name.
 fn words_of(rt: &(impl Env + Alloc<A = Global>)) -> Result<Vec<Text>, ToolFault> {
     let args = match env::args(rt) {
         Ok(args) => args,
         Err(error) => {
-            return Err(match error.kind() {
-                ErrorKind::OutOfMemory => ToolFault::Memory,
-                _ => not_text(rt),
-            });
+            return Err(unread_words(error.kind()));
         }
     };
     let mut words = Vec::new(rt.alloc());
@@ -52,14 +43,14 @@ fn words_of(rt: &(impl Env + Alloc<A = Global>)) -> Result<Vec<Text>, ToolFault>
 
 fn main(rt: HostRuntime) -> ExitCode {
     let alloc = rt.alloc();
-    let mut faults = RealOutput::new(rt.stderr());
+    let mut messages = RealOutput::new(rt.stderr());
     let status = match words_of(&rt) {
         Ok(words) => {
             let mut input = RealFiles::new(&rt, rt.stdin());
             let mut output = RealOutput::new(io::writer(&rt));
-            run_tool(alloc, &words, &mut input, &mut output, &mut faults)
+            run_tool(alloc, &words, &mut input, &mut output, &mut messages)
         }
-        Err(fault) => tell(&mut faults, fault),
+        Err(fault) => report(&mut messages, fault),
     };
     ExitCode::from(status)
 }

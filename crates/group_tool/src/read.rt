@@ -10,6 +10,7 @@ ghost use Rattle.group_tool.specs.Headline.{AreInput, IsDue};
 ghost use Rattle.group_tool.specs.declared.fault.ToolFault.TheVariants as fault;
 
 use crate::fault::ToolFault;
+use crate::status::DONE;
 use pipe_aggs::CheckedQuery;
 use pipe_columns::{DataChunk, Text};
 use pipe_ends::{ChunkSink, CsvError, FileEnd, InputFiles, read_file, read_into};
@@ -17,7 +18,7 @@ use pipe_plain::PlainGroups;
 use std::alloc::{AllocError, Global};
 
 /// The most rows of a chunk.
-const CHUNK_ROWS: usize = 50000;
+pub const CHUNK_ROWS: usize = 50000;
 
 /// The fault that an error of CSV makes.
 fn fault_of(error: CsvError) -> ToolFault
@@ -66,7 +67,7 @@ pub fn read_groups<'a, I: InputFiles>(
 ) -> Result<PlainGroups<'a>, ToolFault>
     ensures query { IfOk result (λ g. g.query ≡ query.now) }
     ensures read { IfOk result (λ g. AreInput query.now.schema (I.told input.old) g.taken) }
-    ensures fits { OnOk result (IsDue 0 (asks (query_tree query.now)) (I.told input.old)) }
+    ensures fits { OnOk result (IsDue DONE (asks (query_tree query.now)) (I.told input.old)) }
     ensures cause { IfErr result
         (λ f. IsCaused f (asks (query_tree query.now)) (I.told input.old)) }
     ensures failed { IsErrOf result fault.InputFailed

@@ -3,7 +3,7 @@
 mod aggregates;
 mod answers;
 mod expressions;
-mod faults;
+mod failing_calls;
 mod order;
 mod refusals;
 
@@ -26,7 +26,7 @@ struct Run<'w> {
     text: Option<&'static str>,
     input_fails: &'static [u64],
     output_fails: &'static [u64],
-    fault_fails: &'static [u64],
+    message_fails: &'static [u64],
     status: u8,
     output: &'static str,
     line: &'static str,
@@ -45,7 +45,7 @@ fn plain_run<'w>(
         text: Some(text),
         input_fails: &[],
         output_fails: &[],
-        fault_fails: &[],
+        message_fails: &[],
         status,
         output,
         line,
@@ -66,11 +66,11 @@ fn drive(rt: &(impl Abort + Alloc<A = Global>), run: &Run<'_>) -> Result<(), Fai
     }
     let mut input = MemoryFiles::new(files, Vec::from_slice(alloc, run.input_fails)?);
     let mut output = MemoryOutput::new(alloc, Vec::from_slice(alloc, run.output_fails)?);
-    let mut faults = MemoryOutput::new(alloc, Vec::from_slice(alloc, run.fault_fails)?);
-    let status = run_tool(alloc, &words, &mut input, &mut output, &mut faults);
+    let mut messages = MemoryOutput::new(alloc, Vec::from_slice(alloc, run.message_fails)?);
+    let status = run_tool(alloc, &words, &mut input, &mut output, &mut messages);
     assert_eq!(rt; status, run.status);
     assert_eq!(rt; output.bytes(), run.output.as_bytes());
-    assert_eq!(rt; faults.bytes(), run.line.as_bytes());
+    assert_eq!(rt; messages.bytes(), run.line.as_bytes());
     Ok(())
 }
 

@@ -1,10 +1,12 @@
 //! The query that the words of a command ask for.
 
-ghost use Rattle.std.specs.Prelude.{◌≡◌, IfErr, IfOk, OnOk, Some};
+ghost use Rattle.std.specs.Prelude.{◌≡◌, ◌≢◌, IfErr, IfOk, OnOk, Some};
 ghost use Rattle.serde_json.specs.View.{view};
 ghost use Rattle.pipe_aggs.specs.QueryTrees.{query_tree};
 ghost use Rattle.group_tool.specs.Asked.{asked, asks, json_asks, query_asks};
 ghost use Rattle.group_tool.specs.Faults.{IsOfWords};
+ghost use Rattle.group_tool.specs.declared.fault.ToolFault.TheVariants as fault;
+ghost use Rattle.std.specs.declared.io.ErrorKind.TheVariants as error_kind;
 
 use crate::fault::ToolFault;
 use pipe_aggs::{CheckError, CheckedQuery, Query};
@@ -12,6 +14,19 @@ use pipe_columns::Text;
 use pipe_query::query_of;
 use serde_json::Value;
 use std::alloc::Global;
+use std::io::ErrorKind;
+
+/// The fault of words that the program can't take: memory ran out, or one of them isn't UTF-8, and
+/// then there isn't exactly one word.
+pub fn unread_words(kind: ErrorKind) -> ToolFault
+    ensures memory { kind ≡ error_kind.OutOfMemory → result ≡ fault.Memory }
+    ensures not_text { kind ≢ error_kind.OutOfMemory → result ≡ fault.NotBuilt }
+{
+    match kind {
+        ErrorKind::OutOfMemory => ToolFault::Memory,
+        _ => ToolFault::NotBuilt,
+    }
+}
 
 /// The query that a JSON value is, with or without faults.
 #[tactic(auto, using(crate::proofs::AskedFacts::nodes_ask))]

@@ -161,7 +161,7 @@ fn before_the_input(rt: HostRuntime) -> Result<(), Fail> {
     };
     drive(&rt, &failing)?;
     let untold = Run {
-        fault_fails: &[0],
+        message_fails: &[0],
         ..plain_run(&["{"], "k,v\n1,5\n", 3, "", "")
     };
     drive(&rt, &untold)

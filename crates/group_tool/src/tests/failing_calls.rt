@@ -66,7 +66,7 @@ fn failing_calls(rt: HostRuntime) -> Result<(), Fail> {
         },
         Run {
             input_fails: &[1],
-            fault_fails: &[0],
+            message_fails: &[0],
             ..plain_run(&words, text, 5, "", "")
         },
     ];
