@@ -15,7 +15,7 @@ use Rattle.pipe_columns.specs.declared.data_chunk.DataChunk.{DataChunk}
 use Rattle.pipe_columns.specs.declared.data_type.DataType.{DataType}
 use Rattle.pipe_columns.specs.declared.place.Place.{Place}
 use Rattle.pipe_columns.specs.declared.schema.Field.{Field}
-use Rattle.pipe_columns.specs.Groups.{sorted_keys}
+use Rattle.pipe_columns.specs.Groups.{IsAscending, sorted_keys}
 use Rattle.pipe_columns.specs.Key.{code, fold_bytes, partition}
 use Rattle.pipe_columns.specs.Place.{first_entry, place_cmp}
 use Rattle.pipe_columns.specs.Row.{Row}
@@ -34,15 +34,19 @@ use Rattle.pipe_model.specs.Rows.{AreChunksOf, rows}
 use Rattle.pipe_plain.specs.declared.groups.Group.{Group}
 use Rattle.pipe_columns.specs.Frame.{HoldsTypes}
 use Rattle.pipe_columns.specs.StableSort.{IsSortedStably}
-use Rattle.pipe_plain.specs.Running.{fed, fed_from, group_seen, keyed_line, Line, line_of, output_row, starts, with_rows}
-use Rattle.pipe_plain.proofs.AscendingFacts.{all_has, Ascending, Has, sorted-same}
+use Rattle.pipe_plain.specs.Running.{fed, group_seen, keyed_line, Line, line_of, output_row, starts, with_rows}
+use Rattle.pipe_running.specs.GroupStates.{fed_from}
+use Rattle.pipe_columns.proofs.AscendingFacts.{sorted-same}
+use Rattle.pipe_columns.proofs.ElementFacts.{all_has, Has}
 use Rattle.pipe_plain.proofs.BuiltFacts.{all_of_type, built-gives}
 use Rattle.pipe_plain.proofs.EntryFacts.{at-ascend, at-holds, distinct-at, Entries, entries_at}
 use Rattle.pipe_plain.proofs.FrameFacts.{outputs_of}
 use Rattle.pipe_plain.proofs.GroupFacts.{groups_all, keyed_none}
 use Rattle.pipe_plain.proofs.InputFacts.{FitsFrom, rows-fit}
 use Rattle.pipe_plain.proofs.OrderFacts.{sorted_lines}
-use Rattle.pipe_plain.proofs.PlaceFacts.{by_first_place, first_at, first_of, place_cmp_total, rows-ascend}
+use Rattle.pipe_model.proofs.PlaceFacts.{place_total}
+use Rattle.pipe_model.proofs.RowPlaces.{rows-ascend}
+use Rattle.pipe_plain.proofs.PlaceFacts.{by_first_place, first_at, first_of}
 
 -- ---- the table
 
@@ -96,13 +100,13 @@ others-fit j schema a others entries h = All-weaker (λ (e : Place × List AnyVa
 
 -- what one aggregate gives of entries at ascending places
 pub one-gives : (j : ℕ) (schema : List Field) (a : AggTree) (others : List AggTree) (entries : Entries) → is_suited schema a ≡ true → EntriesFit j schema (a ∷ others) entries
-    → Ascending place_cmp (map (λ e. e.0) entries)
+    → IsAscending place_cmp (map (λ e. e.0) entries)
     → output_values (given (after_entries (entries_at j entries) (fresh (function_for a.kind (input_type schema a.input))))) ≡ agg a.kind (input_type schema a.input) (entries_at j entries)
 one-gives j schema a others entries s h up =
     built-gives a.kind (input_type schema a.input) (entries_at j entries) s (entries-fit j schema a others entries h) (distinct-at j entries up)
 
 outputs_from : (schema : List Field) (aggs : List AggTree) (j : ℕ) (entries : Entries) → list_all (is_suited schema) aggs ≡ true → EntriesFit j schema aggs entries
-    → Ascending place_cmp (map (λ e. e.0) entries)
+    → IsAscending place_cmp (map (λ e. e.0) entries)
     → outputs_of (states_from j (starts (map (λ a. function_for a.kind (input_type schema a.input)) aggs)).states entries) ≡ aggs_from j schema aggs entries
 outputs_from schema [] j entries s h up = ap outputs_of (states_from-nil j entries)
 outputs_from schema (a ∷ others) j entries s h up =
@@ -174,7 +178,7 @@ groups_by_place q chunks partitions e =
     let rs : List Row = rows chunks q in
     let keys : List (List AnyValue) = map (λ (r : Row). r.key) rs in
     rw e (sorted-same (λ k. Has k keys) (λ a b. first_place_cmp (first_entry (rows_at rs a)) (first_entry (rows_at rs b))) (λ a b. ordering_then (place_cmp (first_of rs a) (first_of rs b)) (tuple_cmp a b))
-    (λ a b m n. by_first_place rs a b (rows-ascend q chunks) m n) keys (all_has keys))
+    (λ a b m n. by_first_place rs a b (rows-ascend chunks q) m n) keys (all_has keys))
 
 -- a table that is sorted by first places has the groups in order
 pub table_by_place : (q : QueryTree) (chunks : List DataChunk) (partitions : ℕ) (before after : List Group) → q.keeps_order ≡ true
@@ -182,7 +186,7 @@ pub table_by_place : (q : QueryTree) (chunks : List DataChunk) (partitions : ℕ
     → map group_seen after ≡ map (keyed_line (prototypes q) (rows chunks q)) (groups (rows chunks q) q partitions)
 table_by_place q chunks partitions before after kept e s =
     let rs : List Row = rows chunks q in
-    sorted_lines (prototypes q) rs (λ g. g.first) place_cmp place_cmp_total (first_of rs) (place_kept (prototypes q) rs) before after (map (λ (r : Row). r.key) rs) (e ∙ table_is (prototypes q) rs) s
+    sorted_lines (prototypes q) rs (λ g. g.first) place_cmp place_total (first_of rs) (place_kept (prototypes q) rs) before after (map (λ (r : Row). r.key) rs) (e ∙ table_is (prototypes q) rs) s
     ∙ ap (map (keyed_line (prototypes q) rs)) (sym (groups_by_place q chunks partitions kept))
 
 -- ---- the answer
@@ -196,8 +200,8 @@ pub key-entries-fit : (q : QueryTree) (chunks : List DataChunk) (k : List AnyVal
     → EntriesFit 0 q.schema q.aggs (rows_at (rows chunks q) k)
 key-entries-fit q chunks k g are hold = at-holds (λ e. FitsFrom 0 q.schema q.aggs e.1) (rows chunks q) k (rows-fit q 0 chunks g are.columns hold)
 
-pub key-places-ascend : (q : QueryTree) (chunks : List DataChunk) (k : List AnyValue) → Ascending place_cmp (map (λ e. e.0) (rows_at (rows chunks q) k))
-key-places-ascend q chunks k = at-ascend (rows chunks q) k (rows-ascend q chunks)
+pub key-places-ascend : (q : QueryTree) (chunks : List DataChunk) (k : List AnyValue) → IsAscending place_cmp (map (λ e. e.0) (rows_at (rows chunks q) k))
+key-places-ascend q chunks k = at-ascend (rows chunks q) k (rows-ascend chunks q)
 
 -- each group that the slice keeps gives a row of the answer
 pub rows_given : (q : QueryTree) (chunks : List DataChunk) (partitions : ℕ) (table : List Group) → IsGroupable q → AreChunksOf q chunks → All (λ c. HoldsTypes c.frame) chunks

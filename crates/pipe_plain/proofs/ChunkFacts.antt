@@ -1,56 +1,15 @@
 -- The rows of chunks, as they are read from lists of values.
 use Rattle.std.proofs.Common.{◌≡◌, ◌∙◌, ℕ, ◌+◌, ◌<◌, suc, List, [], ◌∷◌, ◌++◌, length, map, refl, sym, ap, arith}
-use Rattle.std.proofs.lemmas.Simd.{map-map}
 use Rattle.std.specs.List.{range_with_len}
 use Rattle.std.proofs.lemmas.List.{append_assoc, append-nil, length-append}
-use Rattle.std.proofs.lemmas.List.FromFn.{get_or-map-range_with_len, length-map-range_with_len, map-range_with_len_more}
-use Rattle.std.proofs.lemmas.Option.{unwrap_or-slice_get}
+use Rattle.std.proofs.lemmas.List.FromFn.{length-map-range_with_len, map-range_with_len_more}
 use Rattle.std.proofs.lemmas.List.Sums.{fold-append, sum_by-cons}
-use Rattle.pipe_columns.specs.declared.any_value.AnyValue.{AnyValue}
-use Rattle.pipe_columns.specs.declared.any_value.AnyValue.TheVariants as av
 use Rattle.pipe_columns.specs.declared.data_chunk.DataChunk.{DataChunk}
-use Rattle.pipe_columns.specs.Frame.{FrameData, value_at}
+use Rattle.pipe_columns.specs.Frame.{FrameData}
 use Rattle.pipe_columns.specs.Row.{Row}
-use Rattle.pipe_exprs.specs.declared.values.Values.{Values}
-use Rattle.pipe_exprs.specs.Evaluated.{items_of, row_values}
-use Rattle.pipe_model.specs.Expr.{Expr}
-use Rattle.pipe_model.specs.Query.{each, Input, QueryTree, rows_alone}
-use Rattle.pipe_model.specs.Value.{value}
-use Rattle.pipe_model.specs.Rows.{chunk_rows, input_value, row_of, rows, rows_from, total_height}
-use Rattle.pipe_plain.specs.declared.lists.ValueLists.{ValueLists}
-use Rattle.pipe_plain.specs.Cells.{cells, input_values, row_read}
+use Rattle.pipe_model.specs.Query.{QueryTree}
+use Rattle.pipe_model.specs.Rows.{chunk_rows, row_of, rows, rows_from, total_height}
 use Rattle.pipe_plain.specs.Running.{Line, Table, with_row, with_rows}
-
--- ---- a row
-
--- the value in a row of the values of all rows
-value_in : (e : Expr) (frame : FrameData) (n : ℕ) → n < frame.height → value_at (row_values e frame) n ≡ value e frame n
-value_in e frame n h =
-    unwrap_or-slice_get (row_values e frame) n av.Null
-    ∙ get_or-map-range_with_len (λ row. value e frame row) 0 frame.height n n av.Null h (omega arith)
-
-input_in : (input : Input) (frame : FrameData) (n : ℕ) → n < frame.height → value_at (input_values input frame) n ≡ input_value input frame n
-input_in (each e) frame n h = value_in e frame n h
-input_in rows_alone frame n h = refl
-
--- the cells of lists that hold the values of some things
-cells_are : {X : Type 0} (of : X → List AnyValue) (at : X → AnyValue) (n : ℕ) (xs : List X) (lists : List Values) → ((x : X) → value_at (of x) n ≡ at x)
-    → map items_of lists ≡ map of xs → cells lists n ≡ map at xs
-cells_are of at n xs lists same e =
-    sym (map-map (λ values. value_at values n) items_of lists) ∙ ap (map (λ values. value_at values n)) e
-    ∙ map-map (λ values. value_at values n) of xs ∙ ap (λ f. map f xs) (λ i x. same x i)
-
--- a row that is read from the lists of a query is the row of the query
-pub row_read_is : (q : QueryTree) (i n : ℕ) (frame : FrameData) (lists : ValueLists) → n < frame.height
-    → map items_of lists.keys.items ≡ map (λ e. row_values e frame) q.keys
-    → map items_of lists.inputs.items ≡ map (λ a. input_values a.input frame) q.aggs
-    → row_read lists (record { chunk = i; row = n }) ≡ row_of q i frame n
-row_read_is q i n frame lists h ks is =
-    let keys : cells lists.keys.items n ≡ map (λ e. value e frame n) q.keys =
-    cells_are (λ e. row_values e frame) (λ e. value e frame n) n q.keys lists.keys.items (λ e. value_in e frame n h) ks in
-    let inputs : cells lists.inputs.items n ≡ map (λ a. input_value a.input frame n) q.aggs =
-    cells_are (λ a. input_values a.input frame) (λ a. input_value a.input frame n) n q.aggs lists.inputs.items (λ a. input_in a.input frame n h) is in
-    rw (keys, inputs) refl
 
 -- ---- one more row, and one more chunk
 

@@ -11,7 +11,9 @@ use Rattle.pipe_columns.specs.Frame.{value_at}
 use Rattle.pipe_columns.specs.Place.{place_cmp, DistinctPlaces}
 use Rattle.pipe_columns.specs.Row.{Row}
 use Rattle.pipe_model.specs.Answer.{entry_of, rows_at, tuple_cmp}
-use Rattle.pipe_plain.proofs.AscendingFacts.{Ascending, Below}
+use Rattle.pipe_columns.specs.Groups.{IsAscending}
+use Rattle.pipe_model.proofs.RowPlaces.{distinct-ascending}
+use Rattle.pipe_columns.proofs.AscendingFacts.{Below}
 
 -- the places and inputs of rows
 abbrev pub Entries : Type 0
@@ -45,29 +47,20 @@ below-at p (r ∷ rs) k b = by_test (is_eq (tuple_cmp r.key k)) refl (below-at p
   by_test false f rest = rw f rest
 
 -- the places of the rows of a key ascend where those of all rows do
-pub at-ascend : (rs : List Row) (k : List AnyValue) → Ascending place_cmp (map (λ r. r.place) rs) → Ascending place_cmp (places_of (rows_at rs k))
+pub at-ascend : (rs : List Row) (k : List AnyValue) → IsAscending place_cmp (map (λ r. r.place) rs) → IsAscending place_cmp (places_of (rows_at rs k))
 at-ascend [] k a = tt
 at-ascend (r ∷ rs) k a = by_test (is_eq (tuple_cmp r.key k)) refl (at-ascend rs k a.1) where
-  by_test : (t : Bool) → is_eq (tuple_cmp r.key k) ≡ t → Ascending place_cmp (places_of (rows_at rs k)) → Ascending place_cmp (places_of (rows_at (r ∷ rs) k))
+  by_test : (t : Bool) → is_eq (tuple_cmp r.key k) ≡ t → IsAscending place_cmp (places_of (rows_at rs k)) → IsAscending place_cmp (places_of (rows_at (r ∷ rs) k))
   by_test true f rest = rw f (below-at r.place rs k a.0, rest)
   by_test false f rest = rw f rest
-
-other-places : (p : Place) (ps : List Place) → Below place_cmp p ps → AllByRecursion (λ q. eq_by_cmp place_cmp p q ≡ false) ps
-other-places p [] b = tt
-other-places p (q ∷ qs) b = (ap is_eq b.0, other-places p qs b.1)
-
-distinct_places : (ps : List Place) → Ascending place_cmp ps → IsDistinct (eq_by_cmp place_cmp) ps
-unfolding IsDistinct
-distinct_places [] a = tt
-distinct_places (p ∷ ps) a = (other-places p ps a.0, distinct_places ps a.1)
 
 same_places : (j : ℕ) (entries : Entries) → map (λ e. e.0) (entries_at j entries) ≡ places_of entries
 same_places j [] = refl
 same_places j (e ∷ es) = ap (λ (ps : List Place). e.0 ∷ ps) (same_places j es)
 
 -- so no place stands twice among the entries of an aggregate
-pub distinct-at : (j : ℕ) (entries : Entries) → Ascending place_cmp (places_of entries) → DistinctPlaces (entries_at j entries)
-distinct-at j entries a = subst (λ ps. IsDistinct (eq_by_cmp place_cmp) ps) (sym (same_places j entries)) (distinct_places (places_of entries) a)
+pub distinct-at : (j : ℕ) (entries : Entries) → IsAscending place_cmp (places_of entries) → DistinctPlaces (entries_at j entries)
+distinct-at j entries a = subst (λ ps. IsDistinct (eq_by_cmp place_cmp) ps) (sym (same_places j entries)) (distinct-ascending (places_of entries) a)
 
 -- a key has no more rows than there are
 pub rows_at-few : (rs : List Row) (key : List AnyValue) → length rs < 2 ^ 32 → length (rows_at rs key) < 2 ^ 32

@@ -10,7 +10,7 @@ use Rattle.pipe_columns.specs.declared.place.Place.{Place}
 use Rattle.pipe_columns.specs.declared.schema.Field.{Field}
 use Rattle.pipe_columns.specs.AnyValue.{fits}
 use Rattle.pipe_columns.specs.Frame.{all_fit, FitsSchema, FrameData, value_at, HoldsTypes}
-use Rattle.pipe_columns.specs.Groups.{sorted_keys}
+use Rattle.pipe_columns.specs.Groups.{IsAscending, sorted_keys}
 use Rattle.pipe_columns.specs.Place.{place_cmp}
 use Rattle.pipe_columns.specs.Row.{Row}
 use Rattle.pipe_columns.specs.Slice.{sliced}
@@ -29,11 +29,11 @@ use Rattle.pipe_plain.specs.Fits.{RowFits, RowsFit}
 use Rattle.pipe_plain.specs.Running.{group_seen, starts, with_rows}
 use Rattle.pipe_spill.specs.KeyTypes.{AreOfTypes}
 use Rattle.pipe_plain.proofs.AnswerFacts.{EntriesFit, entries-fit, key-entries-fit, key-places-ascend, others-fit, table_is}
-use Rattle.pipe_plain.proofs.AscendingFacts.{Ascending, sorted-holds}
+use Rattle.pipe_columns.proofs.AscendingFacts.{sorted-holds}
 use Rattle.pipe_plain.proofs.BuiltFacts.{built-fits}
 use Rattle.pipe_plain.proofs.ChunkFacts.{length-rows_from}
 use Rattle.pipe_plain.proofs.EntryFacts.{distinct-at, Entries, entries_at, rows_at-few}
-use Rattle.pipe_plain.proofs.InputFacts.{valued-fits}
+use Rattle.pipe_inputs.proofs.TypeFacts.{valued-fits}
 use Rattle.pipe_plain.proofs.OrderFacts.{key_of, keys_there}
 
 -- ---- rows and columns
@@ -107,7 +107,7 @@ keys-fit q i (c ∷ cs) g are hold =
 
 -- what the aggregates of some entries give fits their fields
 aggs-fit : (schema : List Field) (aggs : List AggTree) (j : ℕ) (entries : Entries) → list_all (is_suited schema) aggs ≡ true → EntriesFit j schema aggs entries
-    → Ascending place_cmp (map (λ e. e.0) entries) → length entries < 2 ^ 32
+    → IsAscending place_cmp (map (λ e. e.0) entries) → length entries < 2 ^ 32
     → RowFits (flat_map (λ a. agg_fields a.name a.kind (input_type schema a.input)) aggs) (aggs_from j schema aggs entries)
 aggs-fit schema [] j entries s h up few = tt
 aggs-fit schema (a ∷ others) j entries s h up few =

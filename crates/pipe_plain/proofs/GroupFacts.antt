@@ -8,9 +8,9 @@ use Rattle.std.specs.Cmp.{IsTotalOrder, tied_itself}
 use Rattle.std.proofs.lemmas.List.{append_assoc, append-nil, map-append}
 use Rattle.std.proofs.lemmas.List.Elements.{filter-append}
 use Rattle.std.proofs.lemmas.List.Sums.{fold-append}
-use Rattle.pipe_columns.specs.Groups.{put_key, sorted_keys, values_of}
+use Rattle.pipe_columns.specs.Groups.{IsAscending, put_key, sorted_keys, values_of}
 use Rattle.pipe_plain.specs.Running.{add_entry}
-use Rattle.pipe_plain.proofs.AscendingFacts.{Ascending, Below, below_trans, put-ascending}
+use Rattle.pipe_columns.proofs.AscendingFacts.{Below, below_trans, put-ascending}
 
 module _ {K : Type 0} (order : K → K → Ordering) (o : IsTotalOrder order) (exact : (x y : K) → order x y ≡ Equal → x ≡ y) where
   -- no key is k
@@ -45,7 +45,7 @@ module _ {K : Type 0} (order : K → K → Ordering) (o : IsTotalOrder order) (e
       -- the entry goes to the line of its key
       step : (f g : K → L) (k : K) (v : V)
           → ((q : K) → is_eq (order k q) ≡ false → f q ≡ g q) → ((q : K) → order k q ≡ Equal → more v (f q) ≡ g q)
-          → (ks : List K) → Ascending order ks → (Absent k ks → first v ≡ g k)
+          → (ks : List K) → IsAscending order ks → (Absent k ks → first v ≡ g k)
           → add_entry order first more (k, v) (lines f ks) ≡ lines g (put_key order k ks)
       step f g k v same here [] a new = rw (new tt) refl
       step f g k v same here (x ∷ xs) a new = put_at (order k x) refl (step f g k v same here xs a.1) where
@@ -88,7 +88,7 @@ module _ {K : Type 0} (order : K → K → Ordering) (o : IsTotalOrder order) (e
 
     -- what holds of the keys of all entries: they ascend, and a key that isn't there has no value
     pub record Keyed (entries : List (K × V)) : Type 0 where
-      pub ascending : Ascending order (keys_of entries)
+      pub ascending : IsAscending order (keys_of entries)
       pub covers : (q : K) → Absent q (keys_of entries) → values_of order q entries ≡ []
 
     pub keyed_none : Keyed []

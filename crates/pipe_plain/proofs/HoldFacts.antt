@@ -14,7 +14,8 @@ use Rattle.pipe_running.specs.States.{seen, takes}
 use Rattle.pipe_running.proofs.KindStays.{same-fresh, seen-fresh}
 use Rattle.pipe_model.specs.Answer.{tuple_cmp}
 use Rattle.pipe_plain.specs.declared.groups.Group.{Group}
-use Rattle.pipe_plain.specs.Running.{fed, fed_from, group_seen, Line, starts, StatesHold, StatesSeen, Table, TableHolds, TakesFrom, with_row, with_rows}
+use Rattle.pipe_plain.specs.Running.{fed, group_seen, Line, starts, Table, TableHolds, with_row, with_rows}
+use Rattle.pipe_running.specs.GroupStates.{fed_from, StatesHold, StatesSeen, TakesFrom}
 
 -- ---- one line
 

@@ -22,25 +22,8 @@ use Rattle.pipe_model.specs.Value.{value}
 use Rattle.pipe_exprs.proofs.FitFacts.{both_true, value-fits}
 use Rattle.pipe_aggs.proofs.HashAggFacts.{takes-for}
 use Rattle.pipe_model.specs.Rows.{chunk_rows, input_value, row_of, rows_from}
-use Rattle.pipe_plain.specs.Running.{TakesFrom}
-
--- ---- one value
-
-some_known : (o : Option DataType) → is_some o ≡ true → o ≡ Some (unwrap_or o dt.UInt32)
-some_known None h = cc h
-some_known (Some t) h = refl
-
--- an expression that has a value in each row
-pub valued-fits : (schema : List Field) (e : Expr) (frame : FrameData) (n : ℕ) → FitsSchema schema frame → HoldsTypes frame → is_valued schema e ≡ true
-    → fits (value e frame n) (known_type e schema) ≡ true
-valued-fits schema e frame n are hold v =
-    let typed : type_of e schema ≡ Some (known_type e schema) = some_known (type_of e schema) (both_true (is_row_wise e) (is_some (type_of e schema)) v).1 in
-    value-fits e frame n (known_type e schema) hold (rw are typed)
-
-fed-fits : (schema : List Field) (input : Input) (frame : FrameData) (n : ℕ) → FitsSchema schema frame → HoldsTypes frame → is_fed schema input ≡ true
-    → fits (input_value input frame n) (input_type schema input) ≡ true
-fed-fits schema (each e) frame n are hold v = valued-fits schema e frame n are hold v
-fed-fits schema rows_alone frame n are hold v = refl
+use Rattle.pipe_inputs.proofs.TypeFacts.{fed-fits}
+use Rattle.pipe_running.specs.GroupStates.{TakesFrom}
 
 -- ---- the inputs of a row
 

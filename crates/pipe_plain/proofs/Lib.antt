@@ -1,5 +1,4 @@
 pub mod AnswerFacts
-pub mod AscendingFacts
 pub mod BuiltFacts
 pub mod ChunkFacts
 pub mod EntryFacts
@@ -8,7 +7,6 @@ pub mod FrameFacts
 pub mod GroupFacts
 pub mod HoldFacts
 pub mod InputFacts
-pub mod ListFacts
 pub mod OrderFacts
 pub mod PartitionFacts
 pub mod PlaceFacts

@@ -9,7 +9,7 @@ use Rattle.std.specs.Cmp.{IsTotalOrder, on_total, then_total}
 use Rattle.std.proofs.lemmas.List.Elements.{All-cons, All-head, All-nil, All-tail, All-weaker}
 use Rattle.std.proofs.lemmas.List.Sorted.{All-permutation, IsPermutation-map}
 use Rattle.pipe_columns.specs.declared.any_value.AnyValue.{AnyValue}
-use Rattle.pipe_columns.specs.Groups.{sorted_keys}
+use Rattle.pipe_columns.specs.Groups.{IsAscending, sorted_keys}
 use Rattle.pipe_columns.specs.Row.{Row}
 use Rattle.pipe_columns.proofs.ValueOrder.{tuples_tie, tuples_total}
 use Rattle.pipe_running.specs.declared.function.AggregateFunction.{AggregateFunction}
@@ -17,7 +17,7 @@ use Rattle.pipe_model.specs.Answer.{tuple_cmp}
 use Rattle.pipe_plain.specs.declared.groups.Group.{Group}
 use Rattle.pipe_columns.specs.StableSort.{IsSortedStably}
 use Rattle.pipe_plain.specs.Running.{group_seen, keyed_line, Line, Table}
-use Rattle.pipe_plain.proofs.AscendingFacts.{Ascending, Below, sorted-ascending, sorted_anew}
+use Rattle.pipe_columns.proofs.AscendingFacts.{Below, sorted-ascending, sorted_anew}
 use Rattle.pipe_plain.proofs.StableFacts.{keys-ascend, sorted-ascend}
 
 abbrev pub key_of : Group → List AnyValue
@@ -31,7 +31,7 @@ below-groups : (g : Group) (gs : List Group) → Below tuple_cmp (key_of g) (map
 below-groups g [] b = tt
 below-groups g (h ∷ hs) b = (b.0, below-groups g hs b.1)
 
-ascending-groups : (gs : List Group) → Ascending tuple_cmp (map key_of gs) → Ascending group_cmp gs
+ascending-groups : (gs : List Group) → IsAscending tuple_cmp (map key_of gs) → IsAscending group_cmp gs
 ascending-groups [] a = tt
 ascending-groups (g ∷ gs) a = (below-groups g gs a.0, ascending-groups gs a.1)
 
@@ -87,9 +87,9 @@ module _ (prototypes : List AggregateFunction) (rs : List Row) where
         → IsSortedStably rank Q before after → map group_seen after ≡ map (keyed_line prototypes rs) (sorted_keys by_rank keys)
     sorted_lines before after keys e s =
         let old : map key_of before ≡ sorted_keys tuple_cmp keys = keys_there before (sorted_keys tuple_cmp keys) e in
-        let up : Ascending group_cmp before = ascending-groups before (subst (Ascending tuple_cmp) (sym old) (sorted-ascending tuple_cmp tuples_total keys)) in
+        let up : IsAscending group_cmp before = ascending-groups before (subst (IsAscending tuple_cmp) (sym old) (sorted-ascending tuple_cmp tuples_total keys)) in
         let lines : All IsLine after = All-permutation IsLine before after s.moved (lines_there before (sorted_keys tuple_cmp keys) e) in
         let ranked : All (λ g. rank g ≡ of_key (key_of g)) after = All-weaker IsLine (λ g. rank g ≡ of_key (key_of g)) ranks after lines in
-        let ascend : Ascending by_rank (map key_of after) = keys-ascend rank key_of of_key Q tuple_cmp after ranked (sorted-ascend rank Q o group_cmp before after up s.sorted s.stable) in
+        let ascend : IsAscending by_rank (map key_of after) = keys-ascend rank key_of of_key Q tuple_cmp after ranked (sorted-ascend rank Q o group_cmp before after up s.sorted s.stable) in
         let moved : IsPermutation (sorted_keys tuple_cmp keys) (map key_of after) = subst (λ (ks : List (List AnyValue)). IsPermutation ks (map key_of after)) old (IsPermutation-map key_of before after s.moved) in
         lines_of after lines ∙ ap (map (keyed_line prototypes rs)) (sorted_anew tuple_cmp by_rank tuples_total tuples_tie by_rank_total by_rank_tie keys (map key_of after) moved ascend)

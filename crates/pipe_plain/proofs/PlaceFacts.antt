@@ -15,69 +15,14 @@ use Rattle.pipe_columns.specs.Row.{Row}
 use Rattle.pipe_columns.proofs.ValueOrder.{tuples_tie, tuples_total}
 use Rattle.pipe_model.specs.Query.{QueryTree}
 use Rattle.pipe_model.specs.Answer.{first_place_cmp, rows_at, tuple_cmp}
-use Rattle.pipe_model.specs.Rows.{row_of, rows, rows_from}
-use Rattle.pipe_plain.proofs.AscendingFacts.{Ascending, Below, Has}
+use Rattle.pipe_model.proofs.PlaceFacts.{place_tie, place_total}
+use Rattle.pipe_columns.specs.Groups.{IsAscending}
+use Rattle.pipe_columns.proofs.AscendingFacts.{Below}
+use Rattle.pipe_columns.proofs.ElementFacts.{Has}
 
--- ---- the order of places
-
-pub place_cmp_total : IsTotalOrder place_cmp
-place_cmp_total = then_total (on_total (λ (p : Place). p.chunk) nat_cmp_total) (on_total (λ (p : Place). p.row) nat_cmp_total)
-
-then_both : (r s : Ordering) → ordering_then r s ≡ Equal → (r ≡ Equal) × (s ≡ Equal)
-then_both Less s e = cc
-then_both Equal s e = (refl, e)
-then_both Greater s e = cc
-
--- places that tie are the same
-place_tie : (p q : Place) → place_cmp p q ≡ Equal → p ≡ q
-place_tie p q e =
-    let parts = then_both (nat_cmp p.chunk q.chunk) (nat_cmp p.row q.row) e in
-    rw (nat_cmp-IsAntisymmetric p.chunk q.chunk parts.0, nat_cmp-IsAntisymmetric p.row q.row parts.1) refl
-
-less : (m n : ℕ) → m < n → nat_cmp m n ≡ Less
-less m n h = sym (nat_cmp_is m n Less h)
-
-chunk_less : (p q : Place) → p.chunk < q.chunk → place_cmp p q ≡ Less
-chunk_less p q h = rw (less p.chunk q.chunk h) refl
-
-row_less : (i m n : ℕ) → m < n → place_cmp (record { chunk = i; row = m }) (record { chunk = i; row = n }) ≡ Less
-row_less i m n h = rw (tied_itself nat_cmp_total i, less m n h) refl
-
--- ---- the places of rows ascend
-
+-- the places of rows
 abbrev places : List Row → List Place
 places rs = map (λ r. r.place) rs
-
--- rows n, n + 1 .. of a chunk, and then others
-abbrev from_row : QueryTree → ℕ → FrameData → ℕ → ℕ → List Row → List Row
-from_row q i frame n len others = map (λ m. row_of q i frame m) (range_with_len n len) ++ others
-
-below_rows : (q : QueryTree) (i : ℕ) (frame : FrameData) (p : Place) (n len : ℕ) (others : List Row) → ((k : ℕ) → place_cmp p (record { chunk = i; row = n + k }) ≡ Less)
-    → Below place_cmp p (places others) → Below place_cmp p (places (from_row q i frame n len others))
-below_rows q i frame p n zero others h b = b
-below_rows q i frame p n (suc len) others h b =
-    let here : place_cmp p (record { chunk = i; row = n }) ≡ Less = ap (λ (k : ℕ). place_cmp p (record { chunk = i; row = k })) (omega arith) ∙ h 0 in
-    (here, below_rows q i frame p (n + 1) len others (λ k. ap (λ (m : ℕ). place_cmp p (record { chunk = i; row = m })) (omega arith) ∙ h (k + 1)) b)
-
-ascending_rows : (q : QueryTree) (i : ℕ) (frame : FrameData) (n len : ℕ) (others : List Row) → ((p : Place) → p.chunk < i + 1 → Below place_cmp p (places others))
-    → Ascending place_cmp (places others) → Ascending place_cmp (places (from_row q i frame n len others))
-ascending_rows q i frame n zero others h a = a
-ascending_rows q i frame n (suc len) others h a = (
-  below_rows q i frame (record { chunk = i; row = n }) (n + 1) len others (λ k. row_less i n (n + 1 + k) (omega arith)) (h (record { chunk = i; row = n }) (omega arith)),
-  ascending_rows q i frame (n + 1) len others h a,
-)
-
--- a place in an earlier chunk is below those of rows
-below_from : (q : QueryTree) (i : ℕ) (chunks : List DataChunk) (p : Place) → p.chunk < i → Below place_cmp p (places (rows_from q i chunks))
-below_from q i [] p h = tt
-below_from q i (c ∷ cs) p h = below_rows q i c.frame p 0 c.frame.height (rows_from q (i + 1) cs) (λ k. chunk_less p (record { chunk = i; row = 0 + k }) h) (below_from q (i + 1) cs p (omega arith))
-
-ascending_from : (q : QueryTree) (i : ℕ) (chunks : List DataChunk) → Ascending place_cmp (places (rows_from q i chunks))
-ascending_from q i [] = tt
-ascending_from q i (c ∷ cs) = ascending_rows q i c.frame 0 c.frame.height (rows_from q (i + 1) cs) (λ p h. below_from q (i + 1) cs p h) (ascending_from q (i + 1) cs)
-
-pub rows-ascend : (q : QueryTree) (chunks : List DataChunk) → Ascending place_cmp (places (rows chunks q))
-rows-ascend q chunks = ascending_from q 0 chunks
 
 -- ---- the first row of a key
 
@@ -101,7 +46,7 @@ earlier_is e None h = refl
 earlier_is e (Some f) h = rw (h f.0 refl) refl
 
 -- the entry at the least place is that of the first row
-first_entry_is : (rs : List Row) (k : List AnyValue) → Ascending place_cmp (places rs) → option_map (λ e. e.0) (first_entry (rows_at rs k)) ≡ first_at rs k
+first_entry_is : (rs : List Row) (k : List AnyValue) → IsAscending place_cmp (places rs) → option_map (λ e. e.0) (first_entry (rows_at rs k)) ≡ first_at rs k
 first_entry_is [] k a = refl
 first_entry_is (r ∷ rs) k a = by_test (is_eq (tuple_cmp r.key k)) refl (first_entry_is rs k a.1) where
   by_test : (t : Bool) → is_eq (tuple_cmp r.key k) ≡ t → option_map (λ e. e.0) (first_entry (rows_at rs k)) ≡ first_at rs k
@@ -119,14 +64,14 @@ has_first (r ∷ rs) k (inr m) = by_test (is_eq (tuple_cmp r.key k)) (has_first 
   by_test false h = h
 
 -- keys that first stand at one place are one key
-first_alone : (rs : List Row) (a b : List AnyValue) (p : Place) → Ascending place_cmp (places rs) → first_at rs a ≡ Some p → first_at rs b ≡ Some p → a ≡ b
+first_alone : (rs : List Row) (a b : List AnyValue) (p : Place) → IsAscending place_cmp (places rs) → first_at rs a ≡ Some p → first_at rs b ≡ Some p → a ≡ b
 first_alone [] a b p up e f = cc
 first_alone (r ∷ rs) a b p up e f = by_test (is_eq (tuple_cmp r.key a)) (is_eq (tuple_cmp r.key b)) refl refl e f (first_alone rs a b p up.1) where
   not_again : (k : List AnyValue) → Some r.place ≡ Some p → first_at rs k ≡ Some p → a ≡ b
   not_again k e f =
       let later : place_cmp r.place p ≡ Less = first_below r.place rs k p up.0 f in
       let itself : place_cmp p p ≡ Less = subst (λ (z : Place). place_cmp z p ≡ Less) (same_Some r.place p e) later in
-      let tie : place_cmp p p ≡ Equal = tied_itself place_cmp_total p in
+      let tie : place_cmp p p ≡ Equal = tied_itself place_total p in
       cc
 
   by_test : (s t : Bool) → is_eq (tuple_cmp r.key a) ≡ s → is_eq (tuple_cmp r.key b) ≡ t → cond s (Some r.place) (first_at rs a) ≡ Some p → cond t (Some r.place) (first_at rs b) ≡ Some p
@@ -153,7 +98,7 @@ then_tied Equal s h = sym (h refl)
 then_tied Greater s h = refl
 
 -- keys of rows, by first place and then by tuple: the places decide
-pub by_first_place : (rs : List Row) (a b : List AnyValue) → Ascending place_cmp (places rs) → Has a (map (λ r. r.key) rs) → Has b (map (λ r. r.key) rs)
+pub by_first_place : (rs : List Row) (a b : List AnyValue) → IsAscending place_cmp (places rs) → Has a (map (λ r. r.key) rs) → Has b (map (λ r. r.key) rs)
     → first_place_cmp (first_entry (rows_at rs a)) (first_entry (rows_at rs b)) ≡ ordering_then (place_cmp (first_of rs a) (first_of rs b)) (tuple_cmp a b)
 by_first_place rs a b up m n =
     let p = has_first rs a m in

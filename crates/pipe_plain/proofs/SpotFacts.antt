@@ -11,7 +11,8 @@ use Rattle.pipe_columns.proofs.ValueOrder.{tuples_tie, tuples_total}
 use Rattle.pipe_model.specs.Answer.{tuple_cmp}
 use Rattle.pipe_plain.specs.declared.groups.Group.{Group}
 use Rattle.pipe_plain.specs.declared.groups.Spot.TheVariants as spot
-use Rattle.pipe_plain.specs.Running.{AllAbove, AllBelow, BeginsAt, fed, fed_from, group_seen, IsAscending, IsSpot, Line, Table, with_row, with_rows}
+use Rattle.pipe_plain.specs.Running.{AllAbove, AllBelow, BeginsAt, fed, group_seen, KeysAscend, IsSpot, Line, Table, with_row, with_rows}
+use Rattle.pipe_running.specs.GroupStates.{fed_from}
 
 -- what is left of a table from place i on
 rest_of : (items : List Group) (i : ℕ) (d : Group) → i < length items → d ≡ get_or items i d → drop i (map group_seen items) ≡ group_seen d ∷ drop (i + 1) (map group_seen items)
@@ -25,17 +26,17 @@ above_trans : (k x : List AnyValue) (t : Table) → tuple_cmp k x ≡ Less → A
 above_trans k x [] e h = tt
 above_trans k x (g ∷ gs) e h = (tuples_total.trans k x g.0 e h.0, above_trans k x gs e h.1)
 
-ascending-drop : (i : ℕ) (t : Table) → IsAscending t → IsAscending (drop i t)
+ascending-drop : (i : ℕ) (t : Table) → KeysAscend t → KeysAscend (drop i t)
 ascending-drop zero t h = h
 ascending-drop (suc i) [] h = tt
 ascending-drop (suc i) (g ∷ gs) h = ascending-drop i gs h.1
 
 -- what is above the group at a place is above a key below it
-above_from : (k : List AnyValue) (t : Table) (i : ℕ) (g : List AnyValue × Line) (rest : Table) → drop i t ≡ g ∷ rest → IsAscending t → tuple_cmp k g.0 ≡ Less → AllAbove k (drop i t)
+above_from : (k : List AnyValue) (t : Table) (i : ℕ) (g : List AnyValue × Line) (rest : Table) → drop i t ≡ g ∷ rest → KeysAscend t → tuple_cmp k g.0 ≡ Less → AllAbove k (drop i t)
 above_from k t i g rest e a less =
-    let P : Table → Type 0 = λ u. IsAscending u in
+    let P : Table → Type 0 = λ u. KeysAscend u in
     let Q : Table → Type 0 = λ u. AllAbove k u in
-    let tail : IsAscending (g ∷ rest) = subst P e (ascending-drop i t a) in
+    let tail : KeysAscend (g ∷ rest) = subst P e (ascending-drop i t a) in
     subst Q (sym e) (less, above_trans k g.0 rest less tail.0)
 
 turned : (k x : List AnyValue) → tuple_cmp x k ≡ Less → tuple_cmp k x ≡ Greater
@@ -51,7 +52,7 @@ among_above x (y ∷ ys) zero g rest e h = let P : Table → Type 0 = λ u. AllA
 among_above x (y ∷ ys) (suc i) g rest e h = among_above x ys i g rest e h.1
 
 -- what is below the group at a place is below a key that is no less
-below_to : (k : List AnyValue) (t : Table) (i : ℕ) (g : List AnyValue × Line) (rest : Table) → drop i t ≡ g ∷ rest → IsAscending t
+below_to : (k : List AnyValue) (t : Table) (i : ℕ) (g : List AnyValue × Line) (rest : Table) → drop i t ≡ g ∷ rest → KeysAscend t
     → ((x : List AnyValue) → tuple_cmp x g.0 ≡ Less → tuple_cmp x k ≡ Less) → AllBelow k (take i t)
 below_to k [] zero g rest e a h = tt
 below_to k [] (suc i) g rest e a h = tt
@@ -71,11 +72,11 @@ taken (y ∷ ys) (suc i) g rest e = ap (λ (t : Table). y ∷ t) (taken ys i g r
 -- ---- the steps of a search
 
 -- the key is below the group in the middle
-pub spot_below : (k : List AnyValue) (items : List Group) (i : ℕ) (d : Group) → i < length items → d ≡ get_or items i d → IsAscending (map group_seen items) → tuple_cmp k d.key.items ≡ Less → AllAbove k (drop i (map group_seen items))
+pub spot_below : (k : List AnyValue) (items : List Group) (i : ℕ) (d : Group) → i < length items → d ≡ get_or items i d → KeysAscend (map group_seen items) → tuple_cmp k d.key.items ≡ Less → AllAbove k (drop i (map group_seen items))
 spot_below k items i d h e a less = above_from k (map group_seen items) i (group_seen d) (drop (i + 1) (map group_seen items)) (rest_of items i d h e) a less
 
 -- the key is above the group in the middle
-pub spot_above : (k : List AnyValue) (items : List Group) (i : ℕ) (d : Group) → i < length items → d ≡ get_or items i d → IsAscending (map group_seen items) → tuple_cmp k d.key.items ≡ Greater → AllBelow k (take (i + 1) (map group_seen items))
+pub spot_above : (k : List AnyValue) (items : List Group) (i : ℕ) (d : Group) → i < length items → d ≡ get_or items i d → KeysAscend (map group_seen items) → tuple_cmp k d.key.items ≡ Greater → AllBelow k (take (i + 1) (map group_seen items))
 spot_above k items i d h e a greater =
     let rest = rest_of items i d h e in
     let t : Table = map group_seen items in
@@ -85,7 +86,7 @@ spot_above k items i d h e a greater =
     (below-push k (take i t) (group_seen d) (below_to k t i (group_seen d) (drop (i + 1) t) rest a (λ x f. tuples_total.trans x d.key.items k f less)) greater)
 
 -- the key is that of the group in the middle
-pub spot_at : (k : List AnyValue) (items : List Group) (i : ℕ) (d : Group) → i < length items → d ≡ get_or items i d → IsAscending (map group_seen items) → tuple_cmp k d.key.items ≡ Equal
+pub spot_at : (k : List AnyValue) (items : List Group) (i : ℕ) (d : Group) → i < length items → d ≡ get_or items i d → KeysAscend (map group_seen items) → tuple_cmp k d.key.items ≡ Equal
     → IsSpot k (map group_seen items) (spot.At i)
 spot_at k items i d h e a here =
     let rest = rest_of items i d h e in
@@ -105,17 +106,17 @@ above-put x start (g ∷ gs) r e h = put_at (tuple_cmp r.key g.0) (above-put x s
   put_at Greater rest = (h.0, rest)
 
 -- a table with one more row ascends
-pub with_row-ascending : (start : Line) (t : Table) (r : Row) → IsAscending t → IsAscending (with_row start t r)
+pub with_row-ascending : (start : Line) (t : Table) (r : Row) → KeysAscend t → KeysAscend (with_row start t r)
 with_row-ascending start [] r h = (tt, tt)
 with_row-ascending start (g ∷ gs) r h = put_at (tuple_cmp r.key g.0) refl (with_row-ascending start gs r h.1) where
-  put_at : (o : Ordering) → tuple_cmp r.key g.0 ≡ o → IsAscending (with_row start gs r)
-      → IsAscending (match_ordering o ((r.key, fed (r.place, r.inputs) start) ∷ g ∷ gs) ((g.0, fed (r.place, r.inputs) g.1) ∷ gs) (g ∷ with_row start gs r))
+  put_at : (o : Ordering) → tuple_cmp r.key g.0 ≡ o → KeysAscend (with_row start gs r)
+      → KeysAscend (match_ordering o ((r.key, fed (r.place, r.inputs) start) ∷ g ∷ gs) ((g.0, fed (r.place, r.inputs) g.1) ∷ gs) (g ∷ with_row start gs r))
   put_at Less e rest = ((e, above_trans r.key g.0 gs e h.0), h)
   put_at Equal e rest = h
   put_at Greater e rest = (above-put g.0 start gs r (turned_back r.key g.0 e) h.0, rest)
 
 -- so does one with more rows
-pub with_rows-ascending : (start : Line) (t : Table) (rs : List Row) → IsAscending t → IsAscending (with_rows start t rs)
+pub with_rows-ascending : (start : Line) (t : Table) (rs : List Row) → KeysAscend t → KeysAscend (with_rows start t rs)
 with_rows-ascending start t [] h = h
 with_rows-ascending start t (r ∷ rs) h = with_rows-ascending start (with_row start t r) rs (with_row-ascending start t r h)
 

@@ -8,7 +8,8 @@ use Rattle.std.specs.Ordering.{is_lt, ordering_reverse, ordering_then}
 use Rattle.std.specs.Cmp.{IsTotalOrder, tied_itself}
 use Rattle.std.proofs.lemmas.List.Elements.{All-head, All-tail}
 use Rattle.std.proofs.lemmas.List.Sorted.{ranks_by, sorted_far}
-use Rattle.pipe_plain.proofs.AscendingFacts.{Ascending, Below}
+use Rattle.pipe_columns.specs.Groups.{IsAscending}
+use Rattle.pipe_columns.proofs.AscendingFacts.{Below}
 
 -- ---- filters
 
@@ -21,16 +22,16 @@ module _ {X : Type 0} (T : X → X → Ordering) (p : X → Bool) where
   below-filter x [] h = tt
   below-filter x (y ∷ ys) h = below_if x y (filter p ys) (p y) h.0 (below-filter x ys h.1)
 
-  ascends_if : (x : X) (l : List X) (b : Bool) → Below T x l → Ascending T l → Ascending T (cond b (x ∷ l) l)
+  ascends_if : (x : X) (l : List X) (b : Bool) → Below T x l → IsAscending T l → IsAscending T (cond b (x ∷ l) l)
   ascends_if x l true h a = (h, a)
   ascends_if x l false h a = a
 
   -- what passes a test ascends as all does
-  ascending-filter : (xs : List X) → Ascending T xs → Ascending T (filter p xs)
+  ascending-filter : (xs : List X) → IsAscending T xs → IsAscending T (filter p xs)
   ascending-filter [] a = tt
   ascending-filter (x ∷ xs) a = ascends_if x (filter p xs) (p x) (below-filter x xs a.0) (ascending-filter xs a.1)
 
-  ascends_rest : (x : X) (l : List X) (b : Bool) → Ascending T (cond b (x ∷ l) l) → Ascending T l
+  ascends_rest : (x : X) (l : List X) (b : Bool) → IsAscending T (cond b (x ∷ l) l) → IsAscending T l
   ascends_rest x l true a = a.1
   ascends_rest x l false a = a
 
@@ -67,18 +68,18 @@ module _ {X Y : Type 0} (rank : X → Y) (Q : Y → Y → Ordering) (o : IsTotal
   ties-itself : (y : X) → ties lower y y ≡ true
   ties-itself y = rw (tied_itself o (rank y)) refl
 
-  rises-ascend : (ys : List X) → Rises ys → ((x : X) → Ascending T (filter (ties lower x) ys)) → Ascending ranked_cmp ys
+  rises-ascend : (ys : List X) → Rises ys → ((x : X) → IsAscending T (filter (ties lower x) ys)) → IsAscending ranked_cmp ys
   rises-ascend [] f a = tt
   rises-ascend (y ∷ ys) f a =
-      let own : Ascending T (y ∷ filter (ties lower y) ys) = subst (λ (b : Bool). Ascending T (cond b (y ∷ filter (ties lower y) ys) (filter (ties lower y) ys))) (ties-itself y) (a y) in (
+      let own : IsAscending T (y ∷ filter (ties lower y) ys) = subst (λ (b : Bool). IsAscending T (cond b (y ∷ filter (ties lower y) ys) (filter (ties lower y) ys))) (ties-itself y) (a y) in (
         below_all y ys (λ k p. f 0 (suc k) y (omega arith) (omega arith)) own.0,
         rises-ascend ys (λ i j d p q. f (suc i) (suc j) d (omega arith) (omega arith)) (λ x. ascends_rest T (ties lower x) y (filter (ties lower x) ys) (ties lower x y) (a x)),
       )
 
   -- what a stable sort gives of an ascending list
-  pub sorted-ascend : (xs ys : List X) → Ascending T xs → IsSortedByKey rank Q ys → IsStableByKey rank Q xs ys → Ascending ranked_cmp ys
+  pub sorted-ascend : (xs ys : List X) → IsAscending T xs → IsSortedByKey rank Q ys → IsStableByKey rank Q xs ys → IsAscending ranked_cmp ys
   sorted-ascend xs ys a up stable =
-      rises-ascend ys (sorted_far lower (ranks_by o rank) ys up) (λ x. subst (Ascending T) (sym (stable x)) (ascending-filter T (ties lower x) xs a))
+      rises-ascend ys (sorted_far lower (ranks_by o rank) ys up) (λ x. subst (IsAscending T) (sym (stable x)) (ascending-filter T (ties lower x) xs a))
 
 module _ {X K Y : Type 0} (rank : X → Y) (key : X → K) (of_key : K → Y) (Q : Y → Y → Ordering) (C : K → K → Ordering) where
   abbrev by_key : X → X → Ordering
@@ -94,7 +95,7 @@ module _ {X K Y : Type 0} (rank : X → Y) (key : X → K) (of_key : K → Y) (Q
       (rw (sym e, sym (All-head P y ys h)) b.0, below-keys x ys e (All-tail P y ys h) b.1)
 
   -- where a key has its rank, the keys ascend too
-  pub keys-ascend : (ys : List X) → All (λ y. rank y ≡ of_key (key y)) ys → Ascending by_key ys → Ascending of_keys (map key ys)
+  pub keys-ascend : (ys : List X) → All (λ y. rank y ≡ of_key (key y)) ys → IsAscending by_key ys → IsAscending of_keys (map key ys)
   keys-ascend [] h a = tt
   keys-ascend (y ∷ ys) h a =
       let P : X → Type 0 = λ z. rank z ≡ of_key (key z) in

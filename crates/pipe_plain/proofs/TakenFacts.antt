@@ -10,14 +10,14 @@ use Rattle.pipe_aggs.specs.HashAggs.{prototypes}
 use Rattle.pipe_model.specs.Query.{QueryTree}
 use Rattle.pipe_aggs.specs.QueryTrees.{query_tree}
 use Rattle.pipe_model.specs.Rows.{AreChunksOf, chunk_rows, rows, total_height}
-use Rattle.pipe_plain.specs.Running.{IsAscending, Line, starts, Table, TableHolds, with_rows}
+use Rattle.pipe_plain.specs.Running.{KeysAscend, Line, starts, Table, TableHolds, with_rows}
 use Rattle.pipe_plain.specs.Taken.{HasTaken, PlainRun}
 use Rattle.pipe_plain.proofs.ChunkFacts.{length-rows_from, with_chunk_more}
 use Rattle.pipe_plain.proofs.HoldFacts.{table-weaker, with_rows-hold}
 use Rattle.pipe_plain.proofs.SpotFacts.{with_rows-ascending}
 
 -- the keys of a table of chunks ascend
-pub taken-ascending : (q : QueryTree) (taken : List DataChunk) (table : Table) → HasTaken q taken table → IsAscending table
+pub taken-ascending : (q : QueryTree) (taken : List DataChunk) (table : Table) → HasTaken q taken table → KeysAscend table
 taken-ascending q taken table h = rw h.rows (with_rows-ascending (starts (prototypes q)) [] (rows taken q) tt)
 
 -- its running aggregates have room for the rows of one more
@@ -30,12 +30,14 @@ taken-hold q taken height table h few =
     (with_rows-hold 0 fs [] (rows taken q) tt))
 
 -- chunks that a query may be asked of, with one more
-chunks_more : (q : QueryTree) (taken : List DataChunk) (c : DataChunk) → AreChunksOf q taken → FitsSchema q.schema c.frame
+chunks_more : (q : QueryTree) (taken : List DataChunk) (c : DataChunk) → AreChunksOf q taken → FitsSchema q.schema c.frame → HoldsTypes c.frame
     → total_height taken + c.frame.height < 2 ^ 32 → length taken + 1 < 2 ^ 32 → AreChunksOf q (taken ++ (c ∷ []))
-chunks_more q taken c are fits few number =
+chunks_more q taken c are fits typed few number =
     let S : DataChunk → Type 0 = λ x. FitsSchema q.schema x.frame in
+    let H : DataChunk → Type 0 = λ x. HoldsTypes x.frame in
     record {
       columns = All-append S taken (c ∷ []) are.columns (All-cons S c [] fits (All-nil S));
+      typed = All-append H taken (c ∷ []) are.typed (All-cons H c [] typed (All-nil H));
       rows = omega (arith, few, sum_by_push (λ (x : DataChunk). x.frame.height) taken c);
       number = omega (arith, number, length-append taken (c ∷ []));
     }
@@ -45,11 +47,9 @@ pub taken_more : (q : QueryTree) (taken : List DataChunk) (c : DataChunk) (befor
     → total_height taken + c.frame.height < 2 ^ 32 → length taken + 1 < 2 ^ 32
     → after ≡ with_rows (starts (prototypes q)) before (chunk_rows q (length taken) c.frame) → HasTaken q (taken ++ (c ∷ [])) after
 taken_more q taken c before after h fits typed few number e =
-    let H : DataChunk → Type 0 = λ x. HoldsTypes x.frame in
     let start : Line = starts (prototypes q) in
     record {
-      chunks = chunks_more q taken c h.chunks fits few number;
-      typed = All-append H taken (c ∷ []) h.typed (All-cons H c [] typed (All-nil H));
+      chunks = chunks_more q taken c h.chunks fits typed few number;
       rows = e ∙ ap (λ (t : Table). with_rows start t (chunk_rows q (length taken) c.frame)) h.rows ∙ with_chunk_more q start taken c;
     }
 

@@ -1,5 +1,3 @@
-pub mod Cells
-pub mod Counting
 pub mod Fits
 pub mod Order
 pub mod Running

@@ -1,15 +1,13 @@
 -- A table of running groups: keys in order, each with its running aggregates.
 use Rattle.std.specs.Prelude.{◌≡◌, true, ℕ, ◌+◌, ◌<◌, ◌≤◌, List, [], ◌∷◌, ◌++◌, length, map, fold, take, drop, Option, Some, None, unwrap_or}
-use Rattle.std.specs.List.{flat_map}
 use Rattle.std.specs.declared.cmp.Ordering.{Ordering}
 use Rattle.std.specs.declared.cmp.Ordering.TheVariants.{Less, Equal, Greater}
 use Rattle.std.specs.Ordering.{match_ordering}
 use Rattle.pipe_columns.specs.declared.any_value.AnyValue.{AnyValue}
 use Rattle.pipe_columns.specs.declared.place.Place.{Place}
-use Rattle.pipe_columns.specs.Frame.{value_at}
 use Rattle.pipe_columns.specs.Row.{Row}
 use Rattle.pipe_running.specs.declared.function.AggregateFunction.{AggregateFunction}
-use Rattle.pipe_running.specs.States.{after_value, fresh, given, output_values, seen, takes}
+use Rattle.pipe_running.specs.GroupStates.{fed_from, fresh_states, given_all, StatesHold}
 use Rattle.pipe_model.specs.Answer.{entry_of, rows_at, tuple_cmp}
 use Rattle.pipe_plain.specs.declared.groups.Group.{Group}
 use Rattle.pipe_plain.specs.declared.groups.Spot.{Spot}
@@ -19,11 +17,6 @@ use Rattle.pipe_plain.specs.declared.groups.Spot.TheVariants as spot
 abbrev pub add_entry : {K V L : Type 0} → (K → K → Ordering) → (V → L) → (V → L → L) → K × V → List (K × L) → List (K × L)
 add_entry order first more r [] = (r.0, first r.1) ∷ []
 add_entry order first more r (g ∷ gs) = match_ordering (order r.0 g.0) ((r.0, first r.1) ∷ g ∷ gs) ((g.0, more r.1 g.1) ∷ gs) (g ∷ add_entry order first more r gs)
-
--- running aggregates with one more row, from the input at place j on
-abbrev pub fed_from : Place → ℕ → List AnyValue → List AggregateFunction → List AggregateFunction
-fed_from p j inputs [] = []
-fed_from p j inputs (s ∷ ss) = after_value p (value_at inputs j) s ∷ fed_from p (j + 1) inputs ss
 
 -- what a table has of a key: where its first row stands, if there was one, and its running aggregates
 pub record Line : Type 0 where
@@ -36,7 +29,7 @@ fed v line = record { first = Some (unwrap_or line.first v.0); states = fed_from
 
 -- the line of a key before any row
 abbrev pub starts : List AggregateFunction → Line
-starts prototypes = record { first = None; states = map fresh prototypes }
+starts prototypes = record { first = None; states = fresh_states prototypes }
 
 -- the line of some rows
 abbrev pub line_of : Line → List (Place × List AnyValue) → Line
@@ -64,28 +57,7 @@ group_seen g = (g.key.items, record { first = Some g.first; states = g.states.it
 
 -- the row that a group gives
 abbrev pub output_row : List AnyValue × Line → List AnyValue
-output_row g = g.0 ++ flat_map (λ s. output_values (given s)) g.1.states
-
--- no running aggregate has counted more than n values
-abbrev pub StatesSeen : ℕ → List AggregateFunction → Type 0
-StatesSeen n [] = Unit {0}
-StatesSeen n (s ∷ ss) = (seen s ≤ n) × StatesSeen n ss
-
--- each running aggregate takes its input, from the input at place j on
-abbrev pub TakesFrom : ℕ → List AggregateFunction → List AnyValue → Type 0
-TakesFrom j [] inputs = Unit {0}
-TakesFrom j (s ∷ ss) inputs = (takes s (value_at inputs j) ≡ true) × TakesFrom (j + 1) ss inputs
-
--- a running aggregate has counted at most n values, and takes what its prototype takes
-abbrev pub IsLike : ℕ → AggregateFunction → AggregateFunction → Type 0
-IsLike n prototype s = (seen s ≤ n) × ((v : AnyValue) → takes s v ≡ takes prototype v)
-
--- so is each of some, one for each prototype
-abbrev pub StatesHold : ℕ → List AggregateFunction → List AggregateFunction → Type 0
-StatesHold n [] [] = Unit {0}
-StatesHold n [] (s ∷ ss) = ⊥
-StatesHold n (f ∷ fs) [] = ⊥
-StatesHold n (f ∷ fs) (s ∷ ss) = IsLike n f s × StatesHold n fs ss
+output_row g = g.0 ++ given_all g.1.states
 
 -- so are those of each group of a table
 abbrev pub TableHolds : ℕ → List AggregateFunction → Table → Type 0
@@ -98,9 +70,9 @@ AllAbove k [] = Unit {0}
 AllAbove k (g ∷ gs) = (tuple_cmp k g.0 ≡ Less) × AllAbove k gs
 
 -- the keys of a table ascend
-abbrev pub IsAscending : Table → Type 0
-IsAscending [] = Unit {0}
-IsAscending (g ∷ gs) = AllAbove g.0 gs × IsAscending gs
+abbrev pub KeysAscend : Table → Type 0
+KeysAscend [] = Unit {0}
+KeysAscend (g ∷ gs) = AllAbove g.0 gs × KeysAscend gs
 
 -- each key of a table is below k
 abbrev pub AllBelow : List AnyValue → Table → Type 0

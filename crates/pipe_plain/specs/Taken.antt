@@ -1,12 +1,10 @@
 -- The groups of chunks that come one by one.
 use Rattle.std.specs.Prelude.{◌≡◌, List, []}
-use Rattle.std.specs.List.{All}
 use Rattle.pipe_columns.specs.declared.data_chunk.DataChunk.{DataChunk}
 use Rattle.pipe_aggs.specs.declared.query.Query.{Query}
 use Rattle.pipe_aggs.specs.HashAggs.{prototypes}
 use Rattle.pipe_model.specs.Query.{QueryTree}
 use Rattle.pipe_model.specs.Rows.{AreChunksOf, rows}
-use Rattle.pipe_columns.specs.Frame.{HoldsTypes}
 use Rattle.pipe_plain.specs.Running.{starts, Table, with_rows}
 
 -- a query, and the chunks that were taken for it, in order
@@ -17,5 +15,4 @@ pub record PlainRun : Type 0 where
 -- a table has the rows of the chunks taken, which the query may be asked of
 pub record HasTaken (q : QueryTree) (taken : List DataChunk) (table : Table) : Type 0 where
   pub chunks : AreChunksOf q taken
-  pub typed : All (λ c. HoldsTypes c.frame) taken
   pub rows : table ≡ with_rows (starts (prototypes q)) [] (rows taken q)

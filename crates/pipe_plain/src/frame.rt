@@ -1,5 +1,5 @@
 ghost use Rattle.std.specs.Prelude.{◌≡◌, ◌∷◌, ◌++◌, IfOk, OnOk, map, true, false};
-ghost use Rattle.pipe_columns.specs.Frame.{all_fit, frame_of, value_at, HoldsTypes};
+ghost use Rattle.pipe_columns.specs.Frame.{all_fit, frame_of, value_at};
 ghost use Rattle.pipe_running.specs.States.{output_values};
 ghost use Rattle.pipe_plain.specs.Fits.{RowsFit};
 ghost use Rattle.pipe_plain.specs.Running.{group_seen, output_row as row_given};
@@ -81,16 +81,6 @@ fn output_column(
     }
     let name = field.name.try_clone(alloc)?;
     Ok(Column::new(name, field.dtype, false, values).unwrap())
-}
-
-/// Recalls that the values of a frame fit their columns' types, by a look at each column.
-pub fn recall_types(frame: &DataFrame)
-    ensures { HoldsTypes frame.now }
-{
-    let columns = frame.columns();
-    for column in columns {
-        column.values();
-    }
 }
 
 /// The frame of rows that fit the fields.

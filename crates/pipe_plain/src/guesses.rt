@@ -1,7 +1,10 @@
 //! Where the groups of keys were found last. It is only a hint: a wrong guess costs a comparison.
 
-use pipe_aggs::{NumericNative, Values};
+ghost use Rattle.std.specs.Prelude.{◌<◌, length};
+
+use pipe_aggs::NumericNative;
 use pipe_columns::AnyValue;
+use pipe_inputs::ChunkRows;
 use pipe_spill::fold;
 use std::alloc::{AllocError, Global};
 
@@ -47,23 +50,25 @@ fn slot(number: u64) -> usize {
     (number.wrapping_mul(SPREAD) >> (64 - BITS)) as usize
 }
 
-/// A number of the value in a row.
-fn cell_number(values: &Values<'_>, row: usize) -> u64 {
-    match values.as_slice().get(row) {
-        Some(AnyValue::Int(number)) => u64::narrowed(*number),
-        Some(AnyValue::Text(text)) => fold(text.as_str().as_bytes()),
-        Some(AnyValue::Boolean(truth)) => *truth as u64,
-        _ => 0,
+/// A number of a value.
+fn value_number(value: &AnyValue) -> u64 {
+    match value {
+        AnyValue::Int(number) => u64::narrowed(*number),
+        AnyValue::Text(text) => fold(text.as_str().as_bytes()),
+        AnyValue::Boolean(truth) => *truth as u64,
+        AnyValue::Null => 0,
     }
 }
 
 /// A number of a row's key.
-pub fn key_number(keys: &[Values<'_>], row: usize) -> u64 {
+pub fn key_number(rows: &ChunkRows<'_>, row: usize) -> u64
+    requires { row < length rows.now }
+{
     let mut number: u64 = 0;
-    for values in keys {
+    for i in 0..rows.key_len() {
         number = number
             .wrapping_mul(31)
-            .wrapping_add(cell_number(values, row));
+            .wrapping_add(value_number(rows.key(row, i)));
     }
     number
 }

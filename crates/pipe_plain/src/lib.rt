@@ -2,17 +2,14 @@
 //! so faster programs are tested beside it.
 #![tactic(auto)]
 
-mod cells;
-mod conditions;
 mod frame;
 mod groups;
 mod guesses;
-mod lists;
 mod order;
 mod plain;
 mod table;
 
-pub use conditions::are_chunks;
+pub use pipe_inputs::are_chunks;
 pub use plain::plain_answer;
 pub use table::PlainGroups;
 

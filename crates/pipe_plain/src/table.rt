@@ -6,15 +6,15 @@ ghost use Rattle.pipe_aggs.specs.HashAggs.{prototypes};
 ghost use Rattle.pipe_aggs.specs.QueryTrees.{query_tree};
 ghost use Rattle.pipe_model.specs.Rows.{chunk_rows, rows, total_height};
 ghost use Rattle.pipe_model.specs.Answer.{answer, groups};
-ghost use Rattle.pipe_plain.specs.Running.{group_seen, IsAscending, keyed_line, starts, TableHolds, with_rows};
+ghost use Rattle.pipe_plain.specs.Running.{group_seen, KeysAscend, keyed_line, starts, TableHolds, with_rows};
 
-use crate::frame::{output_frame, output_rows, recall_types};
+use crate::frame::{output_frame, output_rows};
 use crate::groups::{Group, add_row};
 use crate::guesses::Guesses;
-use crate::lists::ValueLists;
 use crate::order::{by_first_row, by_partition, sliced};
 use pipe_aggs::CheckedQuery;
-use pipe_columns::{DataChunk, DataFrame, Place};
+use pipe_columns::{DataChunk, DataFrame};
+use pipe_inputs::ChunkRows;
 use std::alloc::{AllocError, Global};
 use std::marker::Model;
 use std::snapshot::Snapshot;
@@ -29,23 +29,20 @@ fn add_chunk(
     chunk: &DataChunk,
 ) -> Result<(), AllocError>
     requires fits { FitsSchema query.now.schema chunk.now.frame }
-    requires typed { HoldsTypes chunk.now.frame }
     requires height { chunk.now.frame.height < 2 ^ 32 }
     requires held { TableHolds (2 ^ 32 - 1 - chunk.now.frame.height)
         (prototypes (query_tree query.now)) (map group_seen table.old.items) }
-    requires ascending { IsAscending (map group_seen table.old.items) }
-    ensures { OnOk result (map group_seen table.new.items
+    requires ascending { KeysAscend (map group_seen table.old.items) }
+    ensures rows { OnOk result (map group_seen table.new.items
         ≡ with_rows (starts (prototypes (query_tree query.now))) (map group_seen table.old.items)
         (chunk_rows (query_tree query.now) index chunk.now.frame)) }
+    ensures typed { HoldsTypes chunk.now.frame }
 {
-    let lists = ValueLists::new(alloc, query, chunk)?;
+    let height = chunk.frame.height();
+    let rows = ChunkRows::new(alloc, query, index, chunk)?;
     let prototypes = query.prototypes();
-    for row in 0..chunk.frame.height() {
-        let place = Place {
-            chunk: index,
-            row: row as u32,
-        };
-        add_row(alloc, table, guesses, prototypes, &lists, place)?;
+    for row in 0..height {
+        add_row(alloc, table, guesses, prototypes, &rows, row)?;
     }
     Ok(())
 }
@@ -102,7 +99,6 @@ impl<'a> PlainGroups<'a> {
             mut guesses,
             mut taken,
         } = self;
-        recall_types(&chunk.frame);
         let index = taken.len() as u32;
         add_chunk(alloc, &mut groups, &mut guesses, query, index, chunk)?;
         taken.push(Snapshot::of(chunk))?;

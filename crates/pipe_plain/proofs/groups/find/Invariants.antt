@@ -1,5 +1,5 @@
 use Rattle.std.proofs.Common.{◌≤◌, ◌-◌, length, map, take, drop}
-use Rattle.pipe_plain.specs.Cells.{cells}
+use Rattle.pipe_inputs.specs.ChunkRows.{row_at}
 use Rattle.pipe_plain.specs.Running.{AllAbove, AllBelow, group_seen}
 use Rattle.pipe_plain.proofs.groups.find.Given as goal
 
@@ -8,8 +8,8 @@ abbrev pub invariant-loop-low : goal.invariant-loop-low
 invariant-loop-low l = record {
   ordered : l.low ≤ l.high;
   within : l.high ≤ length l.table;
-  below : AllBelow (cells l.keys l.row) (take l.low (map group_seen l.table));
-  above : AllAbove (cells l.keys l.row) (drop l.high (map group_seen l.table));
+  below : AllBelow (row_at l.rows l.row).key (take l.low (map group_seen l.table));
+  above : AllAbove (row_at l.rows l.row).key (drop l.high (map group_seen l.table));
 }
 
 abbrev pub decreases-loop-low : goal.decreases-loop-low

@@ -1,8 +1,9 @@
 use Rattle.std.proofs.Common.{List, subst, sym}
 use Rattle.pipe_columns.specs.declared.any_value.AnyValue.{AnyValue}
 use Rattle.pipe_running.specs.declared.function.AggregateFunction.{AggregateFunction}
-use Rattle.pipe_plain.specs.Cells.{row_read}
-use Rattle.pipe_plain.specs.Running.{starts, StatesSeen, TakesFrom}
+use Rattle.pipe_inputs.specs.ChunkRows.{row_at}
+use Rattle.pipe_plain.specs.Running.{starts}
+use Rattle.pipe_running.specs.GroupStates.{StatesSeen, TakesFrom}
 use Rattle.pipe_plain.proofs.HoldFacts.{hold-seen, hold-takes, starts-hold}
 use Rattle.pipe_plain.proofs.groups.new_group.Goals as goal
 
@@ -15,6 +16,6 @@ feed-requires-clause-few c =
 pub feed-requires-clause-taken : goal.feed-requires-clause-taken
 feed-requires-clause-taken c =
     let fs : List AggregateFunction = c.args.prototypes.now in
-    let inputs : List AnyValue = (row_read c.args.lists.now c.args.place).inputs in
+    let inputs : List AnyValue = (row_at c.args.rows.now c.args.row).inputs in
     let S : List AggregateFunction → Type 0 = λ ss. TakesFrom 0 ss inputs in
-    rw c.deref-2.ensures.value (subst S (sym c.in_ok-states.ensures) (hold-takes 0 0 inputs fs (starts fs).states (starts-hold 0 fs) c.requires))
+    (subst S (sym c.in_ok-states.ensures) (hold-takes 0 0 inputs fs (starts fs).states (starts-hold 0 fs) c.requires.taken))

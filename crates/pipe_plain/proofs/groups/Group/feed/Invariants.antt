@@ -1,11 +1,11 @@
 use Rattle.std.proofs.Common.{◌≡◌, ◌++◌, take, drop}
-use Rattle.pipe_plain.specs.Cells.{cells}
-use Rattle.pipe_plain.specs.Running.{fed_from}
+use Rattle.pipe_inputs.specs.ChunkRows.{row_at}
+use Rattle.pipe_running.specs.GroupStates.{fed_from}
 use Rattle.pipe_plain.proofs.groups.Group.feed.Given as goal
 
 -- the states so far are fed, and the others as they were
 abbrev pub invariant-loop-j : goal.invariant-loop-j
-invariant-loop-j l = let inputs = cells l.inputs l.place.row in record {
+invariant-loop-j l = let inputs = (row_at l.rows l.row).inputs in record {
   key : l.self.key ≡ l.fn.self.key;
   first : l.self.first ≡ l.fn.self.first;
   left : drop l.j l.self.states.items ≡ drop l.j l.fn.self.states.items;

@@ -40,8 +40,8 @@ invariant_of-result c =
     let few : total_height taken + chunk.frame.height < 2 ^ 32 = rw same c.requires.few in
     let number : length taken + 1 < 2 ^ 32 = rw same c.requires.number in
     let rows : after ≡ with_rows (starts (prototypes q)) before (chunk_rows q (length taken) chunk.frame) =
-    c.in_ok-add_chunk.ensures ∙ ap (λ n. with_rows (starts (prototypes q)) before (chunk_rows q n chunk.frame)) (omega (arith, c.len-index.ensures, length-map c.self.inside.taken.items (λ s. s.value))) in
+    c.in_ok-add_chunk.ensures.rows ∙ ap (λ n. with_rows (starts (prototypes q)) before (chunk_rows q n chunk.frame)) (omega (arith, c.len-index.ensures, length-map c.self.inside.taken.items (λ s. s.value))) in
     let more : marked c.push.new.self.items ≡ taken ++ (chunk ∷ []) =
     ap marked c.in_ok-push.ensures.items ∙ map-append (λ s. s.value) c.self.inside.taken.items (c.of.result ∷ []) ∙ ap (λ (x : DataChunk). taken ++ (x ∷ [])) c.of.ensures in
     let T : List DataChunk → Type 0 = λ chunks. HasTaken q chunks after in
-    subst T (sym more) (taken_more q taken chunk before after c.self.invariant fits c.recall_types.ensures few number rows)
+    subst T (sym more) (taken_more q taken chunk before after c.self.invariant fits c.add_chunk.ensures.typed few number rows)

@@ -30,7 +30,7 @@ returns c =
     let kept : c.sliced.result.items ≡ sliced q.slice table = c.sliced.ensures ∙ ap (λ s. sliced s table) (c.slice.ensures ∙ ap (λ (x : Query). (query_tree x).slice) asked) in
     let rows : List (List AnyValue) = map (λ row. row.items) c.deref.result.now in
     let due : rows ≡ answer_rows q run.taken c.args.partitions =
-    kept_rows q run.taken c.args.partitions table c.sliced.result.items rows groupable has.chunks has.typed c.in_ok-groups.ensures kept
+    kept_rows q run.taken c.args.partitions table c.sliced.result.items rows groupable has.chunks has.chunks.typed c.in_ok-groups.ensures kept
     (ap (map (λ row. row.items)) c.deref.ensures.value ∙ c.in_ok-rows.ensures) in
     let fields : c.fields-fields.result.now ≡ output_schema q = c.fields-fields.ensures ∙ c.output_schema.ensures.schema ∙ ap (λ (x : Query). output_schema (query_tree x)) asked in
     let whole : FrameData = answer run.taken q c.args.partitions in
@@ -48,10 +48,10 @@ output_frame-requires c =
     let kept : c.sliced.result.items ≡ sliced q.slice table = c.sliced.ensures ∙ ap (λ s. sliced s table) (c.slice.ensures ∙ ap (λ (x : Query). (query_tree x).slice) asked) in
     let rows : List (List AnyValue) = map (λ row. row.items) c.deref.result.now in
     let due : rows ≡ answer_rows q run.taken c.args.partitions =
-    kept_rows q run.taken c.args.partitions table c.sliced.result.items rows groupable has.chunks has.typed c.in_ok-groups.ensures kept
+    kept_rows q run.taken c.args.partitions table c.sliced.result.items rows groupable has.chunks has.chunks.typed c.in_ok-groups.ensures kept
     (ap (map (λ row. row.items)) c.deref.ensures.value ∙ c.in_ok-rows.ensures) in
     let fields : c.fields-fields.result.now ≡ output_schema q = c.fields-fields.ensures ∙ c.output_schema.ensures.schema ∙ ap (λ (x : Query). output_schema (query_tree x)) asked in
     let F : List Field → Type 0 = λ fs. RowsFit fs (answer_rows q run.taken c.args.partitions) in
     let R : List (List AnyValue) → Type 0 = λ rs. RowsFit c.fields-fields.result.now rs in
     subst R (sym due) (subst F (sym fields)
-    (answer_rows-fit q run.taken c.args.partitions groupable has.chunks has.typed))
+    (answer_rows-fit q run.taken c.args.partitions groupable has.chunks has.chunks.typed))

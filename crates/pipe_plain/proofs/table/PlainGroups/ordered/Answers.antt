@@ -43,7 +43,7 @@ pub by_partition-requires-clause-typed : goal.by_partition-requires-clause-typed
 by_partition-requires-clause-typed c =
     let q : QueryTree = query_tree c.self.inside.query.now in
     let T : List DataType → Type 0 = λ ts. All (λ g. AreOfTypes ts g.key.items) c.self.inside.groups.items in
-    subst T (sym c.key_types.ensures) (table-typed q (map (λ s. s.value) c.self.inside.taken.items) c.self.inside.groups.items c.query.ensures.groupable c.self.invariant.chunks c.self.invariant.typed c.self.invariant.rows)
+    subst T (sym c.key_types.ensures) (table-typed q (map (λ s. s.value) c.self.inside.taken.items) c.self.inside.groups.items c.query.ensures.groupable c.self.invariant.chunks c.self.invariant.chunks.typed c.self.invariant.rows)
 
 pub returns : goal.returns
 returns c =
