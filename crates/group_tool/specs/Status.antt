@@ -23,14 +23,14 @@ status_line a status =
 abbrev pub is_status : ℕ → Bool
 is_status status =
     list_any (λ s. s == status)
-        (DONE ∷ QUERY_REFUSED ∷ INPUT_REFUSED ∷ INPUT_FAILED ∷ OUTPUT_FAILED ∷ TOO_LARGE
-        ∷ NO_MEMORY ∷ NOT_BUILT ∷ [])
+    (DONE ∷ QUERY_REFUSED ∷ INPUT_REFUSED ∷ INPUT_FAILED ∷ OUTPUT_FAILED ∷ TOO_LARGE
+    ∷ NO_MEMORY ∷ NOT_BUILT ∷ [])
 
 -- the statuses of faults that come before anything is written
 abbrev pub is_before_output : ℕ → Bool
 is_before_output status =
     list_any (λ s. s == status)
-        (QUERY_REFUSED ∷ INPUT_REFUSED ∷ INPUT_FAILED ∷ TOO_LARGE ∷ NOT_BUILT ∷ [])
+    (QUERY_REFUSED ∷ INPUT_REFUSED ∷ INPUT_FAILED ∷ TOO_LARGE ∷ NOT_BUILT ∷ [])
 
 -- a line was reported: whole where no write failed, and else a front of it
 pub record Reports (line : List ℕ) (before now : ℕ) (old new : Option (List ℕ)) : Type 0 where

@@ -7,7 +7,9 @@ ghost use Rattle.pipe_io.specs.Output.{WroteFront};
 ghost use Rattle.group_tool.specs.Asked.{faulty, refusal_line};
 ghost use Rattle.group_tool.specs.Faults.{fault_line, status_of};
 
-use crate::status::{INPUT_FAILED, INPUT_REFUSED, NOT_BUILT, NO_MEMORY, OUTPUT_FAILED, QUERY_REFUSED, TOO_LARGE};
+use crate::status::{
+    INPUT_FAILED, INPUT_REFUSED, NO_MEMORY, NOT_BUILT, OUTPUT_FAILED, QUERY_REFUSED, TOO_LARGE,
+};
 use pipe_aggs::QueryFault;
 use pipe_ends::{Output, OutputError, write_all};
 

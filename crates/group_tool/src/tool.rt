@@ -11,7 +11,10 @@ ghost use Rattle.group_tool.specs.declared.fault.ToolFault.TheVariants as fault;
 
 use crate::fault::{ToolFault, report};
 use crate::read::read_groups;
-use crate::status::{DONE, INPUT_FAILED, INPUT_REFUSED, NOT_BUILT, NO_MEMORY, OUTPUT_FAILED, QUERY_REFUSED, TOO_LARGE};
+use crate::status::{
+    DONE, INPUT_FAILED, INPUT_REFUSED, NO_MEMORY, NOT_BUILT, OUTPUT_FAILED, QUERY_REFUSED,
+    TOO_LARGE,
+};
 use crate::words::{checked_query, words_query};
 use pipe_aggs::Query;
 use pipe_columns::Text;
