@@ -1,5 +1,5 @@
 -- Of a run of values one alone matters to a first or last.
-use Rattle.std.proofs.Common.{◌≡◌, ◌∙◌, ℕ, suc, ◌+◌, ◌-◌, ◌<◌, Bool, true, false, List, [], ◌∷◌, length, ◌&&◌, Option, Some, None, IfSome, if◌then◌else◌, unwrap_or, get_or, refl, sym, ap, arith, rules}
+use Rattle.std.proofs.Common.{◌≡◌, ◌∙◌, ℕ, ◌+◌, ◌-◌, ◌<◌, Bool, true, false, List, [], ◌∷◌, length, ◌&&◌, Option, Some, None, IfSome, if◌then◌else◌, unwrap_or, get_or, refl, sym, ap, arith}
 use Rattle.std.specs.declared.cmp.Ordering.{Ordering}
 use Rattle.std.specs.declared.cmp.Ordering.TheVariants.{Less, Equal, Greater}
 use Rattle.std.specs.Bool.{then_some}

@@ -1,5 +1,5 @@
 -- Entries that a fresh running aggregate takes one by one.
-use Rattle.std.proofs.Common.{◌≡◌, ◌∙◌, ◌<◌, ◌^◌, Bool, true, List, [], ◌∷◌, ◌++◌, length, refl, sym, ap, subst, append_assoc, arith}
+use Rattle.std.proofs.Common.{◌≡◌, ◌∙◌, ◌<◌, ◌^◌, Bool, true, List, [], ◌∷◌, ◌++◌, length, sym, ap, subst, append_assoc, arith}
 use Rattle.std.specs.List.{list_all}
 use Rattle.std.proofs.lemmas.List.{append-nil}
 use Rattle.pipe_columns.specs.declared.any_value.AnyValue.{AnyValue}

@@ -55,8 +55,7 @@ run-takes j s ss (r ∷ rs) h = derive.both_true (All-head (TakesFrom j (s ∷ s
 stand-run : (chunk row j : ℕ) (rows : List (List AnyValue)) (ss : List AggregateFunction) (xs : Entries) → All (TakesFrom j ss) rows → StandFrom j ss xs → StandFrom j (run_from chunk row j rows ss) (xs ++ placed chunk row rows)
 stand-run chunk row j rows [] xs t h = tt
 stand-run chunk row j rows (s ∷ ss) xs t h =
-    let values : List AnyValue = map (λ inputs. value_at inputs j) rows in
-    (
+    let values : List AnyValue = map (λ inputs. value_at inputs j) rows in (
       subst (Stands (after_run after_value chunk row values s)) (sym (inputs_at-append j xs (placed chunk row rows) ∙ ap (λ (es : List (Place × AnyValue)). inputs_at j xs ++ es) (placed-inputs chunk row j rows)))
           (stands-run s (inputs_at j xs) chunk row values (run-takes j s ss rows t) h.0),
       stand-run chunk row (j + 1) rows ss xs (All-weaker (TakesFrom j (s ∷ ss)) (TakesFrom (j + 1) ss) (λ r k. k.1) rows t) h.1,

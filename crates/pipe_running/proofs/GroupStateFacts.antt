@@ -1,5 +1,5 @@
 -- What the running aggregates of a group and its least place stand for, and what they give.
-use Rattle.std.proofs.Common.{◌≡◌, ◌∙◌, ℕ, suc, ◌+◌, ◌<◌, ◌≤◌, ◌^◌, true, false, List, [], ◌∷◌, ◌++◌, length, map, Option, Some, None, option_map, refl, sym, ap, subst, arith}
+use Rattle.std.proofs.Common.{◌≡◌, ◌∙◌, ℕ, suc, ◌+◌, ◌<◌, ◌^◌, true, false, List, [], ◌∷◌, ◌++◌, length, map, Option, Some, None, option_map, refl, sym, ap, subst, arith}
 use Rattle.std.specs.Cmp.Derive as derive
 use Rattle.std.specs.List.{All, Contains, flat_map, list_all}
 use Rattle.std.specs.List.Sorted.{IsPermutation}

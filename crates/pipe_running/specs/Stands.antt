@@ -1,15 +1,13 @@
 -- What a running aggregate stands for: a list of placed values, in which places may repeat.
-use Rattle.std.specs.Prelude.{◌≡◌, ℕ, Bool, true, false, nat_lt, List, [], ◌∷◌, length, map, Option, Some, None, if◌then◌else◌, ⊤}
+use Rattle.std.specs.Prelude.{◌≡◌, ℕ, Bool, true, false, nat_lt, List, [], ◌∷◌, length, Option, Some, None, if◌then◌else◌, ⊤}
 use Rattle.std.specs.declared.cmp.Ordering.{Ordering}
-use Rattle.std.specs.List.{IsDistinct}
-use Rattle.std.specs.Ordering.{eq_by_cmp, flip_args}
+use Rattle.std.specs.Ordering.{flip_args}
 use Rattle.pipe_columns.specs.declared.any_value.AnyValue.{AnyValue}
 use Rattle.pipe_columns.specs.declared.any_value.AnyValue.TheVariants as av
 use Rattle.pipe_columns.specs.declared.data_type.DataType.{DataType}
 use Rattle.pipe_columns.specs.declared.data_type.DataType.TheVariants as dt
 use Rattle.pipe_columns.specs.declared.place.Place.{Place}
 use Rattle.pipe_columns.specs.AnyValue.{fits, value_cmp}
-use Rattle.pipe_columns.specs.Place.{place_cmp}
 use Rattle.pipe_native.specs.Native.{Native, native_i8, native_i16, native_i32, native_i64, native_u8, native_u16, native_u32, native_u64}
 use Rattle.pipe_running.specs.declared.interface.Finalized.{Finalized}
 use Rattle.pipe_running.specs.declared.interface.Finalized.TheVariants as finalized

@@ -1,4 +1,4 @@
-use Rattle.std.proofs.Common.{◌≤◌, ◌+◌, arith, refl}
+use Rattle.std.proofs.Common.{◌≤◌, ◌+◌, arith}
 use Rattle.pipe_columns.specs.declared.place.Place.{Place}
 use Rattle.pipe_running.specs.States.{after_value, seen}
 use Rattle.pipe_running.specs.StateLaws.{function_by_one}

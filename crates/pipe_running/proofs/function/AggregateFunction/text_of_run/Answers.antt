@@ -11,7 +11,7 @@ use Rattle.pipe_running.proofs.function.AggregateFunction.text_of_run.Goals.{in-
 pub returns-clause-alone : goal.returns-clause-alone
 returns-clause-alone c =
     let at : c.match-self.index ≡ end_of_run c.args.values.now c.args.self.now = elim c.match-self.branch [
-      in-First w ↦ search rules
+      | in-First w ↦ search rules
       | in-Last w ↦ search rules
     ] in
     let is : c.then_some.result ≡ text_of_run c.args.chunk c.args.first_row c.args.values.now c.args.self.now =
