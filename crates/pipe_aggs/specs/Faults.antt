@@ -21,6 +21,7 @@ abbrev pub has_double : List (List ℕ) → Bool
 has_double [] = false
 has_double (n ∷ ns) = list_any (λ m. bytes_eq m n) ns || has_double ns
 
+-- the names of fields
 abbrev pub field_names : List Field → List (List ℕ)
 field_names fields = map (λ f. f.name) fields
 
@@ -32,13 +33,17 @@ has_nodes q = list_all (λ n. nat_lt n.0 (length q.arena)) (q.keys.items ++ q.ag
 abbrev pub all_written : (Expr → Bool) → WrittenQuery → Bool
 all_written test q = list_all test (q.keys ++ q.aggs)
 
+-- the same of a query
 abbrev pub all_exprs : (Expr → Bool) → Query → Bool
 all_exprs test q = all_written test (written q)
 
 -- whether a query has types: its inputs have no field of 128 bits, and each expression has a type
 abbrev pub has_types : WrittenQuery → Bool
-has_types q = list_all (λ f. is_input f.dtype) q.schema && all_written (λ e. is_some (type_of e q.schema)) q
+has_types q =
+    list_all (λ f. is_input f.dtype) q.schema
+    && all_written (λ e. is_some (type_of e q.schema)) q
 
+-- the same of a query
 abbrev pub is_typed : Query → Bool
 is_typed q = has_types (written q)
 
@@ -59,11 +64,13 @@ abbrev pub adds_dates : List Field → Expr → Bool
 adds_dates schema (expr.aggregate a e) = adds a && is_date (known_type e schema)
 adds_dates schema e = false
 
+-- whether a slice begins below the first group
 abbrev pub is_negative_slice : Option (ℤ × ℕ) → Bool
 is_negative_slice None = false
 is_negative_slice (Some s) = int_lt s.0 (pos 0)
 
--- the faults in their order, and whether a query has each, where all its nodes are in the arena or not
+-- the faults in their order, and whether a query has each; whether all its nodes are in an arena is
+-- told
 abbrev pub faults_of : Bool → WrittenQuery → List (QueryFault × Bool)
 faults_of nodes q =
     (fault.DoubleName, has_double (field_names q.schema))
@@ -77,13 +84,18 @@ faults_of nodes q =
     ∷ (fault.DoubleOutput, has_double (field_names (output_schema (written_tree q))))
     ∷ (fault.NegativeSlice, is_negative_slice q.slice) ∷ []
 
+-- the first of some faults that is there
 abbrev pub first_of : List (QueryFault × Bool) → Option QueryFault
 first_of all = option_map (λ f. f.0) (find (λ f. f.1) all)
 
+-- the first fault of a query, whose nodes are all in an arena or not
+abbrev pub fault_of : Bool → WrittenQuery → Option QueryFault
+fault_of nodes q = first_of (faults_of nodes q)
+
 -- the first fault of a query
 abbrev pub first_fault : Query → Option QueryFault
-first_fault q = first_of (faults_of (has_nodes q) (written q))
+first_fault q = fault_of (has_nodes q) (written q)
 
 -- the first fault of a query whose nodes are all in its arena
 abbrev pub written_fault : WrittenQuery → Option QueryFault
-written_fault q = first_of (faults_of true q)
+written_fault q = fault_of true q

@@ -17,7 +17,7 @@ use Rattle.pipe_model.specs.Output.{input_type}
 use Rattle.pipe_model.specs.Query.{each, Input, QueryTree, rows_alone}
 use Rattle.pipe_exprs.specs.Trees.{tree}
 
--- a null of a type: what stands where there is no number to add up
+-- a null of a type, where a kind has no running aggregate over it
 abbrev pub null_function : DataType → AggregateFunction
 null_function t = function.Null (record { 0 = t })
 

@@ -1,4 +1,4 @@
--- What is read off an arena's expressions, by what is known of their nodes.
+-- Of the proofs alone: what is read off an arena's expressions, by what is known of their nodes.
 use Rattle.std.specs.Prelude.{◌≡◌, Bool, true, false, ◌&&◌, List, Option, Some, None, map, unwrap_or}
 use Rattle.pipe_columns.specs.declared.data_type.DataType.{DataType}
 use Rattle.pipe_columns.specs.declared.data_type.DataType.TheVariants as dt

@@ -3,3 +3,4 @@ pub mod Faults
 pub mod KnownArena
 pub mod CheckedQuery
 pub mod HashAggs
+pub mod Worked

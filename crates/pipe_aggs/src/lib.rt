@@ -12,7 +12,7 @@ mod output;
 mod query;
 mod query_fault;
 mod sound;
-mod worked_aggs;
+mod worked;
 
 pub use check::CheckError;
 pub use checked_query::CheckedQuery;

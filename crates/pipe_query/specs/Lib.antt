@@ -3,3 +3,4 @@ pub mod JsonNames
 pub mod ExprJson
 pub mod Flat
 pub mod QueryJson
+pub mod Worked
