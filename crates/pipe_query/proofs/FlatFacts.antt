@@ -9,7 +9,8 @@ use Rattle.pipe_model.specs.Expr as expr
 use Rattle.pipe_query.specs.declared.json_names.Over.{Over}
 use Rattle.pipe_query.specs.declared.json_names.Over.TheVariants as over
 use Rattle.pipe_query.specs.ExprJson.{over_expr}
-use Rattle.pipe_query.specs.Flat.{flat, IsAdded, node, over_ax, root, root_node}
+use Rattle.pipe_query.specs.Added.{IsAdded, over_ax}
+use Rattle.pipe_query.specs.Flat.{flat, node, root, root_node}
 
 -- a tree's nodes end at its root
 pub grown : (n : ℕ) (e : Expr) → n + length (flat n e) ≡ root n e + 1

@@ -10,7 +10,8 @@ use Rattle.pipe_exprs.specs.declared.expression.AExpr.{AExpr}
 use Rattle.pipe_exprs.specs.declared.expression.Node.{Node}
 use Rattle.pipe_model.specs.Expr.{Expr}
 use Rattle.pipe_query.specs.ExprJson.{expr_of, exprs_of}
-use Rattle.pipe_query.specs.Flat.{AreAdded, IsAdded, root}
+use Rattle.pipe_query.specs.Added.{AreAdded, IsAdded}
+use Rattle.pipe_query.specs.Flat.{root}
 use Rattle.pipe_query.proofs.FlatFacts.{length_with}
 
 -- what an expression and then those of a list add

@@ -1,7 +1,8 @@
 -- The parts of lists and objects, and how deep they are.
 use Rattle.std.proofs.Common.{◌≡◌, ◌<◌, ℕ, IfSome, Some, List, option_map, option_and_then, refl, arith}
 use Rattle.serde_json.specs.Data.{Data, null, boolean, number, string, array, object, no_items, item, no_members, member, depth}
-use Rattle.pipe_query.specs.JsonShapes.{pair_of, sole_of, triple_of}
+use Rattle.pipe_query.specs.OtherShapes.{sole_of, triple_of}
+use Rattle.pipe_query.specs.JsonShapes.{pair_of}
 use Rattle.pipe_query.specs.declared.json_names.Form.{Form}
 use Rattle.pipe_query.specs.JsonNames.{form_named}
 use Rattle.pipe_query.specs.ExprJson.{expr_of, formed, part_of, parts_of, three_parts, two_parts}

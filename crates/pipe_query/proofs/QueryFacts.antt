@@ -7,7 +7,8 @@ use Rattle.pipe_exprs.specs.declared.expression.AExpr.{AExpr}
 use Rattle.pipe_exprs.specs.declared.expression.Node.{Node}
 use Rattle.pipe_model.specs.Expr.{Expr}
 use Rattle.pipe_exprs.specs.Trees.{tree}
-use Rattle.pipe_query.specs.Flat.{AreAdded, flat, flat_all, root, roots}
+use Rattle.pipe_query.specs.Added.{AreAdded}
+use Rattle.pipe_query.specs.Flat.{flat, flat_all, root, roots}
 use Rattle.pipe_query.proofs.FlatFacts.{grown, lt_true}
 use Rattle.pipe_query.proofs.FlatTrees.{all_trees}
 

@@ -3,7 +3,8 @@ use Rattle.std.proofs.Common.{◌≡◌, ◌≢◌, ◌+◌, ℕ, None, Some, Li
 use Rattle.std.proofs.lemmas.Option.{same_Some}
 use Rattle.serde_json.specs.View.{items_view, members_view, view}
 use Rattle.serde_json.specs.declared.value.Value.{Value}
-use Rattle.pipe_query.specs.JsonShapes.{member_count, sole_member, two_items, three_items}
+use Rattle.pipe_query.specs.OtherShapes.{sole_member, three_items}
+use Rattle.pipe_query.specs.JsonShapes.{member_count, two_items}
 
 -- an object has as many members as its map entries
 pub member_count_of : (es : List (String Global × Value)) → member_count (members_view es) ≡ length es

@@ -56,6 +56,7 @@ three_parts (a ∷ b ∷ []) = None
 three_parts (a ∷ b ∷ c ∷ []) = Some (a, b, c)
 three_parts (a ∷ b ∷ c ∷ d ∷ more) = None
 
+-- a text, as a column's name
 abbrev pub column_of : Data → Option Expr
 column_of d = option_map expr.column (as_str d)
 
@@ -98,8 +99,11 @@ alias_of pair =
 
 -- an expression and a condition
 abbrev pub filter_of : Option (Part × Part) → Option Expr
-filter_of pair = option_and_then (λ p. option_and_then (λ e. option_map (expr.filter e) p.1.expr) p.0.expr) pair
+filter_of pair =
+    option_and_then (λ p.
+    option_and_then (λ e. option_map (expr.filter e) p.1.expr) p.0.expr) pair
 
+-- a null, as the number of rows
 abbrev pub length_of : Data → Option Expr
 length_of d = option_map (λ nothing. expr.len) (as_null d)
 
@@ -117,7 +121,8 @@ over_expr over.Median e = expr.aggregate expr.median e
 over_expr over.NUnique e = expr.aggregate expr.n_unique e
 over_expr over.Sort e = expr.sort e
 
--- the expression of a form, over a value, the expression that it is and the parts that it has
+-- the expression that a member of a form is: its value is given, with the expression that the value
+-- is, if it is one, and the parts of a list
 abbrev pub formed : Form → Data → Option Expr → List Part → Option Expr
 formed form.Col d e parts = column_of d
 formed form.Lit d e parts = literal_of (pair_of d)
@@ -133,6 +138,7 @@ formed (form.Of o) d e parts = option_map (over_expr o) e
 
 -- a text is a column, and an object of one member has that member's form
 abbrev mutual
+  -- the expression that a value is
   pub expr_of : Data → Option Expr
   expr_of null = None
   expr_of (boolean b) = None
@@ -141,12 +147,14 @@ abbrev mutual
   expr_of (array ds) = None
   expr_of (object ms) = sole_expr ms
 
+  -- that of an object's one member
   pub sole_expr : Members → Option Expr
   sole_expr no_members = None
   sole_expr (member name d no_members) =
       option_and_then (λ f. formed f d (expr_of d) (parts_of d)) (form_named name)
   sole_expr (member name d (member k e ms)) = None
 
+  -- the parts of a list, none for any other value
   pub parts_of : Data → List Part
   parts_of null = []
   parts_of (boolean b) = []
@@ -155,6 +163,7 @@ abbrev mutual
   parts_of (array ds) = item_parts ds
   parts_of (object ms) = []
 
+  -- a part for each item
   pub item_parts : Items → List Part
   item_parts no_items = []
   item_parts (item d ds) = record { json = d; expr = expr_of d } ∷ item_parts ds

@@ -1,7 +1,5 @@
 -- Trees as the nodes of an arena: children first, from left to right.
-use Rattle.std.specs.Prelude.{true, false, ◌≡◌, ◌+◌, ◌++◌, ℕ, List, [], ◌∷◌, length, Option, Some, None, ⊤}
-use Rattle.pipe_query.specs.declared.json_names.Over.{Over}
-use Rattle.pipe_query.specs.declared.json_names.Over.TheVariants as over
+use Rattle.std.specs.Prelude.{◌≡◌, ◌+◌, ◌++◌, ℕ, List, [], ◌∷◌, length}
 use Rattle.pipe_exprs.specs.declared.expression.Node.{Node}
 use Rattle.pipe_exprs.specs.declared.expression.AExpr.{AExpr}
 use Rattle.pipe_exprs.specs.declared.expression.AExpr.TheVariants as ax
@@ -25,6 +23,7 @@ root n expr.len = n
 root n (expr.filter e by) = root (root n e + 1) by + 1
 root n (expr.sort e) = root n e + 1
 
+-- the node at a place
 abbrev pub node : ℕ → Node
 node n = record { 0 = n }
 
@@ -54,7 +53,8 @@ flat n (expr.binary l o r) =
     ++ ax.BinaryExpr (root_node n l) o (root_node (root n l + 1) r) ∷ []
 flat n (expr.ternary p t f) =
     flat n p ++ flat (root n p + 1) t ++ flat (root (root n p + 1) t + 1) f
-    ++ ax.Ternary (root_node n p) (root_node (root n p + 1) t) (root_node (root (root n p + 1) t + 1) f) ∷ []
+    ++ ax.Ternary (root_node n p) (root_node (root n p + 1) t)
+        (root_node (root (root n p + 1) t + 1) f) ∷ []
 flat n (expr.alias e name) = flat n e ++ ax.Alias (root_node n e) name ∷ []
 flat n (expr.aggregate a e) = flat n e ++ ax.Agg (agg_node a (root_node n e)) ∷ []
 flat n expr.len = ax.Len ∷ []
@@ -68,41 +68,10 @@ abbrev pub flat_all : ℕ → List Expr → List AExpr
 flat_all n [] = []
 flat_all n (e ∷ es) = flat n e ++ flat_all (root n e + 1) es
 
--- their roots
+-- the roots of some trees
 abbrev pub roots : ℕ → List Expr → List Node
 roots n [] = []
 roots n (e ∷ es) = root_node n e ∷ roots (root n e + 1) es
-
--- what is made of one node
-abbrev pub over_ax : Over → Node → AExpr
-over_ax over.Sum n = ax.Agg (ir.Sum n)
-over_ax over.First n = ax.Agg (ir.First n)
-over_ax over.Last n = ax.Agg (ir.Last n)
-over_ax over.Mean n = ax.Agg (ir.Mean n)
-over_ax over.Min n = ax.Agg (ir.Min n false)
-over_ax over.Max n = ax.Agg (ir.Max n false)
-over_ax over.Count n = ax.Agg (ir.Count n false)
-over_ax over.CountAll n = ax.Agg (ir.Count n true)
-over_ax over.Median n = ax.Agg (ir.Median n)
-over_ax over.NUnique n = ax.Agg (ir.NUnique n)
-over_ax over.Sort n = ax.Sort n
-
--- where an expression is one, an arena grew by its nodes, and the node is its root; and there is a
--- node exactly where there is an expression
-abbrev pub IsAdded : Option Expr → List AExpr → List AExpr → Option Node → Type 0
-IsAdded None old new None = ⊤
-IsAdded None old new (Some n) = ⊥
-IsAdded (Some e) old new None = ⊥
-IsAdded (Some e) old new (Some n) =
-    (new ≡ old ++ flat (length old) e) × (n ≡ root_node (length old) e)
-
--- the same of the expressions of a list
-abbrev pub AreAdded : Option (List Expr) → List AExpr → List AExpr → Option (List Node) → Type 0
-AreAdded None old new None = ⊤
-AreAdded None old new (Some ns) = ⊥
-AreAdded (Some es) old new None = ⊥
-AreAdded (Some es) old new (Some ns) =
-    (new ≡ old ++ flat_all (length old) es) × (ns ≡ roots (length old) es)
 
 -- a query's arena is the list of the nodes of its keys and of its aggregates, and names their roots
 pub record IsFlat (q : Query) : Type 0 where

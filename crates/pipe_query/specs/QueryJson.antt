@@ -17,6 +17,7 @@ field_of d =
     (as_str p.0))
     (pair_of d)
 
+-- the fields that a list's items are
 abbrev pub fields_of : Items → Option (List Field)
 fields_of no_items = Some []
 fields_of (item d ds) = option_and_then (λ f. option_map (λ fs. f ∷ fs) (fields_of ds)) (field_of d)
@@ -27,7 +28,8 @@ some_fields fields = if length fields == 0 then None else Some fields
 
 -- a list of at least one field
 abbrev pub schema_of : Option Data → Option (List Field)
-schema_of member = option_and_then some_fields (option_and_then fields_of (option_and_then as_array member))
+schema_of member =
+    option_and_then some_fields (option_and_then fields_of (option_and_then as_array member))
 
 -- a list of expressions
 abbrev pub list_of : Option Data → Option (List Expr)
@@ -59,9 +61,11 @@ present (Some d) = 1
 
 -- whether an object has three members beside the two that it may have, and no other
 abbrev pub has_query_members : Data → Bool
-has_query_members d = has_members (3 + present (get (codes "slice") d) + present (get (codes "maintain_order") d)) d
+has_query_members d =
+    has_members (3 + present (get (codes "slice") d) + present (get (codes "maintain_order") d)) d
 
--- an object with the members `schema`, `keys` and `aggs`, and `slice` and `maintain_order` if wanted
+-- an object with the members `schema`, `keys` and `aggs`, and with `slice` and `maintain_order` if
+-- wanted
 abbrev pub query_of : Data → Option WrittenQuery
 query_of d =
     if has_query_members d then
@@ -69,7 +73,13 @@ query_of d =
     option_and_then (λ keys.
     option_and_then (λ aggs.
     option_and_then (λ slice.
-    option_map (λ order. record { schema = schema; keys = keys; aggs = aggs; slice = slice; keeps_order = order })
+    option_map (λ order. record {
+      schema = schema;
+      keys = keys;
+      aggs = aggs;
+      slice = slice;
+      keeps_order = order;
+    })
     (order_of (get (codes "maintain_order") d)))
     (slice_of (get (codes "slice") d)))
     (list_of (get (codes "aggs") d)))

@@ -3,7 +3,7 @@
 ghost use Rattle.std.specs.Prelude.{◌≡◌, IfOk, option_map};
 ghost use Rattle.serde_json.specs.View.{view};
 ghost use Rattle.pipe_query.specs.ExprJson.{alias_of, binary_of, cast_of, expr_of, filter_of, over_expr, parts_of, ternary_of, three_parts, two_parts};
-ghost use Rattle.pipe_query.specs.Flat.{IsAdded, over_ax};
+ghost use Rattle.pipe_query.specs.Added.{IsAdded, over_ax};
 
 use crate::json_names::{Form, Over, form_named};
 use crate::json_shapes::{pair, sole_member, triple};

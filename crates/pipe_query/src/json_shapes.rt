@@ -5,6 +5,7 @@ ghost use Rattle.serde_json.specs.Data.{depth};
 ghost use Rattle.serde_json.specs.View.{view};
 ghost use Rattle.pipe_query.specs.ExprJson.{part_of, parts_of, three_parts, two_parts};
 ghost use Rattle.pipe_query.specs.JsonShapes as spec;
+ghost use Rattle.pipe_query.specs.OtherShapes as other;
 
 use serde_json::Value;
 
@@ -22,7 +23,7 @@ pub fn has_members(json: &Value, count: usize) -> bool
 /// The name and the value of the member of an object that has no other.
 #[tactic(auto, using(crate::proofs::Shapes::not_sole, crate::proofs::Shapes::one_member, crate::proofs::PartFacts::sole_deeper))]
 pub fn sole_member(json: &Value) -> Option<(&str, &Value)>
-    ensures sole { option_map (λ m. (m.0.now, view m.1.now)) result ≡ spec.sole_of (view json.now) }
+    ensures sole { option_map (λ m. (m.0.now, view m.1.now)) result ≡ other.sole_of (view json.now) }
     ensures inner { IfSome result (λ m. depth (view m.1.now) < depth (view json.now)) }
 {
     let members = json.as_object()?;
@@ -55,7 +56,7 @@ pub fn pair(json: &Value) -> Option<(&Value, &Value)>
 #[tactic(auto, using(crate::proofs::Shapes::not_three, crate::proofs::PartFacts::three_parts_of, crate::proofs::PartFacts::three_deeper))]
 pub fn triple(json: &Value) -> Option<(&Value, &Value, &Value)>
     ensures items { option_map (λ p. (view p.0.now, view p.1.now, view p.2.now)) result
-        ≡ spec.triple_of (view json.now) }
+        ≡ other.triple_of (view json.now) }
     ensures parts { option_map
         (λ p. (part_of (view p.0.now), part_of (view p.1.now), part_of (view p.2.now))) result
         ≡ three_parts (parts_of (view json.now)) }

@@ -4,7 +4,8 @@ ghost use Rattle.std.specs.Prelude.{◌≡◌, ◌++◌, ◌∷◌, [], true, le
 ghost use Rattle.serde_json.specs.View.{view};
 ghost use Rattle.pipe_exprs.specs.Trees.{children_below};
 ghost use Rattle.pipe_query.specs.ExprJson.{column_of, length_of, literal_of, operator_of, type_of_name, value_of};
-ghost use Rattle.pipe_query.specs.Flat.{IsAdded, node};
+ghost use Rattle.pipe_query.specs.Added.{IsAdded};
+ghost use Rattle.pipe_query.specs.Flat.{node};
 ghost use Rattle.pipe_query.specs.JsonShapes.{pair_of};
 
 use crate::json_names::{sign_named, type_named};

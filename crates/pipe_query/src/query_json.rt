@@ -6,7 +6,8 @@ ghost use Rattle.serde_json.specs.View.{items_view, view};
 ghost use Rattle.pipe_aggs.specs.Faults.{has_nodes};
 ghost use Rattle.pipe_aggs.specs.QueryTrees.{written};
 ghost use Rattle.pipe_query.specs.ExprJson.{exprs_of};
-ghost use Rattle.pipe_query.specs.Flat.{AreAdded, IsFlat};
+ghost use Rattle.pipe_query.specs.Added.{AreAdded};
+ghost use Rattle.pipe_query.specs.Flat.{IsFlat};
 ghost use Rattle.pipe_query.specs.QueryJson as spec;
 
 use crate::expr_json::add_expr;

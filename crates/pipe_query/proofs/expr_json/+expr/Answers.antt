@@ -5,7 +5,7 @@ use Rattle.pipe_exprs.specs.declared.expression.AExpr.TheVariants as ax
 use Rattle.pipe_model.specs.Expr as expr
 use Rattle.pipe_query.specs.declared.json_names.Form.TheVariants as form
 use Rattle.pipe_query.specs.ExprJson.{expr_of, over_expr, part_of, parts_of, three_parts, two_parts, operator_of, type_of_name}
-use Rattle.pipe_query.specs.Flat.{IsAdded, over_ax}
+use Rattle.pipe_query.specs.Added.{IsAdded, over_ax}
 use Rattle.pipe_query.proofs.FlatFacts.{one_added, one_below, over_below, over_nodes, over_root, three_added, three_below, two_added, two_below}
 use Rattle.pipe_query.proofs.PartFacts.{formed_by}
 use Rattle.pipe_query.proofs.expr_json.+expr.Goals as goal

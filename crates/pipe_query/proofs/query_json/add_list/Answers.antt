@@ -1,7 +1,7 @@
 use Rattle.std.proofs.Common.{rules, arith, Some, None, length, ◌≤◌}
 use Rattle.serde_json.specs.View.{view}
 use Rattle.pipe_query.specs.ExprJson.{expr_of}
-use Rattle.pipe_query.specs.Flat.{IsAdded}
+use Rattle.pipe_query.specs.Added.{IsAdded}
 use Rattle.pipe_query.proofs.ListFacts.{adding_all, adding_more, adding_none}
 use Rattle.pipe_query.proofs.query_json.add_list.Goals as goal
 

@@ -3,7 +3,7 @@ use Rattle.serde_json.specs.Find.{get}
 use Rattle.serde_json.specs.View.{view}
 use Rattle.pipe_model.specs.Expr.{Expr}
 use Rattle.pipe_exprs.specs.Trees.{tree}
-use Rattle.pipe_query.specs.Flat.{AreAdded}
+use Rattle.pipe_query.specs.Added.{AreAdded}
 use Rattle.pipe_query.specs.QueryJson.{has_query_members, list_of, order_of, schema_of, slice_of}
 use Rattle.pipe_query.proofs.QueryFacts.{first_list, flat_lists, nodes_there, second_list}
 use Rattle.pipe_query.proofs.query_json.query_of.Goals as goal
