@@ -1,5 +1,6 @@
 -- A query without fault can be grouped.
 use Rattle.std.proofs.Common.{◌≡◌, ◌&&◌, ◌||◌, ◌++◌, Bool, true, false, not, List, [], ◌∷◌, Option, Some, None, map, if◌then◌else◌, refl, ap}
+use Rattle.std.proofs.lemmas.Bool.{and_parts}
 use Rattle.std.specs.Prelude.{is_some, option_and_then, unwrap_or}
 use Rattle.std.specs.List.{list_all, list_any}
 use Rattle.pipe_columns.specs.declared.data_type.DataType.{DataType}
@@ -17,7 +18,6 @@ use Rattle.pipe_aggs.specs.QueryTrees.{agg_exprs, key_exprs, query_tree}
 use Rattle.pipe_model.specs.WrittenTree.{agg_named, agg_tree, kept_kind}
 use Rattle.pipe_model.specs.Typing.{aggregate_type, is_row_wise, type_of}
 use Rattle.pipe_columns.specs.DataType.{is_date, is_input}
-use Rattle.pipe_exprs.proofs.FitFacts.{both_true}
 
 both_hold : (a b : Bool) → a ≡ true → b ≡ true → (a && b) ≡ true
 both_hold true b e f = f
@@ -46,8 +46,8 @@ suited-by expr.first t i k d = refl
 suited-by expr.last t i k d = refl
 suited-by expr.mean t i k d = both_hold (is_input t) (not (is_date t)) i (ap not d)
 suited-by (expr.count include_nulls) t i k d = refl
-suited-by (expr.min propagate_nans) t i k d = (both_true (not propagate_nans) (is_some_integer (Some t)) k).1
-suited-by (expr.max propagate_nans) t i k d = (both_true (not propagate_nans) (is_some_integer (Some t)) k).1
+suited-by (expr.min propagate_nans) t i k d = (and_parts (not propagate_nans) (is_some_integer (Some t)) k).1
+suited-by (expr.max propagate_nans) t i k d = (and_parts (not propagate_nans) (is_some_integer (Some t)) k).1
 suited-by expr.median t i k d = cc k
 suited-by expr.n_unique t i k d = cc k
 
@@ -64,7 +64,7 @@ aggregate-usable : (schema : List Field) (name : List _) (a : Aggregation) (e : 
     → (adds a && is_date (unwrap_or o dt.UInt32)) ≡ false → IsUsable schema (agg_named name (expr.aggregate a e))
 aggregate-usable schema name a e None o k s d = cc s
 aggregate-usable schema name a e (Some t) o k s d =
-    let parts = both_true (is_row_wise e) (keeps a (Some t)) k in
+    let parts = and_parts (is_row_wise e) (keeps a (Some t)) k in
     let input : is_input t ≡ true = by_test (is_input t) s in
     record {
       fed = both_hold (is_row_wise e) (is_some (type_of e schema)) parts.0 (rw o refl);
@@ -96,18 +96,18 @@ usable schema e k s d = kept-usable schema (name_of e) (unaliased e) k (rw (← 
 all-front : {X : Type 0} (test : X → Bool) (xs ys : List X) → list_all test (xs ++ ys) ≡ true → list_all test xs ≡ true
 all-front test [] ys h = refl
 all-front test (x ∷ xs) ys h =
-    let parts = both_true (test x) (list_all test (xs ++ ys)) h in
+    let parts = and_parts (test x) (list_all test (xs ++ ys)) h in
     both_hold (test x) (list_all test xs) parts.0 (all-front test xs ys parts.1)
 
 all-back : {X : Type 0} (test : X → Bool) (xs ys : List X) → list_all test (xs ++ ys) ≡ true → list_all test ys ≡ true
 all-back test [] ys h = h
-all-back test (x ∷ xs) ys h = all-back test xs ys (both_true (test x) (list_all test (xs ++ ys)) h).1
+all-back test (x ∷ xs) ys h = all-back test xs ys (and_parts (test x) (list_all test (xs ++ ys)) h).1
 
 all-both : {X : Type 0} (a b : X → Bool) (xs : List X) → list_all a xs ≡ true → list_all b xs ≡ true → list_all (λ x. a x && b x) xs ≡ true
 all-both a b [] h k = refl
 all-both a b (x ∷ xs) h k =
-    let left = both_true (a x) (list_all a xs) h in
-    let right = both_true (b x) (list_all b xs) k in
+    let left = and_parts (a x) (list_all a xs) h in
+    let right = and_parts (b x) (list_all b xs) k in
     both_hold (a x && b x) (list_all (λ x. a x && b x) xs) (both_hold (a x) (b x) left.0 right.0) (all-both a b xs left.1 right.1)
 
 none_of : (a b : Bool) → (a || b) ≡ false → (a ≡ false) × (b ≡ false)
@@ -119,8 +119,8 @@ all-usable : (schema : List Field) (es : List Expr) → list_all (λ e. converti
     → (list_all (λ a. is_fed schema a.input) (map agg_tree es) ≡ true) × (list_all (is_suited schema) (map agg_tree es) ≡ true)
 all-usable schema [] k s d = (refl, refl)
 all-usable schema (e ∷ es) k s d =
-    let kept = both_true (convertible e schema) (list_all (λ x. convertible x schema) es) k in
-    let typed = both_true (is_some (type_of e schema)) (list_all (λ x. is_some (type_of x schema)) es) s in
+    let kept = and_parts (convertible e schema) (list_all (λ x. convertible x schema) es) k in
+    let typed = and_parts (is_some (type_of e schema)) (list_all (λ x. is_some (type_of x schema)) es) s in
     let dateless = none_of (adds_dates schema (unaliased e)) (list_any (λ x. adds_dates schema (unaliased x)) es) d in
     let here = usable schema e kept.0 typed.0 dateless.0 in
     let rest = all-usable schema es kept.1 typed.1 dateless.1 in
@@ -131,7 +131,7 @@ all-usable schema (e ∷ es) k s d =
 pub groupable_of : (q : Query) → IsSound q → IsGroupable (query_tree q)
 groupable_of q s =
     let types : all_exprs (λ e. is_some (type_of e q.schema)) q ≡ true =
-    (both_true (list_all (λ f. is_input f.dtype) q.schema) (all_exprs (λ e. is_some (type_of e q.schema)) q) s.typed).1 in
+    (and_parts (list_all (λ f. is_input f.dtype) q.schema) (all_exprs (λ e. is_some (type_of e q.schema)) q) s.typed).1 in
     let keys = all-front (λ e. is_some (type_of e q.schema)) (key_exprs q) (agg_exprs q) types in
     let aggs = all-back (λ e. is_some (type_of e q.schema)) (key_exprs q) (agg_exprs q) types in
     let usable = all-usable q.schema (agg_exprs q) s.kept aggs s.dateless in

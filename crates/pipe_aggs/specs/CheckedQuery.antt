@@ -21,8 +21,8 @@ pub record HasShape (q : Query) : Type 0 where
   pub keyed : (length q.keys.items == 0) ≡ false
   pub there : has_nodes q ≡ true
 
--- the expressions of a query have types, and literals in UTF-8; its keys have a value in each row, and
--- its aggregates are convertible and add no dates up
+-- the expressions of a query have types, and literals in UTF-8; its keys have a value in each row,
+-- and its aggregates are convertible and add no dates up
 pub record IsSound (q : Query) : Type 0 where
   pub known : all_exprs (λ e. knows_columns e q.schema) q ≡ true
   pub typed : is_typed q ≡ true
@@ -35,8 +35,8 @@ pub record IsSound (q : Query) : Type 0 where
 abbrev pub input_types : QueryTree → List DataType
 input_types q = map (λ a. input_type q.schema a.input) q.aggs
 
--- a query has no fault, and its literals are in UTF-8; these are its output columns, the types of its keys and of its inputs, what
--- its aggregates are fed, and its running aggregates before any row
+-- a query has no fault, and literals in UTF-8; these are its output columns, the types of its keys
+-- and of its inputs, what its aggregates are fed, and its running aggregates before any row
 pub record IsChecked (q : Query) (output : List Field) (keys inputs : List DataType)
     (fed : List AggInput) (functions : List AggregateFunction) : Type 0 where
   pub faultless : first_fault q ≡ None

@@ -30,12 +30,14 @@ sum_and_count = record {
   keeps_order = false;
 }
 
--- the same with other fields, with other keys, and with other aggregates
+-- the same with other fields
 abbrev pub with_fields : List Field → WrittenQuery
 with_fields fields = record sum_and_count { schema = fields }
 
+-- the same with other keys
 abbrev pub with_keys : List Expr → WrittenQuery
 with_keys keys = record sum_and_count { keys = keys }
 
+-- the same with other aggregates
 abbrev pub with_aggs : List Expr → WrittenQuery
 with_aggs aggs = record sum_and_count { aggs = aggs }

@@ -18,15 +18,16 @@ use pipe_running::{
 };
 use std::alloc::{AllocError, Global};
 
-/// What an aggregate is fed in each row: the value of an expression, or a null that stands for the row.
+/// What an aggregate is fed in each row: the value of an expression, or a null that stands for the
+/// row.
 #[derive(Drop)]
 pub enum AggInput {
     Expr(PipedExpr),
     Len(Len),
 }
 
-/// An aggregate that a table of groups can keep: the type of what it is fed, what it is fed, and its
-/// running aggregate before any row.
+/// An aggregate that a table of groups can keep: the type of what it is fed, what it is fed, and
+/// its running aggregate before any row.
 #[derive(Drop)]
 pub struct HashAgg {
     pub input_dtype: DataType,

@@ -1,6 +1,7 @@
-//! Calls that want memory. `rt try --test --fail-alloc N` refuses the allocation of number N: a test then
-//! fails by an error that says what `wants memory`, or by that of an allocation that prepared the call.
-//! `scripts/refuse_allocations.py pipe_aggs` tries each number, and says what each test ended with.
+//! Calls that want memory. `rt try --test --fail-alloc N` refuses the allocation of number N: a
+//! test then fails by an error that says what `wants memory`, or by that of an allocation that
+//! prepared the call. `scripts/refuse_allocations.py pipe_aggs` tries each number, and says what
+//! each test ended with.
 
 use crate::known::Known;
 use crate::tests::{arena_of, query_of, schema_of};

@@ -1,3 +1,5 @@
+//! Aggregates that are kept, fields, and faults of queries.
+
 use crate::{
     AExpr, AddError, Arena, CheckError, IRAggExpr, Node, Operator, Query, QueryFault, TypeFault,
     can_convert_to_hash_agg, to_field,

@@ -45,8 +45,8 @@ pub fn worked_faults()
     ensures wide_field { fault_of true (with_fields (k_and_v dt.Int64 dt.Int128))
         ≡ Some fault.IllTyped }
     ensures two_types { fault_of true (record (with_fields (k_and_v dt.Int64 dt.Int8)) {
-          keys = expr.binary (expr.column (codes "k")) op.Plus v ∷ [];
-        }) ≡ Some fault.IllTyped }
+      keys = expr.binary (expr.column (codes "k")) op.Plus v ∷ [];
+    }) ≡ Some fault.IllTyped }
 {}
 
 /// Faults of what keys and aggregates are, of output columns and of slices; the first one is told.
@@ -59,8 +59,8 @@ pub fn worked_later_faults()
         (expr.alias (named_of_v (codes "s") expr.sum) (codes "t") ∷ []))
         ≡ Some fault.NotConvertible }
     ensures mean_of_dates { fault_of true (record (with_fields (k_and_v dt.Int64 dt.Date)) {
-          aggs = of_v expr.mean ∷ [];
-        }) ≡ Some fault.SumOfDate }
+      aggs = of_v expr.mean ∷ [];
+    }) ≡ Some fault.SumOfDate }
     ensures same_names { fault_of true (with_aggs (of_v expr.sum ∷ of_v expr.first ∷ []))
         ≡ Some fault.DoubleOutput }
     ensures half_of_a_mean { fault_of true (with_aggs

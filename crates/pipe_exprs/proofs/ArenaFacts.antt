@@ -1,13 +1,10 @@
 -- An arena with one more expression.
 use Rattle.std.proofs.Common.{◌≡◌, ◌+◌, ◌&&◌, ℕ, List, [], ◌∷◌, ◌++◌, length, Bool, true, false, if◌then◌else◌, refl, arith, add-zero}
+use Rattle.std.proofs.lemmas.Bool.{and_parts}
 use Rattle.std.proofs.lemmas.List.Elements.{All-push}
 use Rattle.pipe_exprs.specs.declared.expression.AExpr.{AExpr}
 use Rattle.pipe_exprs.specs.Literals.{HasUtf8Literal, HaveUtf8Literals}
 use Rattle.pipe_exprs.specs.Trees.{IsArena, arena_from, children_below}
-
-and_split : (a b : Bool) → (a && b) ≡ true → (a ≡ true) × (b ≡ true)
-and_split true b e = (refl, e)
-and_split false b e = cc e
 
 -- expressions from a place on are an arena, and so they are with one that names only nodes below it
 arena_added : (n : ℕ) (es : List AExpr) (e : AExpr)
@@ -16,7 +13,7 @@ arena_added n [] e h c =
     let here : children_below n e ≡ true = rw add-zero at c in
     rw here refl
 arena_added n (x ∷ es) e h c =
-    let both = and_split (children_below n x) (arena_from (n + 1) es) h in
+    let both = and_parts (children_below n x) (arena_from (n + 1) es) h in
     let size : n + length (x ∷ es) ≡ (n + 1) + length es = omega arith in
     rw (both.0) (arena_added (n + 1) es e both.1 (rw (← size) c))
 

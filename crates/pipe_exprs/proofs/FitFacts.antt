@@ -6,7 +6,7 @@ use Rattle.std.specs.Str.{bytes_eq}
 use Rattle.std.specs.Int.{int_wrap, int_rem_euclid, w8, w16, w32, w64}
 use Rattle.std.specs.Int.RustNames.{FitsSigned}
 use Rattle.std.specs.Ordering.{int_eq, is_eq, is_ne, is_lt, is_le, is_gt, is_ge}
-use Rattle.std.proofs.lemmas.Bool.{lt-ltb}
+use Rattle.std.proofs.lemmas.Bool.{and_parts, lt-ltb}
 use Rattle.std.proofs.lemmas.Int.{SFits-int_wrap}
 use Rattle.std.proofs.lemmas.List.Elements.{All-head, All-tail}
 use Rattle.pipe_columns.specs.declared.data_type.DataType.{DataType}
@@ -23,10 +23,6 @@ use Rattle.pipe_model.specs.Expr as expr
 use Rattle.pipe_model.specs.Operators.{and_values, apply, arithmetic, cast_value, chosen, comparison, exact_result, number_if_any, or_values}
 use Rattle.pipe_model.specs.Typing.{both, field_named, known_type, operator_type, shared_type, truth_type, type_of, where_boolean}
 use Rattle.pipe_model.specs.Value.{column_named, value, values_if_any}
-
-pub both_true : (a b : Bool) → (a && b) ≡ true → (a ≡ true) × (b ≡ true)
-both_true true b e = (refl, e)
-both_true false b e = cc
 
 -- ---- numbers
 
@@ -117,7 +113,7 @@ shared-is test a b t e = by_test (same_type a b && test a) refl e where
   by_test : (w : Bool) → (same_type a b && test a) ≡ w → (if w then Some a else None) ≡ Some t → (a ≡ t) × Meets test t
   by_test true h e =
       let same : a ≡ t = cc e in
-      (same, rw (← same) (both_true (same_type a b) (test a) h).1)
+      (same, rw (← same) (and_parts (same_type a b) (test a) h).1)
   by_test false h e = cc e
 
 truth-is : (test : DataType → Bool) (a b t : DataType) → truth_type test a b ≡ Some t → dt.Boolean ≡ t
@@ -172,8 +168,8 @@ chosen-fits t (av.Text s) a b h k = k
 -- a value of a column, or null past its end
 column_value-fits : (t : DataType) (values : List AnyValue) (n : ℕ) → AllFit t values → fits (value_at values n) t ≡ true
 column_value-fits t [] n h = refl
-column_value-fits t (v ∷ vs) zero h = (both_true _ _ h).0
-column_value-fits t (v ∷ vs) (suc n) h = column_value-fits t vs n (both_true _ _ h).1
+column_value-fits t (v ∷ vs) zero h = (and_parts _ _ h).0
+column_value-fits t (v ∷ vs) (suc n) h = column_value-fits t vs n (and_parts _ _ h).1
 
 -- a value of the first column of a name is of the type of the first field of that name
 named-fits : (columns : List ColumnData) (name : List ℕ) (n : ℕ) (t : DataType) → ColumnsFit columns → option_map (λ f. f.dtype) (field_named name (fields_of columns)) ≡ Some t

@@ -1,5 +1,6 @@
 -- Names that are read off an arena's expressions are those of its trees.
 use Rattle.std.proofs.Common.{◌≡◌, ◌+◌, ◌<◌, ◌≤◌, ◌&&◌, ◌∙◌, ℕ, zero, suc, List, [], ◌∷◌, length, Bool, true, refl, ap, sym, arith}
+use Rattle.std.proofs.lemmas.Bool.{and_parts}
 use Rattle.std.specs.Prelude.{slice_get, Option, Some, None, nat_lt, unwrap_or}
 use Rattle.std.proofs.lemmas.Option.{same_Some, slice_get_past}
 use Rattle.pipe_exprs.specs.declared.expression.AExpr.{AExpr}
@@ -10,12 +11,12 @@ use Rattle.pipe_model.specs.Expr as expr
 use Rattle.pipe_exprs.specs.Nodes.{name_giver, own_name, tree_if}
 use Rattle.pipe_exprs.specs.Trees.{agg_input, children_below, IsArena, tree, tree_at, trees}
 use Rattle.pipe_exprs.proofs.PassFacts.{children_at}
-use Rattle.pipe_exprs.proofs.TreeFacts.{and_split, length-trees, tree_is}
+use Rattle.pipe_exprs.proofs.TreeFacts.{length-trees, tree_is}
 
 first_below : (n : ℕ) (c m : Node) (b : Bool) → (nat_lt c.0 n && b) ≡ true → Some c ≡ Some m → m.0 < n
 first_below n c m b h same =
     let e : c ≡ m = same_Some c m same in
-    let below : c.0 < n = grind (arith, and_split (nat_lt c.0 n) b h) in
+    let below : c.0 < n = grind (arith, and_parts (nat_lt c.0 n) b h) in
     rw (← e) below
 
 giver_below : (n : ℕ) (e : AExpr) (m : Node) → children_below n e ≡ true → name_giver (Some e) ≡ Some m → m.0 < n
@@ -24,7 +25,7 @@ giver_below n (ax.Literal t v) m h g = cc g
 giver_below n (ax.Cast e t) m h g = first_below n e m true h g
 giver_below n (ax.BinaryExpr l o r) m h g = first_below n l m (nat_lt r.0 n && true) h g
 giver_below n (ax.Ternary p t f) m h g =
-    first_below n t m (nat_lt f.0 n && true) (and_split (nat_lt p.0 n) (nat_lt t.0 n && (nat_lt f.0 n && true)) h).1 g
+    first_below n t m (nat_lt f.0 n && true) (and_parts (nat_lt p.0 n) (nat_lt t.0 n && (nat_lt f.0 n && true)) h).1 g
 giver_below n (ax.Alias e name) m h g = cc g
 giver_below n (ax.Agg a) m h g = first_below n (agg_input a) m true h g
 giver_below n ax.Len m h g = cc g

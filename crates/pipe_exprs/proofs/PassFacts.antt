@@ -1,5 +1,6 @@
 -- What is known of an arena's nodes, one node after the other.
 use Rattle.std.proofs.Common.{◌≡◌, ◌+◌, ℕ, zero, suc, List, [], ◌∷◌, ◌++◌, take, true, refl, ap, arith}
+use Rattle.std.proofs.lemmas.Bool.{and_parts}
 use Rattle.std.specs.Prelude.{slice_get, Some, map}
 use Rattle.pipe_columns.specs.declared.schema.Field.{Field}
 use Rattle.pipe_exprs.specs.declared.expression.AExpr.{AExpr}
@@ -11,7 +12,7 @@ use Rattle.pipe_exprs.specs.ExprFacts.{expr_facts}
 use Rattle.pipe_exprs.specs.NodeFacts.{facts_at, facts_of}
 use Rattle.pipe_model.specs.Typing.{type_of}
 use Rattle.pipe_exprs.specs.Trees.{agg_input, arena_from, children_below, tree_at, tree_of, trees}
-use Rattle.pipe_exprs.proofs.TreeFacts.{and_split, mapped_at, trees_push}
+use Rattle.pipe_exprs.proofs.TreeFacts.{mapped_at, trees_push}
 
 -- what is known of a node is what is known of its tree
 pub known_at : (schema : List Field) (ts : List Expr) (n : Node) → facts_at (map (facts_of schema) ts) n ≡ facts_of schema (tree_at ts n)
@@ -47,11 +48,11 @@ pub children_at : (n : ℕ) (es : List AExpr) (i : ℕ) (e : AExpr) → arena_fr
 children_at n [] i e is at = cc at
 children_at n (x ∷ es) zero e is at =
     let same : n + zero ≡ n = omega arith in
-    let here = (and_split (children_below n x) (arena_from (n + 1) es) is).0 in
+    let here = (and_parts (children_below n x) (arena_from (n + 1) es) is).0 in
     rw same (cc)
 children_at n (x ∷ es) (suc i) e is at =
     let same : n + suc i ≡ (n + 1) + i = omega arith in
-    rw same (children_at (n + 1) es i e (and_split (children_below n x) (arena_from (n + 1) es) is).1 at)
+    rw same (children_at (n + 1) es i e (and_parts (children_below n x) (arena_from (n + 1) es) is).1 at)
 
 -- what is known with one more node
 pub known_more : (schema : List Field) (es : List AExpr) (i : ℕ) (e : AExpr) (known : List NodeFacts)

@@ -1,5 +1,6 @@
 -- The trees of an arena with one more expression, and the tree of each of its nodes.
 use Rattle.std.proofs.Common.{◌≡◌, ◌+◌, ◌<◌, ◌&&◌, ◌∙◌, ℕ, zero, suc, List, [], ◌∷◌, ◌++◌, length, Bool, true, false, refl, ap, arith}
+use Rattle.std.proofs.lemmas.Bool.{and_parts}
 use Rattle.std.specs.Prelude.{fold, slice_get, unwrap_or, nat_lt, Option, Some, None, map, option_map}
 use Rattle.std.proofs.lemmas.List.Sums.{fold_push}
 use Rattle.std.proofs.lemmas.Option.{slice_get-map}
@@ -47,17 +48,13 @@ trees_keep ts (e ∷ es) k h =
     let more : k < length (ts ++ (tree_of ts e ∷ [])) = omega (arith, length-push ts (tree_of ts e)) in
     trees_keep (ts ++ (tree_of ts e ∷ [])) es k more ∙ slice_get-append ts (tree_of ts e ∷ []) k h
 
-pub and_split : (a b : Bool) → (a && b) ≡ true → (a ≡ true) × (b ≡ true)
-and_split true b e = (refl, e)
-and_split false b e = cc e
-
 -- lists of trees that are the same below n
 abbrev pub SameBelow : ℕ → List Expr → List Expr → Type 0
 SameBelow n ts us = (k : ℕ) → k < n → slice_get us k ≡ slice_get ts k
 
 node_same : (n : ℕ) (ts us : List Expr) (c : Node) (b : Bool) → SameBelow n ts us → (nat_lt c.0 n && b) ≡ true → tree_at us c ≡ tree_at ts c
 node_same n ts us c b same h =
-    let below : c.0 < n = grind (arith, and_split (nat_lt c.0 n) b h) in
+    let below : c.0 < n = grind (arith, and_parts (nat_lt c.0 n) b h) in
     ap (λ t. unwrap_or t expr.len) (same c.0 below)
 
 -- the tree of an expression stands on the trees below it alone
@@ -67,14 +64,14 @@ tree_of_same n ts us (ax.Literal t v) same h = refl
 tree_of_same n ts us (ax.Cast e t) same h = ap (λ x. expr.cast x t) (node_same n ts us e true same h)
 tree_of_same n ts us (ax.BinaryExpr l o r) same h =
     let left = node_same n ts us l (nat_lt r.0 n && true) same h in
-    let rest = and_split (nat_lt l.0 n) (nat_lt r.0 n && true) h in
+    let rest = and_parts (nat_lt l.0 n) (nat_lt r.0 n && true) h in
     let right = node_same n ts us r true same rest.1 in
     cc
 tree_of_same n ts us (ax.Ternary p t f) same h =
     let first = node_same n ts us p (nat_lt t.0 n && (nat_lt f.0 n && true)) same h in
-    let rest = and_split (nat_lt p.0 n) (nat_lt t.0 n && (nat_lt f.0 n && true)) h in
+    let rest = and_parts (nat_lt p.0 n) (nat_lt t.0 n && (nat_lt f.0 n && true)) h in
     let second = node_same n ts us t (nat_lt f.0 n && true) same rest.1 in
-    let last = and_split (nat_lt t.0 n) (nat_lt f.0 n && true) rest.1 in
+    let last = and_parts (nat_lt t.0 n) (nat_lt f.0 n && true) rest.1 in
     let third = node_same n ts us f true same last.1 in
     cc
 tree_of_same n ts us (ax.Alias e name) same h = ap (λ x. expr.alias x name) (node_same n ts us e true same h)
@@ -83,7 +80,7 @@ tree_of_same n ts us (ax.Agg a) same h =
 tree_of_same n ts us ax.Len same h = refl
 tree_of_same n ts us (ax.Filter e by) same h =
     let left = node_same n ts us e (nat_lt by.0 n && true) same h in
-    let rest = and_split (nat_lt e.0 n) (nat_lt by.0 n && true) h in
+    let rest = and_parts (nat_lt e.0 n) (nat_lt by.0 n && true) h in
     let right = node_same n ts us by true same rest.1 in
     cc
 tree_of_same n ts us (ax.Sort e) same h = ap expr.sort (node_same n ts us e true same h)
@@ -100,14 +97,14 @@ tree_from_is n ts (x ∷ es) zero e size is at =
     let here : slice_get us (length ts) ≡ Some (tree_of ts x) = slice_get-push ts (tree_of ts x) in
     let same : SameBelow n ts all = λ k h.
     trees_keep us es k (omega arith) ∙ slice_get-append ts (tree_of ts x ∷ []) k (omega arith) in
-    let built : tree_of all x ≡ tree_of ts x = tree_of_same n ts all x same (and_split (children_below n x) (arena_from (n + 1) es) is).0 in
+    let built : tree_of all x ≡ tree_of ts x = tree_of_same n ts all x same (and_parts (children_below n x) (arena_from (n + 1) es) is).0 in
     let there : n + zero ≡ n = omega arith in
     rw there (cc)
 tree_from_is n ts (x ∷ es) (suc i) e size is at =
     let us : List Expr = ts ++ (tree_of ts x ∷ []) in
     let more : length us ≡ n + 1 = omega (arith, length-push ts (tree_of ts x)) in
     let there : n + suc i ≡ (n + 1) + i = omega arith in
-    rw there (tree_from_is (n + 1) us es i e more (and_split (children_below n x) (arena_from (n + 1) es) is).1 at)
+    rw there (tree_from_is (n + 1) us es i e more (and_parts (children_below n x) (arena_from (n + 1) es) is).1 at)
 
 -- the tree of a node is that of its expression over all trees of the arena
 pub tree_is : (es : List AExpr) (n : Node) (e : AExpr) → IsArena es → slice_get es n.0 ≡ Some e → tree es n ≡ tree_of (trees es) e

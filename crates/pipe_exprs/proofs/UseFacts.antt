@@ -4,16 +4,12 @@ use Rattle.std.specs.Prelude.{nat_lt, slice_get}
 use Rattle.std.specs.List.{All, list_all}
 use Rattle.std.proofs.lemmas.List.Elements.{All-cons, All-head, All-nil, All-tail, All-weaker}
 use mathlib.Core.Logic.{◌⊎◌}
-use Rattle.std.proofs.lemmas.Bool.{cases_lt, lt-ltb}
+use Rattle.std.proofs.lemmas.Bool.{and_parts, cases_lt, lt-ltb}
 use Rattle.std.proofs.lemmas.Grind.{common_steps}
 use Rattle.pipe_exprs.specs.declared.expression.Node.{Node}
 use Rattle.pipe_exprs.specs.declared.expression.AExpr.{AExpr}
 use Rattle.pipe_exprs.specs.Trees.{IsArena, arena_from, children, children_below}
 use Rattle.pipe_exprs.specs.Uses.{AreLastUses, noted, noted_all}
-
-and_split : (a b : Bool) → (a && b) ≡ true → (a ≡ true) × (b ≡ true)
-and_split true b e = (refl, e)
-and_split false b e = cc e
 
 -- each expression of an arena names nodes before its own alone
 below_from : (n : ℕ) (es : List AExpr) (i : ℕ) (e : AExpr) → arena_from n es ≡ true → slice_get es i ≡ Some e → children_below (n + i) e ≡ true
@@ -21,10 +17,10 @@ below_from n [] i e is at = cc at
 below_from n (x ∷ es) zero e is at =
     let same : x ≡ e = cc at in
     let there : n + zero ≡ n = omega arith in
-    rw (there, ← same) (and_split (children_below n x) (arena_from (n + 1) es) is).0
+    rw (there, ← same) (and_parts (children_below n x) (arena_from (n + 1) es) is).0
 below_from n (x ∷ es) (suc i) e is at =
     let there : n + suc i ≡ (n + 1) + i = omega arith in
-    rw there (below_from (n + 1) es i e (and_split (children_below n x) (arena_from (n + 1) es) is).1 at)
+    rw there (below_from (n + 1) es i e (and_parts (children_below n x) (arena_from (n + 1) es) is).1 at)
 
 pub below : (es : List AExpr) (i : ℕ) (e : AExpr) → IsArena es → slice_get es i ≡ Some e → children_below i e ≡ true
 below es i e is at =
@@ -90,7 +86,7 @@ all_noted-from test user us (n ∷ ns) k h old now =
 below-all : (n : ℕ) (ns : List Node) → list_all (λ c. nat_lt c.0 n) ns ≡ true → AreBelow n ns
 below-all n [] h = All-nil (λ (c : Node). c.0 < n)
 below-all n (c ∷ cs) h =
-    let parts = and_split (nat_lt c.0 n) (list_all (λ c. nat_lt c.0 n) cs) h in
+    let parts = and_parts (nat_lt c.0 n) (list_all (λ c. nat_lt c.0 n) cs) h in
     let here : c.0 < n = grind (arith, parts.0) in
     All-cons (λ (c : Node). c.0 < n) c cs here (below-all n cs parts.1)
 
@@ -173,7 +169,7 @@ both false b e h = cc e
 below_wider : (i n : ℕ) (ns : List Node) → i ≤ n → list_all (λ c. nat_lt c.0 i) ns ≡ true → list_all (λ c. nat_lt c.0 n) ns ≡ true
 below_wider i n [] le h = refl
 below_wider i n (c ∷ cs) le h =
-    let parts = and_split (nat_lt c.0 i) (list_all (λ c. nat_lt c.0 i) cs) h in
+    let parts = and_parts (nat_lt c.0 i) (list_all (λ c. nat_lt c.0 i) cs) h in
     let here : c.0 < i = grind (arith, parts.0) in
     both (nat_lt c.0 n) (list_all (λ c. nat_lt c.0 n) cs) (lt-ltb c.0 n (omega arith)) (below_wider i n cs le parts.1)
 

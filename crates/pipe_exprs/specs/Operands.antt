@@ -53,7 +53,8 @@ abbrev pub slot_at : List Operand → ℕ → Operand
 slot_at slots i = unwrap_or (slice_get slots i) (operand.Constant av.Null)
 
 -- the operand of a node is there, and holds the values of its tree
-pub record IsHeld (frame : FrameData) (exprs : List AExpr) (slots : List Operand) (n : Node) : Type 0 where
+pub record IsHeld (frame : FrameData) (exprs : List AExpr) (slots : List Operand) (n : Node)
+    : Type 0 where
   pub there : n.0 < length slots
   pub holds : HoldsValues frame (tree exprs n) (slot_at slots n.0)
 
@@ -86,7 +87,8 @@ pub record KeepsUsed (uses : List ℕ) (user : ℕ) (before after : List Operand
 
 -- the operands of the nodes below a place: those of all that are used from there on hold the values
 -- of their trees
-pub record AreReady (frame : FrameData) (exprs : List AExpr) (uses : List ℕ) (place : ℕ) (slots : List Operand) : Type 0 where
+pub record AreReady (frame : FrameData) (exprs : List AExpr) (uses : List ℕ) (place : ℕ)
+    (slots : List Operand) : Type 0 where
   pub size : length slots ≡ place
   pub ready : (n : Node) → n.0 < place → place ≤ slice_index uses n.0
       → HoldsValues frame (tree exprs n) (slot_at slots n.0)

@@ -1,3 +1,5 @@
+//! Casts between all types that a cast takes, at their edges.
+
 use crate::evaluate_tests::{cast_of, number};
 use pipe_columns::{AnyValue, DataType};
 use std::test::Fail;

@@ -49,7 +49,8 @@ fn own_flag(expr: Option<&AExpr>, columns: &[Column]) -> bool
     }
 }
 
-/// Whether the column that a node is, under aliases or none, is sorted: false for what is no column.
+/// Whether the column that a node is, under aliases or none, is sorted: false for what is no
+/// column.
 pub(crate) fn is_sorted(arena: &Arena, node: Node, columns: &[Column]) -> bool
     ensures { result ≡ keeps_sorted (tree arena.now node) columns.now }
 {

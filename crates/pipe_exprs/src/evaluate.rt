@@ -59,8 +59,8 @@ fn release(slots: &mut [Operand<'_>], expr: &AExpr, uses: &[usize], user: usize)
     }
 }
 
-/// The operand of a node that is reached. An alias takes the values of its input, where that was their
-/// last use.
+/// The operand of a node that is reached. An alias takes the values of its input, where that was
+/// their last use.
 fn next_operand<'a>(
     alloc: Global,
     arena: &Arena,

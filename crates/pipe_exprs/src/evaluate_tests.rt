@@ -1,3 +1,5 @@
+//! Arenas and the values of their expressions.
+
 use crate::facts::facts_at;
 use crate::types::{node_facts, node_types};
 use crate::{AExpr, AddError, Arena, Len, Node, Operator, PipedExpr};

@@ -9,8 +9,8 @@ ghost use Rattle.pipe_model.specs.Expr.{Expr};
 ghost use Rattle.pipe_model.specs.Typing.{type_of};
 ghost use Rattle.pipe_model.specs.Value.{value};
 
-/// The values of an expression in the rows of a frame fit its type, and their texts are in UTF-8 where
-/// those of its literals are.
+/// The values of an expression in the rows of a frame fit its type, and their texts are in UTF-8
+/// where those of its literals are.
 pub fn values_have_types()
     ensures fit { (e : Expr) (frame : FrameData) (row : ℕ) (t : DataType) → HoldsTypes frame
         → type_of e (fields_of frame.columns) ≡ Some t → fits (value e frame row) t ≡ true }

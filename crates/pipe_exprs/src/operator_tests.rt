@@ -1,3 +1,5 @@
+//! Operators over the edges of number types, over truths and over nulls.
+
 use crate::Operator;
 use crate::evaluate_tests::{made, number};
 use pipe_columns::{AnyValue, DataType};
@@ -5,8 +7,8 @@ use std::alloc::Global;
 use std::process::Abort;
 use std::test::Fail;
 
-/// Two numbers of a type; their sum, difference and product; their quotient rounded down and what it
-/// leaves, none for a zero divisor; and how they compare.
+/// Two numbers of a type; their sum, difference and product; their quotient rounded down and what
+/// it leaves, none for a zero divisor; and how they compare.
 type Row = (
     i128,
     i128,

@@ -25,8 +25,8 @@ pub struct PipedExpr {
 }
 
 impl PipedExpr {
-    /// The column of the expression's values. Each part of the expression is evaluated once, however
-    /// many others name it, and its values are dropped after the last one.
+    /// The column of the expression's values. Each part of the expression is evaluated once,
+    /// however many others name it, and its values are dropped after the last one.
     pub fn evaluate(
         &self,
         alloc: Global,
@@ -50,8 +50,8 @@ impl PipedExpr {
         Ok(Column::new(name, dtype, sorted, values).unwrap())
     }
 
-    /// The values alone: lent by the chunk, with no memory taken for them, where the expression is a
-    /// column or an alias of one.
+    /// The values alone: lent by the chunk, with no memory taken for them, where the expression is
+    /// a column or an alias of one.
     pub fn values<'a>(
         &self,
         alloc: Global,

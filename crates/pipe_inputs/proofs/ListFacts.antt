@@ -1,5 +1,6 @@
 -- What holds of the keys and inputs of a query holds of each as it comes.
 use Rattle.std.proofs.Common.{◌≡◌, ◌∙◌, ℕ, ◌<◌, zero, suc, Bool, true, List, [], ◌∷◌, length, map, get_or, refl, sym, ap, arith}
+use Rattle.std.proofs.lemmas.Bool.{and_parts}
 use Rattle.std.proofs.lemmas.Simd.{map-map}
 use Rattle.std.specs.List.{list_all}
 use Rattle.pipe_columns.specs.declared.schema.Field.{Field}
@@ -14,14 +15,13 @@ use Rattle.pipe_model.specs.Groupable.{is_fed, IsGroupable, is_valued}
 use Rattle.pipe_aggs.specs.HashAggs.{input_of}
 use Rattle.pipe_model.specs.Query.{AggTree}
 use Rattle.pipe_aggs.specs.QueryTrees.{query_tree}
-use Rattle.pipe_exprs.proofs.FitFacts.{both_true}
 use Rattle.pipe_inputs.specs.Cells.{input_values}
 
 -- a test that each element passes
 passes_at : {X : Type 0} (test : X → Bool) (xs : List X) (i : ℕ) (d : X) → list_all test xs ≡ true → i < length xs → test (get_or xs i d) ≡ true
 passes_at test [] i d h lt = absurd (omega arith)
-passes_at test (y ∷ ys) zero d h lt = (both_true (test y) (list_all test ys) h).0
-passes_at test (y ∷ ys) (suc i) d h lt = passes_at test ys i d (both_true (test y) (list_all test ys) h).1 (omega arith)
+passes_at test (y ∷ ys) zero d h lt = (and_parts (test y) (list_all test ys) h).0
+passes_at test (y ∷ ys) (suc i) d h lt = passes_at test ys i d (and_parts (test y) (list_all test ys) h).1 (omega arith)
 
 -- a test of what a list is mapped to
 passes-map : {X Y : Type 0} (test : Y → Bool) (f : X → Y) (xs : List X) → list_all test (map f xs) ≡ list_all (λ x. test (f x)) xs

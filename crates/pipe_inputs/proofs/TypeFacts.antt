@@ -1,5 +1,6 @@
 -- The keys and inputs of a query's rows are of its types.
 use Rattle.std.proofs.Common.{◌≡◌, ℕ, ◌+◌, true, List, [], ◌∷◌, ◌++◌, map, get_or, Option, Some, None, unwrap_or, refl}
+use Rattle.std.proofs.lemmas.Bool.{and_parts}
 use Rattle.std.specs.Prelude.{All, is_some, ⊤}
 use Rattle.std.specs.List.{AllZip, list_all, range_with_len}
 use Rattle.std.proofs.lemmas.List.Elements.{All-append, All-cons, All-head, All-map, All-nil, All-tail}
@@ -11,7 +12,7 @@ use Rattle.pipe_columns.specs.declared.schema.Field.{Field}
 use Rattle.pipe_columns.specs.AnyValue.{fits, HasUtf8}
 use Rattle.pipe_columns.specs.Frame.{ColumnsHaveUtf8, FitsSchema, FrameData, HoldsTypes}
 use Rattle.pipe_exprs.specs.Literals.{HasUtf8Literals}
-use Rattle.pipe_exprs.proofs.FitFacts.{both_true, value-fits}
+use Rattle.pipe_exprs.proofs.FitFacts.{value-fits}
 use Rattle.pipe_exprs.proofs.TextFacts.{value-utf8}
 use Rattle.pipe_model.specs.Convertible.{unaliased}
 use Rattle.pipe_model.specs.Expr.{Expr, name_of}
@@ -41,7 +42,7 @@ some_known (Some t) h = refl
 pub valued-fits : (schema : List Field) (e : Expr) (frame : FrameData) (n : ℕ) → FitsSchema schema frame → HoldsTypes frame → is_valued schema e ≡ true
     → fits (value e frame n) (known_type e schema) ≡ true
 valued-fits schema e frame n are hold v =
-    let typed : type_of e schema ≡ Some (known_type e schema) = some_known (type_of e schema) (both_true (is_row_wise e) (is_some (type_of e schema)) v).1 in
+    let typed : type_of e schema ≡ Some (known_type e schema) = some_known (type_of e schema) (and_parts (is_row_wise e) (is_some (type_of e schema)) v).1 in
     value-fits e frame n (known_type e schema) hold.fit (rw are typed)
 
 -- what an aggregate is fed
@@ -56,14 +57,14 @@ keys-fit : (schema : List Field) (keys : List Expr) (frame : FrameData) (n : ℕ
     → AllZip (λ t v. fits v t ≡ true) (map (λ e. known_type e schema) keys) (map (λ e. value e frame n) keys)
 keys-fit schema [] frame n are hold v = tt
 keys-fit schema (e ∷ es) frame n are hold v =
-    let parts = both_true (is_valued schema e) (list_all (is_valued schema) es) v in
+    let parts = and_parts (is_valued schema e) (list_all (is_valued schema) es) v in
     (valued-fits schema e frame n are hold parts.0, keys-fit schema es frame n are hold parts.1)
 
 inputs-fit : (schema : List Field) (aggs : List AggTree) (frame : FrameData) (n : ℕ) → FitsSchema schema frame → HoldsTypes frame → list_all (λ a. is_fed schema a.input) aggs ≡ true
     → AllZip (λ t v. fits v t ≡ true) (map (λ a. input_type schema a.input) aggs) (map (λ a. input_value a.input frame n) aggs)
 inputs-fit schema [] frame n are hold v = tt
 inputs-fit schema (a ∷ others) frame n are hold v =
-    let parts = both_true (is_fed schema a.input) (list_all (λ b. is_fed schema b.input) others) v in
+    let parts = and_parts (is_fed schema a.input) (list_all (λ b. is_fed schema b.input) others) v in
     (fed-fits schema a.input frame n are hold parts.0, inputs-fit schema others frame n are hold parts.1)
 
 -- ---- they are in UTF-8

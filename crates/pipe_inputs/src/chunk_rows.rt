@@ -12,8 +12,9 @@ use pipe_columns::{AnyValue, DataChunk};
 use std::alloc::{AllocError, Global};
 use std::marker::Model;
 
-/// The rows of a chunk as a query sees them: a place, a key and inputs each. They are kept as a list
-/// of values for each key and each input, which a bare column lends. Contracts see them as the rows.
+/// The rows of a chunk as a query sees them: a place, a key and inputs each. They are kept as a
+/// list of values for each key and each input, which a bare column lends. Contracts see them as the
+/// rows.
 #[derive(Drop)]
 pub struct ChunkRows<'a> {
     pub(crate) index: u32,
@@ -37,8 +38,8 @@ impl<'a> Model for ChunkRows<'a> {
 }
 
 impl<'a> ChunkRows<'a> {
-    /// The rows of the chunk at a position. Memory is taken for values of their own alone: those of a
-    /// column are lent by the chunk, and rows that are only counted have none.
+    /// The rows of the chunk at a position. Memory is taken for values of their own alone: those of
+    /// a column are lent by the chunk, and rows that are only counted have none.
     pub fn new(
         alloc: Global,
         query: &CheckedQuery<'_>,

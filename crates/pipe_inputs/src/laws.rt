@@ -11,8 +11,8 @@ ghost use Rattle.pipe_aggs.specs.QueryTrees.{query_tree};
 ghost use Rattle.pipe_aggs.specs.declared.query.Query.{Query};
 ghost use Rattle.pipe_inputs.specs.RowTypes.{AreTaken, IsRowOf};
 
-/// The rows of chunks have keys and inputs of the query's types, in UTF-8. Its running aggregates take
-/// the inputs of each such row.
+/// The rows of chunks have keys and inputs of the query's types, in UTF-8. Its running aggregates
+/// take the inputs of each such row.
 pub fn rows_of_a_query()
     ensures typed { (q : Query) (chunks : List DataChunk) → IsSound q
         → AreChunksOf (query_tree q) chunks

@@ -54,7 +54,7 @@ flat n (expr.binary l o r) =
 flat n (expr.ternary p t f) =
     flat n p ++ flat (root n p + 1) t ++ flat (root (root n p + 1) t + 1) f
     ++ ax.Ternary (root_node n p) (root_node (root n p + 1) t)
-        (root_node (root (root n p + 1) t + 1) f) ∷ []
+    (root_node (root (root n p + 1) t + 1) f) ∷ []
 flat n (expr.alias e name) = flat n e ++ ax.Alias (root_node n e) name ∷ []
 flat n (expr.aggregate a e) = flat n e ++ ax.Agg (agg_node a (root_node n e)) ∷ []
 flat n expr.len = ax.Len ∷ []

@@ -23,7 +23,8 @@ pub fn has_members(json: &Value, count: usize) -> bool
 /// The name and the value of the member of an object that has no other.
 #[tactic(auto, using(crate::proofs::Shapes::not_sole, crate::proofs::Shapes::one_member, crate::proofs::PartFacts::sole_deeper))]
 pub fn sole_member(json: &Value) -> Option<(&str, &Value)>
-    ensures sole { option_map (λ m. (m.0.now, view m.1.now)) result ≡ other.sole_of (view json.now) }
+    ensures sole { option_map (λ m. (m.0.now, view m.1.now)) result
+        ≡ other.sole_of (view json.now) }
     ensures inner { IfSome result (λ m. depth (view m.1.now) < depth (view json.now)) }
 {
     let members = json.as_object()?;

@@ -44,7 +44,8 @@ pub fn worked_expressions()
     ensures literal { expressed (codes "{\"lit\":[\"Int8\",300]}")
         ≡ Some (expr.literal dt.Int8 (av.Int (pos 300))) }
     ensures fraction { expressed (codes "{\"lit\":[\"Int8\",1.0]}") ≡ None }
-    ensures alias { expressed (codes "{\"alias\":[\"v\",\"w\"]}") ≡ Some (expr.alias v (codes "w")) }
+    ensures alias { expressed (codes "{\"alias\":[\"v\",\"w\"]}")
+        ≡ Some (expr.alias v (codes "w")) }
     ensures count { expressed (codes "{\"count\":\"v\"}")
         ≡ Some (expr.aggregate (expr.count false) v) }
     ensures two_members { expressed (codes "{\"col\":\"v\",\"len\":null}") ≡ None }

@@ -1,8 +1,8 @@
 use Rattle.std.proofs.Common.{◌∙◌, ◌≤◌, arith, List, length}
+use Rattle.std.proofs.lemmas.Bool.{and_parts}
 use Rattle.std.proofs.lemmas.List.{take_all}
 use Rattle.pipe_exprs.specs.declared.expression.Node.{Node}
 use Rattle.pipe_aggs.specs.declared.query.Query.{Query}
-use Rattle.pipe_exprs.proofs.FitFacts.{both_true}
 use Rattle.pipe_inputs.proofs.ListFacts.{key-valued, keys_are}
 use Rattle.pipe_inputs.proofs.value_lists.key_lists.Goals as goal
 
@@ -10,13 +10,13 @@ pub values-requires-clause-row_wise : goal.values-requires-clause-row_wise
 values-requires-clause-row_wise c =
     let q : Query = c.args.query.now in
     rw (c.deref-key-items.ensures.value, c.query-query.ensures.query)
-    (both_true _ _ (key-valued q c.loop-key.key-index (record { 0 = 0 }) c.query-query.ensures.groupable (rw (c.deref-key-items.ensures.value, c.query-query.ensures.query) at c.loop-key-test.true))).0
+    (and_parts _ _ (key-valued q c.loop-key.key-index (record { 0 = 0 }) c.query-query.ensures.groupable (rw (c.deref-key-items.ensures.value, c.query-query.ensures.query) at c.loop-key-test.true))).0
 
 pub values-requires-clause-typed : goal.values-requires-clause-typed
 values-requires-clause-typed c =
     let q : Query = c.args.query.now in
     rw (c.deref-key-items.ensures.value, c.query-query.ensures.query, c.requires)
-    (both_true _ _ (key-valued q c.loop-key.key-index (record { 0 = 0 }) c.query-query.ensures.groupable (rw (c.deref-key-items.ensures.value, c.query-query.ensures.query) at c.loop-key-test.true))).1
+    (and_parts _ _ (key-valued q c.loop-key.key-index (record { 0 = 0 }) c.query-query.ensures.groupable (rw (c.deref-key-items.ensures.value, c.query-query.ensures.query) at c.loop-key-test.true))).1
 
 pub returns-clause-values : goal.returns-clause-values
 returns-clause-values c =
