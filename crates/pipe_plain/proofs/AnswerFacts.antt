@@ -10,6 +10,7 @@ use Rattle.std.proofs.Math.Nat.{mod-one}
 use Rattle.std.proofs.lemmas.List.{drop-map, take-map}
 use Rattle.std.proofs.lemmas.List.Elements.{All-head, All-tail, All-weaker}
 use Rattle.std.proofs.lemmas.List.Sums.{fold-append}
+use Rattle.std.proofs.lemmas.Bool.{and_parts}
 use Rattle.pipe_columns.specs.declared.any_value.AnyValue.{AnyValue}
 use Rattle.pipe_columns.specs.declared.data_chunk.DataChunk.{DataChunk}
 use Rattle.pipe_columns.specs.declared.data_type.DataType.{DataType}
@@ -28,7 +29,6 @@ use Rattle.pipe_model.specs.Groupable.{IsGroupable, is_suited}
 use Rattle.pipe_aggs.specs.HashAggs.{function_for, prototypes}
 use Rattle.pipe_model.specs.Output.{input_type, key_types}
 use Rattle.pipe_model.specs.Query.{AggTree, QueryTree}
-use Rattle.pipe_exprs.proofs.FitFacts.{both_true}
 use Rattle.pipe_model.specs.Answer.{aggs_from, answer_row, entry_of, first_place_cmp, groups, partition_cmp, rows_at, tuple_cmp}
 use Rattle.pipe_model.specs.Rows.{AreChunksOf, rows}
 use Rattle.pipe_plain.specs.declared.groups.Group.{Group}
@@ -110,7 +110,7 @@ outputs_from : (schema : List Field) (aggs : List AggTree) (j : ℕ) (entries : 
     → outputs_of (states_from j (starts (map (λ a. function_for a.kind (input_type schema a.input)) aggs)).states entries) ≡ aggs_from j schema aggs entries
 outputs_from schema [] j entries s h up = ap outputs_of (states_from-nil j entries)
 outputs_from schema (a ∷ others) j entries s h up =
-    let parts = both_true (is_suited schema a) (list_all (is_suited schema) others) s in
+    let parts = and_parts (is_suited schema a) (list_all (is_suited schema) others) s in
     let f : AggregateFunction = function_for a.kind (input_type schema a.input) in
     let rest : List AggregateFunction = (starts (map (λ b. function_for b.kind (input_type schema b.input)) others)).states in
     let own = one-gives j schema a others entries parts.0 h up in

@@ -2,6 +2,7 @@
 use Rattle.std.proofs.Common.{◌≡◌, ◌∙◌, ℕ, ◌<◌, ◌^◌, Bool, true, List, [], ◌∷◌, length, map, refl, sym, subst}
 use Rattle.std.specs.Cmp.Derive as derive
 use Rattle.std.specs.List.{list_all}
+use Rattle.std.proofs.lemmas.Bool.{and_parts}
 use Rattle.pipe_columns.specs.declared.any_value.AnyValue.{AnyValue}
 use Rattle.pipe_columns.specs.declared.data_type.DataType.{DataType}
 use Rattle.pipe_columns.specs.declared.place.Place.{Place}
@@ -17,7 +18,6 @@ use Rattle.pipe_running.proofs.EntryFacts.{all_taken, fits-given, given-after_en
 use Rattle.pipe_aggs.specs.HashAggs.{function_for}
 use Rattle.pipe_model.specs.Groupable.{suited}
 use Rattle.pipe_model.specs.Output.{agg_fields}
-use Rattle.pipe_exprs.proofs.FitFacts.{both_true}
 use Rattle.pipe_aggs.proofs.HashAggFacts.{agg-for, suits-for, takes-for, types-for}
 use Rattle.pipe_plain.specs.Fits.{RowFits}
 
@@ -28,7 +28,7 @@ all_of_type t entries = list_all (λ v. fits v t) (values_in entries)
 taken : (k : Kind) (t : DataType) (entries : List (Place × AnyValue)) → all_of_type t entries ≡ true → all_taken (function_for k t) entries ≡ true
 taken k t [] h = refl
 taken k t (e ∷ es) h =
-    let parts = both_true (fits e.1 t) (all_of_type t es) h in
+    let parts = and_parts (fits e.1 t) (all_of_type t es) h in
     derive.both_true (takes-for k t e.1 parts.0) (taken k t es parts.1)
 
 -- it gives the aggregate of the entries

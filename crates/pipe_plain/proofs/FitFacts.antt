@@ -4,6 +4,7 @@ use Rattle.std.specs.Cmp.Derive as derive
 use Rattle.std.specs.List.{All, flat_map, list_all, range_with_len}
 use Rattle.std.proofs.lemmas.List.{length-map}
 use Rattle.std.proofs.lemmas.List.Elements.{All-append, All-cons, All-drop, All-head, All-map, All-nil, All-tail, All-take, All-weaker}
+use Rattle.std.proofs.lemmas.Bool.{and_parts}
 use Rattle.pipe_columns.specs.declared.any_value.AnyValue.{AnyValue}
 use Rattle.pipe_columns.specs.declared.data_chunk.DataChunk.{DataChunk}
 use Rattle.pipe_columns.specs.declared.place.Place.{Place}
@@ -21,7 +22,6 @@ use Rattle.pipe_model.specs.Output.{agg_fields, input_type, key_types, output_sc
 use Rattle.pipe_model.specs.Query.{AggTree, QueryTree}
 use Rattle.pipe_model.specs.Typing.{known_type}
 use Rattle.pipe_model.specs.Value.{value}
-use Rattle.pipe_exprs.proofs.FitFacts.{both_true}
 use Rattle.pipe_model.specs.Answer.{aggs_from, answer_row, groups, rows_at, tuple_cmp}
 use Rattle.pipe_model.specs.Rows.{AreChunksOf, chunk_rows, row_of, rows, rows_from}
 use Rattle.pipe_plain.specs.declared.groups.Group.{Group}
@@ -78,7 +78,7 @@ key-fits : (schema : List Field) (frame : FrameData) (n : ℕ) (keys : List Expr
     → RowFits (map (key_field schema) keys) (map (λ e. value e frame n) keys)
 key-fits schema frame n [] are hold v = tt
 key-fits schema frame n (e ∷ es) are hold v =
-    let parts = both_true (is_valued schema e) (list_all (is_valued schema) es) v in
+    let parts = and_parts (is_valued schema e) (list_all (is_valued schema) es) v in
     (valued-fits schema e frame n are hold parts.0, key-fits schema frame n es are hold parts.1)
 
 -- the key of a row fits the fields of the keys
@@ -111,7 +111,7 @@ aggs-fit : (schema : List Field) (aggs : List AggTree) (j : ℕ) (entries : Entr
     → RowFits (flat_map (λ a. agg_fields a.name a.kind (input_type schema a.input)) aggs) (aggs_from j schema aggs entries)
 aggs-fit schema [] j entries s h up few = tt
 aggs-fit schema (a ∷ others) j entries s h up few =
-    let parts = both_true (is_suited schema a) (list_all (is_suited schema) others) s in
+    let parts = and_parts (is_suited schema a) (list_all (is_suited schema) others) s in
     let t = input_type schema a.input in
     let same : length (entries_at j entries) ≡ length entries = length-map entries (λ (e : Place × List AnyValue). (e.0, value_at e.1 j)) in
     fits-append (agg_fields a.name a.kind t) _ _ (aggs_from (j + 1) schema others entries)

@@ -4,6 +4,7 @@ use Rattle.std.specs.Prelude.{is_some}
 use Rattle.std.specs.List.{All, list_all, range_with_len}
 use Rattle.std.proofs.lemmas.List.{append_assoc}
 use Rattle.std.proofs.lemmas.List.Elements.{All-append, All-cons, All-head, All-nil, All-tail}
+use Rattle.std.proofs.lemmas.Bool.{and_parts}
 use Rattle.pipe_columns.specs.declared.any_value.AnyValue.{AnyValue}
 use Rattle.pipe_columns.specs.declared.data_chunk.DataChunk.{DataChunk}
 use Rattle.pipe_columns.specs.declared.data_type.DataType.{DataType}
@@ -19,7 +20,6 @@ use Rattle.pipe_model.specs.Output.{input_type}
 use Rattle.pipe_model.specs.Query.{AggTree, each, Input, QueryTree, rows_alone}
 use Rattle.pipe_model.specs.Typing.{is_row_wise, known_type, type_of}
 use Rattle.pipe_model.specs.Value.{value}
-use Rattle.pipe_exprs.proofs.FitFacts.{both_true, value-fits}
 use Rattle.pipe_aggs.proofs.HashAggFacts.{takes-for}
 use Rattle.pipe_model.specs.Rows.{chunk_rows, input_value, row_of, rows_from}
 use Rattle.pipe_inputs.proofs.TypeFacts.{fed-fits}
@@ -40,7 +40,7 @@ fits-after : (schema : List Field) (frame : FrameData) (n : ℕ) (aggs : List Ag
     → list_all (λ a. is_fed schema a.input) aggs ≡ true → FitsFrom (length front) schema aggs (front ++ map (λ a. input_value a.input frame n) aggs)
 fits-after schema frame n [] front are hold f = tt
 fits-after schema frame n (a ∷ others) front are hold f =
-    let parts = both_true (is_fed schema a.input) (list_all (λ b. is_fed schema b.input) others) f in
+    let parts = and_parts (is_fed schema a.input) (list_all (λ b. is_fed schema b.input) others) f in
     let v : AnyValue = input_value a.input frame n in
     let vs : List AnyValue = map (λ b. input_value b.input frame n) others in
     let V : AnyValue → Type 0 = λ w. fits w (input_type schema a.input) ≡ true in
