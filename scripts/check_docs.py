@@ -406,6 +406,20 @@ def check_table_of_options(text, options):
         fault("README.md", 0, f"no row for the program's option {option}")
 
 
+def check_statuses(page, text):
+    """The tables of statuses have those of the program, each at least once."""
+    path = "crates/group_tool/src/status.rt"
+    if not there(path):
+        return
+    known = set(re.findall(r"pub const \w+: u8 = (\d+);", read(path)))
+    for head, rows in tables(text):
+        if head[0] == "status":
+            told = {row_cells[0] for _, row_cells in rows}
+            for status in sorted(told ^ known, key=int):
+                what = "no row for the status" if status in known else "the program has no status"
+                fault(page, rows[0][0], f"{what} {status}")
+
+
 def check_map(page):
     """The table of crates has those of crates.txt, each with the crates that it stands on."""
     known = crates()
@@ -436,6 +450,7 @@ def main():
         check_prose(page, text, definitions)
         check_mentions(page, text, names, pattern)
         check_options(page, text, options)
+        check_statuses(page, text)
     check_first_promises()
     check_table_of_options(read("README.md"), options)
     check_map("docs/ARCHITECTURE.md")
