@@ -1,5 +1,5 @@
 -- What a run of the tool is asked, and what it owes.
-use Rattle.std.specs.Prelude.{◌≡◌, ◌⊎◌, ℕ, ◌^◌, nat_lt, List, [], ◌∷◌, length, codes, Option, Some, None, is_ok, if◌then◌else◌, IfSome}
+use Rattle.std.specs.Prelude.{◌≡◌, ◌⊎◌, ℕ, nat_lt, List, [], ◌∷◌, length, codes, Option, Some, None, is_ok, if◌then◌else◌, IfSome}
 use Rattle.std.specs.Io.KnownBytes.{Appends}
 use Rattle.pipe_columns.specs.declared.schema.Field.{Field}
 use Rattle.pipe_columns.specs.declared.data_chunk.DataChunk.{DataChunk}
@@ -10,16 +10,13 @@ use Rattle.pipe_io.specs.Files.{Files, file_of}
 use Rattle.pipe_io.specs.Output.{WroteFront}
 use Rattle.pipe_csv.specs.Texts.{csv_text}
 use Rattle.group_tool.specs.Asked.{Asked, asks, faulty, no_json, no_query, other_words}
+use Rattle.pipe_io.specs.declared.whole_file.TheConstants.{MOST_FILE_BYTES}
 use Rattle.group_tool.specs.declared.read.TheConstants.{CHUNK_ROWS}
 use Rattle.group_tool.specs.declared.status.TheConstants.{DONE, INPUT_FAILED, INPUT_REFUSED, NOT_BUILT, NO_MEMORY, OUTPUT_FAILED, QUERY_REFUSED, TOO_LARGE}
 
 -- the name of the file that is read: standard input
 abbrev pub input_name : List ℕ
 input_name = codes "-"
-
--- the most bytes that a file may have
-abbrev pub most_bytes : ℕ
-most_bytes = 2 ^ 30
 
 -- how standard input is cut into chunks
 abbrev pub read_options : ReadOptions
@@ -36,7 +33,7 @@ answer_text files q = csv_text (answer (input_chunks files q.schema).chunks q 1)
 -- the status that a text owes, where nothing fails: too many bytes come before a misfit
 abbrev pub text_status : List Field → List ℕ → ℕ
 text_status schema text =
-    if nat_lt most_bytes (length text) then TOO_LARGE
+    if nat_lt MOST_FILE_BYTES (length text) then TOO_LARGE
     else (if is_ok (text_rows 1 schema text) then DONE else INPUT_REFUSED)
 
 -- the status that a file owes, where nothing fails; a missing one is refused
