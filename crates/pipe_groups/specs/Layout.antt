@@ -1,0 +1,56 @@
+-- Of the proofs alone: how groups lie in memory.
+use Rattle.std.specs.Prelude.{◌≡◌, ◌+◌, ◌*◌, ◌-◌, ◌≤◌, ℕ, List, [], ◌∷◌, length, take, drop, Option, None, false, vec_capacity}
+use Rattle.std.specs.List.{All}
+use Rattle.pipe_columns.specs.declared.place.Place.{Place}
+use Rattle.pipe_running.specs.declared.function.AggregateFunction.{AggregateFunction}
+use Rattle.pipe_running.specs.GroupStates.{fresh_states}
+use Rattle.pipe_groups.specs.declared.groups.Entry.{Entry}
+use Rattle.pipe_groups.specs.declared.groups.Groups.TheInside.{Inside}
+use Rattle.pipe_groups.specs.Groups.{count_held, Group, has_rows, Seen}
+use Rattle.pipe_groups.specs.Shape.{IsShape, Shape}
+
+-- the key bytes of an entry
+abbrev pub key_at : List ℕ → Entry → List ℕ
+key_at bytes e = take e.len (drop e.start bytes)
+
+-- the groups of entries: each takes n states in turn
+abbrev pub groups_at : ℕ → List ℕ → List AggregateFunction → List Entry → List Group
+groups_at n bytes states [] = []
+groups_at n bytes states (e ∷ es) =
+    record { key = key_at bytes e; first = e.first; states = take n states }
+    ∷ groups_at n bytes (drop n states) es
+
+-- what the groups are of
+abbrev pub shape_in : Inside → Shape
+shape_in a = record {
+  key_types = a.key_types.items;
+  input_types = a.input_types.items;
+  prototypes = a.prototypes.items;
+  fields = a.fields;
+}
+
+-- the groups that lie there
+abbrev pub groups_in : Inside → List Group
+groups_in a = groups_at (length a.prototypes.items) a.bytes.items a.states.items a.entries.items
+
+-- groups as contracts see them
+abbrev pub view_of : Inside → Seen
+view_of a = record {
+  shape = shape_in a;
+  groups = groups_in a;
+  room = record {
+    groups = vec_capacity a.entries - length a.entries.items;
+    states = vec_capacity a.states - length a.states.items;
+    bytes = vec_capacity a.bytes - length a.bytes.items;
+  };
+}
+
+-- keys lie within the buffer, each entry has its running aggregates, which are fresh where it has no
+-- row, and the entries with rows are counted
+pub record IsLaidOut (a : Inside) : Type 0 where
+  pub shape : IsShape (shape_in a)
+  pub within : All (λ e. e.start + e.len ≤ length a.bytes.items) a.entries.items
+  pub sized : length a.states.items ≡ length a.entries.items * length a.prototypes.items
+  pub fresh : All (λ g. has_rows g ≡ false → g.states ≡ fresh_states a.prototypes.items)
+      (groups_in a)
+  pub counted : a.held ≡ count_held (groups_in a)

@@ -1,0 +1,5 @@
+pub mod Given
+pub mod Groups
+pub mod Holds
+pub mod Layout
+pub mod Shape
