@@ -1,12 +1,12 @@
-mod ByteOrder
-mod CodeOrder
-mod Escapes
-mod EscapedText
-mod TextEnd
-mod Tuples
-mod RowBytes
-mod FrontBytes
-mod ValuesRead
-mod RowOnce
-mod FrameOnce
-mod SpilledRows
+pub mod ByteOrder
+pub mod CodeOrder
+pub mod Escapes
+pub mod EscapedText
+pub mod TextEnd
+pub mod Tuples
+pub mod RowBytes
+pub mod FrontBytes
+pub mod ValuesRead
+pub mod RowOnce
+pub mod FrameOnce
+pub mod SpilledRows
