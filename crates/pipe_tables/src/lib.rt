@@ -3,6 +3,9 @@
 
 mod hash_table;
 mod insert_end;
+mod ooc_state;
 
 pub use hash_table::AggHashTable;
 pub use insert_end::{InsertEnd, LentEnd};
+pub use ooc_state::OocState;
+pub use pipe_plan::SpillAction;
