@@ -1,0 +1,91 @@
+-- A row that is put among groups goes to the group of its key, or to a new one.
+use Rattle.std.proofs.Common.{◌≡◌, ◌∙◌, ℕ, zero, suc, ◌<◌, Bool, true, false, ◌||◌, if◌then◌else◌, is_some, Some, None, List, [], ◌∷◌, ◌++◌, length, get_or, set, refl, sym, ap, arith}
+use Rattle.std.proofs.lemmas.List.{get_or-map, length-map}
+use Rattle.std.proofs.lemmas.Cmp.{nat_list_eq_equiv}
+use Rattle.std.proofs.lemmas.Map.Keys.{apart_from_distinct, IsDistinct-tail}
+use Rattle.std.specs.List.{IsDistinct}
+use Rattle.std.specs.Str.{bytes_eq}
+use Rattle.pipe_columns.specs.declared.any_value.AnyValue.{AnyValue}
+use Rattle.pipe_columns.specs.declared.place.Place.{Place}
+use Rattle.pipe_running.specs.declared.function.AggregateFunction.{AggregateFunction}
+use Rattle.pipe_groups.specs.Groups.{cover, Group, group_of, has_rows, is_covered, is_held, keys_of, new_group, no_group, put, with_row}
+
+-- the first key differs from that of a later group
+later-differs : (g : Group) (gs : List Group) (i : ℕ) (k : List ℕ) → IsDistinct bytes_eq (keys_of (g ∷ gs)) → i < length gs → (group_of gs i).key ≡ k → bytes_eq k g.key ≡ false
+later-differs g gs i k d lt e =
+    let there : get_or (keys_of gs) i [] ≡ k = get_or-map (λ (x : Group). x.key) gs i no_group [] lt ∙ e in
+    let apart : bytes_eq g.key (get_or (keys_of gs) i []) ≡ false = apart_from_distinct bytes_eq (keys_of (g ∷ gs)) 0 (suc i) [] d (omega arith) (omega (arith, lt, length-map gs (λ (x : Group). x.key))) in
+    nat_list_eq_equiv.symm k g.key ∙ ap (bytes_eq g.key) (sym there) ∙ apart
+
+-- a key is its own
+pub same-key : (k x : List ℕ) → x ≡ k → bytes_eq k x ≡ true
+same-key k x e = ap (bytes_eq k) e ∙ nat_list_eq_equiv.refl k
+
+-- something under a test is there where the test holds
+some-if : (b : Bool) (g : Group) → is_some (if b then Some g else None) ≡ b
+some-if true g = refl
+some-if false g = refl
+
+module _ (k : List ℕ) where
+  -- where a group has the key, what is held of the key is that group, if it has rows
+  pub is_held-at : (gs : List Group) (i : ℕ) → IsDistinct bytes_eq (keys_of gs) → i < length gs → (group_of gs i).key ≡ k → is_held k gs ≡ has_rows (group_of gs i)
+  is_held-at [] i d lt e = absurd (omega arith)
+  is_held-at (g ∷ gs) zero d lt e = rw (same-key k g.key e) (some-if (has_rows g) g)
+  is_held-at (g ∷ gs) (suc i) d lt e = rw (later-differs g gs i k d (omega arith) e) (is_held-at gs i (IsDistinct-tail bytes_eq g.key (keys_of gs) d) (omega arith) e)
+
+  -- such a key is covered
+  pub is_covered-at : (gs : List Group) (i : ℕ) → i < length gs → (group_of gs i).key ≡ k → is_covered k gs ≡ true
+  is_covered-at [] i lt e = absurd (omega arith)
+  is_covered-at (g ∷ gs) zero lt e = rw (same-key k g.key e) refl
+  is_covered-at (g ∷ gs) (suc i) lt e = rw (is_covered-at gs i (omega arith) e) (by (bytes_eq k g.key)) where
+    by : (b : Bool) → b || true ≡ true
+    by true = refl
+    by false = refl
+
+  -- a key that isn't covered is not that of the first group, and not covered by the others
+  not-first : (g : Group) (gs : List Group) → is_covered k (g ∷ gs) ≡ false → bytes_eq k g.key ≡ false
+  not-first g gs h = by (bytes_eq k g.key) h where
+    by : (b : Bool) → b || is_covered k gs ≡ false → b ≡ false
+    by true h = cc
+    by false h = refl
+
+  not-later : (g : Group) (gs : List Group) → is_covered k (g ∷ gs) ≡ false → is_covered k gs ≡ false
+  not-later g gs h = by (bytes_eq k g.key) h where
+    by : (b : Bool) → b || is_covered k gs ≡ false → is_covered k gs ≡ false
+    by true h = cc
+    by false h = h
+
+  -- of a key that isn't covered nothing is held
+  pub is_held-new : (gs : List Group) → is_covered k gs ≡ false → is_held k gs ≡ false
+  is_held-new [] h = refl
+  is_held-new (g ∷ gs) h = rw (not-first g gs h) (is_held-new gs (not-later g gs h))
+
+  module _ (prototypes : List AggregateFunction) where
+    -- a covered key needs no group
+    pub cover-there : (gs : List Group) → is_covered k gs ≡ true → cover prototypes k gs ≡ gs
+    cover-there gs h = rw h refl
+
+    -- another one is given one
+    pub cover-new : (gs : List Group) → is_covered k gs ≡ false → cover prototypes k gs ≡ gs ++ new_group prototypes k ∷ []
+    cover-new gs h = rw h refl
+
+    module _ (p : Place) (inputs : List AnyValue) where
+      -- a row whose key a group has is put into that group
+      pub put-at : (gs : List Group) (i : ℕ) → IsDistinct bytes_eq (keys_of gs) → i < length gs → (group_of gs i).key ≡ k
+          → set gs i (with_row p inputs (group_of gs i)) ≡ put prototypes k p inputs gs
+      put-at [] i d lt e = absurd (omega arith)
+      put-at (g ∷ gs) zero d lt e = rw (same-key k g.key e) refl
+      put-at (g ∷ gs) (suc i) d lt e =
+          rw (later-differs g gs i k d (omega arith) e)
+          (ap (λ (rest : List Group). g ∷ rest) (put-at gs i (IsDistinct-tail bytes_eq g.key (keys_of gs) d) (omega arith) e))
+
+      -- where none has it, into a new one
+      pub put-new : (gs : List Group) → is_covered k gs ≡ false → put prototypes k p inputs gs ≡ gs ++ with_row p inputs (new_group prototypes k) ∷ []
+      put-new [] h = refl
+      put-new (g ∷ gs) h = rw (not-first g gs h) (ap (λ (rest : List Group). g ∷ rest) (put-new gs (not-later g gs h)))
+
+      -- which is pushed first, and then fed
+      pub put-pushed : (gs : List Group) → is_covered k gs ≡ false
+          → set (gs ++ new_group prototypes k ∷ []) (length gs) (with_row p inputs (group_of (gs ++ new_group prototypes k ∷ []) (length gs))) ≡ put prototypes k p inputs gs
+      put-pushed [] h = refl
+      put-pushed (g ∷ gs) h = rw (not-first g gs h) (ap (λ (rest : List Group). g ∷ rest) (put-pushed gs (not-later g gs h)))
