@@ -2,5 +2,7 @@
 #![tactic(auto)]
 
 mod groups;
+mod row_code;
 
 pub use groups::Groups;
+pub use row_code::encode_row;
