@@ -2,4 +2,5 @@ pub mod Given
 pub mod Groups
 pub mod Holds
 pub mod Layout
+pub mod Placed
 pub mod Shape

@@ -1,8 +1,13 @@
 //! Groups in one buffer: the keys' bytes, the running aggregates and the first places of rows.
 #![tactic(auto)]
 
+mod finish;
 mod groups;
+mod placed_groups;
+mod places;
 mod row_code;
 
 pub use groups::Groups;
+pub use placed_groups::PlacedGroups;
+pub use places::Places;
 pub use row_code::encode_row;
