@@ -1,1 +1,3 @@
+pub mod HoldFacts
 pub mod PutFacts
+pub mod ShapeFacts

@@ -1,6 +1,6 @@
 -- What a table keeps of rows: groups.
-use Rattle.std.specs.Prelude.{◌≡◌, ◌*◌, ◌≤◌, ◌+◌, ℕ, Bool, List, [], ◌∷◌, ◌++◌, map, filter, length, slice_index_or, Option, Some, None, is_some, unwrap_or, if◌then◌else◌, sum_by}
-use Rattle.std.specs.List.{list_any}
+use Rattle.std.specs.Prelude.{◌≡◌, ◌*◌, ◌≤◌, ℕ, Bool, false, List, [], ◌∷◌, ◌++◌, map, filter, length, slice_index_or, Option, Some, None, is_some, unwrap_or, if◌then◌else◌, sum_by}
+use Rattle.std.specs.List.{All, list_any}
 use Rattle.std.specs.Str.{bytes_eq}
 use Rattle.pipe_columns.specs.declared.any_value.AnyValue.{AnyValue}
 use Rattle.pipe_columns.specs.declared.place.Place.{Place}
@@ -85,6 +85,10 @@ is_held k gs = is_some (held_at k gs)
 -- the groups that hold rows
 abbrev pub held_groups : List Group → List Group
 held_groups gs = filter has_rows gs
+
+-- each group without rows has the running aggregates of none
+abbrev pub RowlessAreFresh : List AggregateFunction → List Group → Type 0
+RowlessAreFresh prototypes gs = All (λ g. has_rows g ≡ false → g.states ≡ fresh_states prototypes) gs
 
 -- how many keys hold a row
 abbrev pub count_held : List Group → ℕ

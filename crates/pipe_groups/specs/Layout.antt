@@ -1,12 +1,11 @@
 -- Of the proofs alone: how groups lie in memory.
-use Rattle.std.specs.Prelude.{◌≡◌, ◌+◌, ◌*◌, ◌-◌, ◌≤◌, ℕ, List, [], ◌∷◌, length, take, drop, Option, None, false, vec_capacity}
+use Rattle.std.specs.Prelude.{◌≡◌, ◌+◌, ◌*◌, ◌-◌, ◌≤◌, ℕ, List, [], ◌∷◌, length, take, drop, Option, None, vec_capacity}
 use Rattle.std.specs.List.{All}
 use Rattle.pipe_columns.specs.declared.place.Place.{Place}
 use Rattle.pipe_running.specs.declared.function.AggregateFunction.{AggregateFunction}
-use Rattle.pipe_running.specs.GroupStates.{fresh_states}
 use Rattle.pipe_groups.specs.declared.groups.Entry.{Entry}
 use Rattle.pipe_groups.specs.declared.groups.Groups.TheInside.{Inside}
-use Rattle.pipe_groups.specs.Groups.{count_held, Group, has_rows, Seen}
+use Rattle.pipe_groups.specs.Groups.{count_held, Group, RowlessAreFresh, Seen}
 use Rattle.pipe_groups.specs.Shape.{IsShape, Shape}
 
 -- the key bytes of an entry
@@ -51,6 +50,5 @@ pub record IsLaidOut (a : Inside) : Type 0 where
   pub shape : IsShape (shape_in a)
   pub within : All (λ e. e.start + e.len ≤ length a.bytes.items) a.entries.items
   pub sized : length a.states.items ≡ length a.entries.items * length a.prototypes.items
-  pub fresh : All (λ g. has_rows g ≡ false → g.states ≡ fresh_states a.prototypes.items)
-      (groups_in a)
+  pub fresh : RowlessAreFresh a.prototypes.items (groups_in a)
   pub counted : a.held ≡ count_held (groups_in a)

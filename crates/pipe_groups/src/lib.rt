@@ -3,11 +3,13 @@
 
 mod finish;
 mod groups;
+mod laws;
 mod placed_groups;
 mod places;
 mod row_code;
 
 pub use groups::Groups;
+pub use laws::what_groups_hold;
 pub use placed_groups::PlacedGroups;
 pub use places::Places;
 pub use row_code::encode_row;

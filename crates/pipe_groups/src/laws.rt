@@ -1,0 +1,36 @@
+//! What groups hold, whatever comes, and what they give.
+
+ghost use Rattle.std.specs.Prelude.{◌≡◌, List, [], ◌∷◌, ◌++◌, ℕ, Bool, None, filter, if◌then◌else◌};
+ghost use Rattle.std.specs.List.Sorted.{IsPermutation};
+ghost use Rattle.pipe_running.specs.declared.function.AggregateFunction.{AggregateFunction};
+ghost use Rattle.pipe_spill.specs.SpillRow.{IsRow};
+ghost use Rattle.pipe_spill.specs.declared.spill_row.SpillRow.{SpillRow};
+ghost use Rattle.pipe_groups.specs.Groups.{AreJoined, cover, Group, held_at, put, RowlessAreFresh};
+ghost use Rattle.pipe_groups.specs.Holds.{Holds};
+ghost use Rattle.pipe_groups.specs.Shape.{IsShape, Shape};
+
+/// Which rows groups hold: none, one more, the same with room for a key, those of two joined, the
+/// same in another order, those of some keys.
+pub fn what_groups_hold()
+    ensures none { (prototypes : List AggregateFunction) → Holds prototypes [] [] }
+    ensures row { (s : Shape) (gs : List Group) (rows : List SpillRow) (r : SpillRow) → IsShape s
+        → IsRow s.key_types s.input_types r → RowlessAreFresh s.prototypes gs
+        → Holds s.prototypes gs rows
+        → Holds s.prototypes (put s.prototypes r.key r.place r.values gs) (rows ++ r ∷ []) }
+    ensures covered { (prototypes : List AggregateFunction) (gs : List Group)
+        (rows : List SpillRow) (k : List ℕ) → Holds prototypes gs rows
+        → Holds prototypes (cover prototypes k gs) rows }
+    ensures joined { (prototypes : List AggregateFunction) (gs others joined : List Group)
+        (xs ys : List SpillRow) → AreJoined prototypes gs others joined → Holds prototypes gs xs
+        → Holds prototypes others ys
+        → Holds prototypes joined (xs ++ ys) × Holds prototypes joined (ys ++ xs) }
+    ensures order { (prototypes : List AggregateFunction) (gs : List Group)
+        (rows others : List SpillRow) → IsPermutation rows others → Holds prototypes gs rows
+        → Holds prototypes gs others }
+    ensures part { (prototypes : List AggregateFunction) (test : List ℕ → Bool)
+        (gs part : List Group) (rows : List SpillRow)
+        → ((k : List ℕ) → held_at k part ≡ (if test k then held_at k gs else None))
+        → Holds prototypes gs rows → Holds prototypes part (filter (λ r. test r.key) rows) }
+    ensures filtered { (test : List ℕ → Bool) (k : List ℕ) (gs : List Group)
+        → held_at k (filter (λ g. test g.key) gs) ≡ (if test k then held_at k gs else None) }
+{}
