@@ -1,0 +1,3 @@
+pub mod LastIndex
+pub mod Walks
+mod LinkFacts
