@@ -1,3 +1,5 @@
 pub mod HoldFacts
 pub mod PutFacts
 pub mod ShapeFacts
+pub mod LaidFacts
+pub mod FreshFacts

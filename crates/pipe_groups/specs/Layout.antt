@@ -1,7 +1,6 @@
 -- Of the proofs alone: how groups lie in memory.
-use Rattle.std.specs.Prelude.{◌≡◌, ◌+◌, ◌*◌, ◌-◌, ◌≤◌, ℕ, List, [], ◌∷◌, length, take, drop, Option, None, vec_capacity}
+use Rattle.std.specs.Prelude.{◌≡◌, ◌+◌, ◌*◌, ◌-◌, ◌≤◌, ℕ, List, [], ◌∷◌, length, take, drop, if◌then◌else◌, is_some, sum_by, vec_capacity}
 use Rattle.std.specs.List.{All}
-use Rattle.pipe_columns.specs.declared.place.Place.{Place}
 use Rattle.pipe_running.specs.declared.function.AggregateFunction.{AggregateFunction}
 use Rattle.pipe_groups.specs.declared.groups.Entry.{Entry}
 use Rattle.pipe_groups.specs.declared.groups.Groups.TheInside.{Inside}
@@ -18,6 +17,10 @@ groups_at n bytes states [] = []
 groups_at n bytes states (e ∷ es) =
     record { key = key_at bytes e; first = e.first; states = take n states }
     ∷ groups_at n bytes (drop n states) es
+
+-- how many bytes the key of an entry has, where it holds a row
+abbrev pub held_len : Entry → ℕ
+held_len e = if is_some e.first then e.len else 0
 
 -- what the groups are of
 abbrev pub shape_in : Inside → Shape
@@ -44,11 +47,12 @@ view_of a = record {
   };
 }
 
--- keys lie within the buffer, each entry has its running aggregates, which are fresh where it has no
--- row, and the entries with rows are counted
+-- keys lie within the buffer and fill it, each entry has its running aggregates, which are fresh where
+-- it has no row, and the entries with rows are counted
 pub record IsLaidOut (a : Inside) : Type 0 where
   pub shape : IsShape (shape_in a)
   pub within : All (λ e. e.start + e.len ≤ length a.bytes.items) a.entries.items
+  pub filled : sum_by (λ e. e.len) a.entries.items ≡ length a.bytes.items
   pub sized : length a.states.items ≡ length a.entries.items * length a.prototypes.items
   pub fresh : RowlessAreFresh a.prototypes.items (groups_in a)
   pub counted : a.held ≡ count_held (groups_in a)
