@@ -1,0 +1,181 @@
+-- The rows of a chunk that are taken one by one, and of chunks.
+use Rattle.std.proofs.Common.{◌≡◌, ◌∙◌, ℕ, ◌+◌, ◌<◌, ◌^◌, suc, List, [], ◌∷◌, ◌++◌, length, map, get_or, refl, sym, ap, subst, arith, ◌≤◌}
+use Rattle.std.specs.List.{All, range_with_len}
+use Rattle.std.proofs.lemmas.List.{append_assoc, append-nil, length-append, length-map, map-append}
+use Rattle.std.proofs.lemmas.List.Elements.{All-append, All-cons, All-map, All-nil}
+use Rattle.std.proofs.lemmas.List.FromFn.{get_or-range_with_len, length-map-range_with_len, length-range_with_len, map-range_with_len_more}
+use Rattle.std.proofs.lemmas.List.Sums.{sum_by-cons, sum_by_push}
+use Rattle.std.proofs.lemmas.Option.{unwrap_or-slice_get}
+use Rattle.pipe_columns.specs.declared.data_chunk.DataChunk.{DataChunk}
+use Rattle.pipe_columns.specs.declared.data_type.DataType.{DataType}
+use Rattle.pipe_columns.specs.Frame.{FitsSchema, FrameData, HoldsTypes}
+use Rattle.pipe_columns.specs.Row.{Row}
+use Rattle.pipe_model.specs.Output.{key_types}
+use Rattle.pipe_model.specs.Query.{QueryTree}
+use Rattle.pipe_model.specs.Rows.{AreChunksOf, chunk_rows, row_of, rows, rows_from, total_height}
+use Rattle.pipe_aggs.specs.CheckedQuery.{input_types}
+use Rattle.pipe_inputs.specs.ChunkRows.{no_row, row_at}
+use Rattle.pipe_inputs.specs.RowTypes.{IsRowOf}
+use Rattle.pipe_inputs.proofs.CellFacts.{row_at-chunk}
+use Rattle.pipe_spill.specs.SpillRow.{AreRows, HasValues, IsRow, spilled}
+use Rattle.pipe_spill.specs.declared.spill_row.SpillRow.{SpillRow}
+use Rattle.pipe_spill.proofs.SpilledRows.{spilled_is_row}
+use Rattle.pipe_groups.specs.Groups.{Group}
+use Rattle.pipe_groups.specs.Holds.{HoldFewer, Holds}
+use Rattle.pipe_groups.specs.Shape.{Shape, shape_of}
+use Rattle.pipe_tables.specs.Tables.{Table}
+use Rattle.pipe_tables.specs.Taken.{HasTaken, spilled_rows}
+
+-- the first rows of a chunk
+abbrev pub rows_to : QueryTree → ℕ → FrameData → ℕ → List Row
+rows_to q i frame n = map (λ m. row_of q i frame m) (range_with_len 0 n)
+
+-- what is spilled of them
+abbrev pub spilled_to : QueryTree → ℕ → FrameData → ℕ → List SpillRow
+spilled_to q i frame n = map (spilled (key_types q)) (rows_to q i frame n)
+
+-- a table that took the first rows of a chunk
+pub record TookRows (q : QueryTree) (i : ℕ) (frame : FrameData) (n : ℕ) (old now : Table) : Type 0 where
+  pub shape : now.shape ≡ old.shape
+  pub limit : now.limit ≡ old.limit
+  pub holds : (taken : List SpillRow) → Holds old.shape.prototypes old.groups taken
+      → Holds old.shape.prototypes now.groups (taken ++ spilled_to q i frame n)
+
+-- one row more
+pub spilled_more : (q : QueryTree) (i : ℕ) (frame : FrameData) (n : ℕ) → spilled_to q i frame (n + 1) ≡ spilled_to q i frame n ++ spilled (key_types q) (row_of q i frame n) ∷ []
+spilled_more q i frame n =
+    ap (map (spilled (key_types q))) (map-range_with_len_more (λ m. row_of q i frame m) 0 n n (omega arith))
+    ∙ map-append (spilled (key_types q)) (rows_to q i frame n) (row_of q i frame n ∷ [])
+
+pub length-spilled_to : (q : QueryTree) (i : ℕ) (frame : FrameData) (n : ℕ) → length (spilled_to q i frame n) ≡ n
+length-spilled_to q i frame n = length-map (rows_to q i frame n) (spilled (key_types q)) ∙ length-map-range_with_len (λ m. row_of q i frame m) 0 n
+
+-- the next row is taken
+pub took-more : (q : QueryTree) (i : ℕ) (frame : FrameData) (n : ℕ) (old now new : Table) (r : SpillRow) → TookRows q i frame n old now
+    → r ≡ spilled (key_types q) (row_of q i frame n) → new.shape ≡ now.shape → new.limit ≡ now.limit
+    → ((rows : List SpillRow) → Holds now.shape.prototypes now.groups rows → Holds now.shape.prototypes new.groups (rows ++ r ∷ []))
+    → TookRows q i frame (n + 1) old new
+took-more q i frame n old now new r took is shape limit more =
+    let front : List SpillRow = spilled_to q i frame n in
+    let P : Shape → Type 0 = λ s. (rows : List SpillRow) → Holds s.prototypes now.groups rows → Holds s.prototypes new.groups (rows ++ r ∷ []) in
+    let step : P old.shape = subst P took.shape more in
+    let longer : front ++ r ∷ [] ≡ spilled_to q i frame (n + 1) = ap (λ (x : SpillRow). front ++ x ∷ []) is ∙ sym (spilled_more q i frame n) in
+    record {
+      shape = shape ∙ took.shape;
+      limit = limit ∙ took.limit;
+      holds = λ taken h.
+          subst (Holds old.shape.prototypes new.groups) (append_assoc taken front (r ∷ []) ∙ ap (λ (l : List SpillRow). taken ++ l) longer)
+          (step (taken ++ front) (took.holds taken h));
+    }
+
+-- ---- each is a row of the query's types
+
+pub row-typed : (q : QueryTree) (i : ℕ) (frame : FrameData) (n : ℕ) (rs : List Row) → rs ≡ chunk_rows q i frame → All (IsRowOf q) rs
+    → i < 2 ^ 32 → frame.height < 2 ^ 32 → n < frame.height → IsRow (key_types q) (input_types q) (spilled (key_types q) (row_of q i frame n))
+row-typed q i frame n rs e all few small lt =
+    let long : n < length (chunk_rows q i frame) = omega (arith, length-map-range_with_len (λ m. row_of q i frame m) 0 frame.height, lt) in
+    let at : IsRowOf q (get_or (chunk_rows q i frame) n no_row) = subst (All (IsRowOf q)) e all n no_row long in
+    let is : IsRowOf q (row_of q i frame n) =
+    subst (IsRowOf q) (sym (unwrap_or-slice_get (chunk_rows q i frame) n no_row) ∙ row_at-chunk q i frame n lt) at in
+    spilled_is_row (key_types q) (input_types q) (row_of q i frame n) (record {
+      chunk = few;
+      row = omega (arith, lt, small);
+      key = record { of_types = is.key.fit; utf8 = is.key.utf8 };
+      inputs = record { of_types = is.inputs.fit; utf8 = is.inputs.utf8 };
+    })
+
+-- and so are the first rows of the chunk
+pub rows-typed : (q : QueryTree) (i : ℕ) (frame : FrameData) (n : ℕ) (rs : List Row) → rs ≡ chunk_rows q i frame → All (IsRowOf q) rs
+    → i < 2 ^ 32 → frame.height < 2 ^ 32 → n ≤ frame.height → AreRows (key_types q) (input_types q) (spilled_to q i frame n)
+rows-typed q i frame n rs e all few small most =
+    let P : Row → Type 0 = λ r. IsRow (key_types q) (input_types q) (spilled (key_types q) r) in
+    All-map (IsRow (key_types q) (input_types q)) (spilled (key_types q)) (rows_to q i frame n)
+    (All-map P (row_of q i frame) (range_with_len 0 n)
+    (λ k d l.
+    let lt : k < n = omega (arith, l, length-range_with_len 0 n) in
+    subst (λ (m : ℕ). P (row_of q i frame m)) (sym (get_or-range_with_len 0 n k d lt ∙ omega arith))
+    (row-typed q i frame k rs e all few small (omega (arith, lt, most)))))
+
+-- there is room for the next
+pub room-for-one : (q : QueryTree) (i : ℕ) (frame : FrameData) (n : ℕ) (old now : Table) → TookRows q i frame n old now → old.shape ≡ shape_of q
+    → HoldFewer old.shape old.groups frame.height → AreRows (key_types q) (input_types q) (spilled_to q i frame n) → n < frame.height
+    → HoldFewer now.shape now.groups 1
+room-for-one q i frame n old now took is h typed lt =
+    let own : AreRows old.shape.key_types old.shape.input_types (spilled_to q i frame n) =
+    subst (λ (s : Shape). AreRows s.key_types s.input_types (spilled_to q i frame n)) (sym is) typed in
+    subst (λ (s : Shape). HoldFewer s now.groups 1) (sym took.shape) (record {
+      rows = h.rows ++ spilled_to q i frame n;
+      holds = took.holds h.rows h.holds;
+      typed = All-append (IsRow old.shape.key_types old.shape.input_types) h.rows (spilled_to q i frame n) h.typed own;
+      few = omega (arith, h.few, length-append h.rows (spilled_to q i frame n), length-spilled_to q i frame n, lt);
+    })
+
+-- ---- chunks
+
+rows_from-push : (q : QueryTree) (i : ℕ) (cs : List DataChunk) (c : DataChunk) → rows_from q i (cs ++ (c ∷ [])) ≡ rows_from q i cs ++ chunk_rows q (i + length cs) c.frame
+rows_from-push q i [] c = append-nil (chunk_rows q i c.frame) ∙ ap (λ (k : ℕ). chunk_rows q k c.frame) (omega arith)
+rows_from-push q i (x ∷ xs) c =
+    let rest : rows_from q (i + 1) (xs ++ (c ∷ [])) ≡ rows_from q (i + 1) xs ++ chunk_rows q (i + suc (length xs)) c.frame =
+    rows_from-push q (i + 1) xs c ∙ ap (λ (k : ℕ). rows_from q (i + 1) xs ++ chunk_rows q k c.frame) (omega arith) in
+    ap (λ (t : List Row). chunk_rows q i x.frame ++ t) rest ∙ sym (append_assoc (chunk_rows q i x.frame) (rows_from q (i + 1) xs) (chunk_rows q (i + suc (length xs)) c.frame))
+
+-- the rows of chunks with one more
+pub rows-push : (q : QueryTree) (taken : List DataChunk) (c : DataChunk) → spilled_rows q (taken ++ (c ∷ [])) ≡ spilled_rows q taken ++ map (spilled (key_types q)) (chunk_rows q (length taken) c.frame)
+rows-push q taken c =
+    let longer : rows (taken ++ (c ∷ [])) q ≡ rows taken q ++ chunk_rows q (length taken) c.frame =
+    rows_from-push q 0 taken c ∙ ap (λ (k : ℕ). rows taken q ++ chunk_rows q k c.frame) (omega arith) in
+    ap (map (spilled (key_types q))) longer ∙ map-append (spilled (key_types q)) (rows taken q) (chunk_rows q (length taken) c.frame)
+
+-- each row of each chunk is one
+length-rows_from : (q : QueryTree) (i : ℕ) (cs : List DataChunk) → length (rows_from q i cs) ≡ total_height cs
+length-rows_from q i [] = refl
+length-rows_from q i (c ∷ cs) = length-append (chunk_rows q i c.frame) (rows_from q (i + 1) cs)
+    ∙ omega (arith, length-map-range_with_len (λ n. row_of q i c.frame n) 0 c.frame.height, length-rows_from q (i + 1) cs, sum_by-cons (λ (x : DataChunk). x.frame.height) c cs)
+
+pub length-rows : (q : QueryTree) (taken : List DataChunk) → length (spilled_rows q taken) ≡ total_height taken
+length-rows q taken = length-map (rows taken q) (spilled (key_types q)) ∙ length-rows_from q 0 taken
+
+-- chunks that a query may be asked of, with one more
+chunks-more : (q : QueryTree) (taken : List DataChunk) (c : DataChunk) → AreChunksOf q taken → FitsSchema q.schema c.frame → HoldsTypes c.frame
+    → total_height taken + c.frame.height < 2 ^ 32 → length taken + 1 < 2 ^ 32 → AreChunksOf q (taken ++ (c ∷ []))
+chunks-more q taken c are fits typed few number =
+    let S : DataChunk → Type 0 = λ x. FitsSchema q.schema x.frame in
+    let H : DataChunk → Type 0 = λ x. HoldsTypes x.frame in
+    record {
+      columns = All-append S taken (c ∷ []) are.columns (All-cons S c [] fits (All-nil S));
+      typed = All-append H taken (c ∷ []) are.typed (All-cons H c [] typed (All-nil H));
+      rows = omega (arith, few, sum_by_push (λ (x : DataChunk). x.frame.height) taken c);
+      number = omega (arith, number, length-append taken (c ∷ []));
+    }
+
+-- there is room for the rows of one more
+pub room-for-chunk : (q : QueryTree) (taken : List DataChunk) (height : ℕ) (t : Table) → HasTaken q taken t → total_height taken + height < 2 ^ 32
+    → HoldFewer t.shape t.groups height
+room-for-chunk q taken height t h few = record {
+  rows = spilled_rows q taken;
+  holds = h.holds;
+  typed = h.typed;
+  few = omega (arith, few, length-rows q taken);
+}
+
+-- a table that took the rows of one more chunk has taken it
+pub taken-more : (q : QueryTree) (taken : List DataChunk) (c : DataChunk) (i : ℕ) (old new : Table) → HasTaken q taken old → i ≡ length taken
+    → FitsSchema q.schema c.frame → HoldsTypes c.frame → total_height taken + c.frame.height < 2 ^ 32 → length taken + 1 < 2 ^ 32
+    → new.shape ≡ old.shape → new.limit ≡ old.limit
+    → ((rows : List SpillRow) → Holds old.shape.prototypes old.groups rows → Holds old.shape.prototypes new.groups (rows ++ map (spilled (key_types q)) (chunk_rows q i c.frame)))
+    → AreRows old.shape.key_types old.shape.input_types (map (spilled (key_types q)) (chunk_rows q i c.frame))
+    → HasTaken q (taken ++ (c ∷ [])) new
+taken-more q taken c i old new h at fits types few number shape limit holds typed =
+    let own : List SpillRow = map (spilled (key_types q)) (chunk_rows q i c.frame) in
+    let all : spilled_rows q taken ++ own ≡ spilled_rows q (taken ++ (c ∷ [])) =
+    ap (λ (k : ℕ). spilled_rows q taken ++ map (spilled (key_types q)) (chunk_rows q k c.frame)) at ∙ sym (rows-push q taken c) in
+    let H : Shape → List SpillRow → Type 0 = λ s rows. Holds s.prototypes new.groups rows in
+    let R : Shape → List SpillRow → Type 0 = λ s rows. AreRows s.key_types s.input_types rows in
+    record {
+      chunks = chunks-more q taken c h.chunks fits types few number;
+      shape = shape ∙ h.shape;
+      limit = limit ∙ h.limit;
+      holds = subst (λ (s : Shape). H s (spilled_rows q (taken ++ (c ∷ [])))) (sym shape) (subst (H old.shape) all (holds (spilled_rows q taken) h.holds));
+      typed = subst (λ (s : Shape). R s (spilled_rows q (taken ++ (c ∷ [])))) (sym shape)
+          (subst (R old.shape) all (All-append (IsRow old.shape.key_types old.shape.input_types) (spilled_rows q taken) own h.typed typed));
+    }

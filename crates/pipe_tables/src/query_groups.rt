@@ -1,0 +1,124 @@
+//! The groups of a query over chunks that come one by one.
+
+ghost use Rattle.std.specs.Prelude.{◌≡◌, ◌+◌, ◌<◌, ◌^◌, ◌∷◌, ◌++◌, [], IfOk, List, None, OnOk, length, map};
+ghost use Rattle.pipe_columns.specs.Frame.{FitsSchema, HoldsTypes};
+ghost use Rattle.pipe_aggs.specs.QueryTrees.{query_tree};
+ghost use Rattle.pipe_model.specs.Answer.{answer};
+ghost use Rattle.pipe_model.specs.Output.{key_types};
+ghost use Rattle.pipe_model.specs.Rows.{chunk_rows, total_height};
+ghost use Rattle.pipe_spill.specs.SpillRow.{AreRows, spilled};
+ghost use Rattle.pipe_spill.specs.declared.spill_row.SpillRow.{SpillRow};
+ghost use Rattle.pipe_groups.specs.Holds.{HoldFewer, Holds};
+ghost use Rattle.pipe_groups.specs.Shape.{shape_of};
+ghost use Rattle.pipe_tables.specs.Tables.{KeepsShape};
+
+use crate::hash_table::AggHashTable;
+use crate::insert_end::LentEnd;
+use pipe_aggs::CheckedQuery;
+use pipe_columns::{DataChunk, DataFrame};
+use pipe_groups::encode_row;
+use pipe_inputs::ChunkRows;
+use std::alloc::{AllocError, Global};
+use std::marker::Model;
+use std::snapshot::Snapshot;
+
+/// Puts the rows of the chunk at a position into a table without a limit.
+fn add_chunk(
+    alloc: Global,
+    table: &mut AggHashTable,
+    key: &mut Vec<u8>,
+    query: &CheckedQuery<'_>,
+    index: u32,
+    chunk: &DataChunk,
+) -> Result<(), AllocError>
+    requires fits { FitsSchema query.now.schema chunk.now.frame }
+    requires height { chunk.now.frame.height < 2 ^ 32 }
+    requires shape { table.old.shape ≡ shape_of (query_tree query.now) }
+    requires limit { table.old.limit ≡ None }
+    requires few { HoldFewer table.old.shape table.old.groups chunk.now.frame.height }
+    ensures shape { KeepsShape table.old table.new }
+    ensures holds { OnOk result ((taken : List SpillRow)
+        → Holds table.old.shape.prototypes table.old.groups taken
+        → Holds table.old.shape.prototypes table.new.groups
+        (taken ++ map (spilled (key_types (query_tree query.now)))
+        (chunk_rows (query_tree query.now) index chunk.now.frame))) }
+    ensures typed { OnOk result (AreRows table.old.shape.key_types table.old.shape.input_types
+        (map (spilled (key_types (query_tree query.now)))
+        (chunk_rows (query_tree query.now) index chunk.now.frame))) }
+    ensures types { HoldsTypes chunk.now.frame }
+{
+    let height = chunk.frame.height();
+    let rows = ChunkRows::new(alloc, query, index, chunk)?;
+    let types = query.key_types();
+    for row in 0..height {
+        encode_row(key, &rows, row, types)?;
+        match table.insert_lent(key, &rows, row) {
+            LentEnd::Done => {}
+            LentEnd::Overflow | LentEnd::Memory => return Err(AllocError),
+        }
+    }
+    Ok(())
+}
+
+/// The groups of a query over chunks that come one by one. Contracts see the query and the chunks
+/// taken, though of each only a mark without bytes is kept.
+#[derive(Drop)]
+pub struct QueryGroups<'a> {
+    query: &'a CheckedQuery<'a>,
+    table: AggHashTable,
+    key: Vec<u8>,
+    taken: Vec<Snapshot<DataChunk>>,
+}
+
+impl<'a> Model for QueryGroups<'a> {
+    ghost use Rattle.std.specs.Prelude.{map};
+    ghost use Rattle.pipe_aggs.specs.QueryTrees.{query_tree};
+    ghost use Rattle.pipe_tables.specs.Taken.{HasTaken, QueryRun};
+
+    ghost Value = { QueryRun };
+
+    ghost view = { λ a. record { query = a.query.now; taken = map (λ s. s.value) a.taken.items } };
+
+    ghost invariant = { λ a. HasTaken (query_tree a.query.now)
+        (map (λ s. s.value) a.taken.items) a.table };
+}
+
+impl<'a> QueryGroups<'a> {
+    /// No chunk is taken yet. The error is want of memory, as it is of the other methods.
+    pub fn new(alloc: Global, query: &'a CheckedQuery<'a>) -> Result<QueryGroups<'a>, AllocError>
+        ensures { IfOk result (λ g. g ≡ record { query = query.now; taken = [] }) }
+    {
+        let table = AggHashTable::new(alloc, query, None)?;
+        Ok(QueryGroups {
+            query,
+            table,
+            key: Vec::new(alloc),
+            taken: Vec::new(alloc),
+        })
+    }
+
+    /// Takes the rows of the next chunk, which may then be dropped.
+    pub fn add(self, alloc: Global, chunk: &DataChunk) -> Result<QueryGroups<'a>, AllocError>
+        requires fits { FitsSchema self.query.schema chunk.now.frame }
+        requires few { total_height self.taken + chunk.now.frame.height < 2 ^ 32 }
+        requires number { length self.taken + 1 < 2 ^ 32 }
+        ensures query { IfOk result (λ g. g.query ≡ self.entry.query) }
+        ensures taken { IfOk result (λ g. g.taken ≡ self.entry.taken ++ chunk.now ∷ []) }
+    {
+        let QueryGroups {
+            query,
+            mut table,
+            mut key,
+            mut taken,
+        } = self;
+        let index = taken.len() as u32;
+        add_chunk(alloc, &mut table, &mut key, query, index, chunk)?;
+        taken.push(Snapshot::of(chunk))?;
+        Ok(QueryGroups {
+            query,
+            table,
+            key,
+            taken,
+        })
+    }
+}
