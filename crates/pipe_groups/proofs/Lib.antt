@@ -1,3 +1,5 @@
+pub mod FeedFacts
+pub mod GiveFacts
 pub mod HoldFacts
 pub mod PutFacts
 pub mod ShapeFacts

@@ -1,5 +1,5 @@
 -- A row that is put among groups goes to the group of its key, or to a new one.
-use Rattle.std.proofs.Common.{◌≡◌, ◌∙◌, ℕ, zero, suc, ◌<◌, Bool, true, false, ◌||◌, if◌then◌else◌, is_some, Some, None, List, [], ◌∷◌, ◌++◌, length, get_or, set, refl, sym, ap, arith}
+use Rattle.std.proofs.Common.{◌≡◌, ◌∙◌, ℕ, zero, suc, ◌<◌, Bool, true, false, ◌||◌, if◌then◌else◌, is_some, Option, Some, None, List, [], ◌∷◌, ◌++◌, length, get_or, set, refl, sym, ap, arith}
 use Rattle.std.proofs.lemmas.List.{get_or-map, length-map}
 use Rattle.std.proofs.lemmas.Cmp.{nat_list_eq_equiv}
 use Rattle.std.proofs.lemmas.Map.Keys.{apart_from_distinct, IsDistinct-tail}
@@ -8,7 +8,7 @@ use Rattle.std.specs.Str.{bytes_eq}
 use Rattle.pipe_columns.specs.declared.any_value.AnyValue.{AnyValue}
 use Rattle.pipe_columns.specs.declared.place.Place.{Place}
 use Rattle.pipe_running.specs.declared.function.AggregateFunction.{AggregateFunction}
-use Rattle.pipe_groups.specs.Groups.{cover, Group, group_of, has_rows, is_covered, is_held, keys_of, new_group, no_group, put, with_row}
+use Rattle.pipe_groups.specs.Groups.{cover, Group, group_of, has_rows, held_at, is_covered, is_held, keys_of, new_group, no_group, put, with_row}
 
 -- the first key differs from that of a later group
 later-differs : (g : Group) (gs : List Group) (i : ℕ) (k : List ℕ) → IsDistinct bytes_eq (keys_of (g ∷ gs)) → i < length gs → (group_of gs i).key ≡ k → bytes_eq k g.key ≡ false
@@ -28,10 +28,14 @@ some-if false g = refl
 
 module _ (k : List ℕ) where
   -- where a group has the key, what is held of the key is that group, if it has rows
+  pub held_at-at : (gs : List Group) (i : ℕ) → IsDistinct bytes_eq (keys_of gs) → i < length gs → (group_of gs i).key ≡ k
+      → held_at k gs ≡ (if has_rows (group_of gs i) then Some (group_of gs i) else None)
+  held_at-at [] i d lt e = absurd (omega arith)
+  held_at-at (g ∷ gs) zero d lt e = rw (same-key k g.key e) refl
+  held_at-at (g ∷ gs) (suc i) d lt e = rw (later-differs g gs i k d (omega arith) e) (held_at-at gs i (IsDistinct-tail bytes_eq g.key (keys_of gs) d) (omega arith) e)
+
   pub is_held-at : (gs : List Group) (i : ℕ) → IsDistinct bytes_eq (keys_of gs) → i < length gs → (group_of gs i).key ≡ k → is_held k gs ≡ has_rows (group_of gs i)
-  is_held-at [] i d lt e = absurd (omega arith)
-  is_held-at (g ∷ gs) zero d lt e = rw (same-key k g.key e) (some-if (has_rows g) g)
-  is_held-at (g ∷ gs) (suc i) d lt e = rw (later-differs g gs i k d (omega arith) e) (is_held-at gs i (IsDistinct-tail bytes_eq g.key (keys_of gs) d) (omega arith) e)
+  is_held-at gs i d lt e = ap (λ (o : Option Group). is_some o) (held_at-at gs i d lt e) ∙ some-if (has_rows (group_of gs i)) (group_of gs i)
 
   -- such a key is covered
   pub is_covered-at : (gs : List Group) (i : ℕ) → i < length gs → (group_of gs i).key ≡ k → is_covered k gs ≡ true
@@ -56,9 +60,12 @@ module _ (k : List ℕ) where
     by false h = h
 
   -- of a key that isn't covered nothing is held
+  pub held_at-new : (gs : List Group) → is_covered k gs ≡ false → held_at k gs ≡ None
+  held_at-new [] h = refl
+  held_at-new (g ∷ gs) h = rw (not-first g gs h) (held_at-new gs (not-later g gs h))
+
   pub is_held-new : (gs : List Group) → is_covered k gs ≡ false → is_held k gs ≡ false
-  is_held-new [] h = refl
-  is_held-new (g ∷ gs) h = rw (not-first g gs h) (is_held-new gs (not-later g gs h))
+  is_held-new gs h = ap (λ (o : Option Group). is_some o) (held_at-new gs h)
 
   module _ (prototypes : List AggregateFunction) where
     -- a covered key needs no group

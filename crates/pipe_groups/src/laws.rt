@@ -1,12 +1,16 @@
 //! What groups hold, whatever comes, and what they give.
 
-ghost use Rattle.std.specs.Prelude.{◌≡◌, List, [], ◌∷◌, ◌++◌, ℕ, Bool, None, filter, if◌then◌else◌};
+ghost use Rattle.std.specs.Prelude.{◌≡◌, ◌-◌, ◌^◌, All, List, [], ◌∷◌, ◌++◌, ℕ, Bool, None, filter, if◌then◌else◌, length};
+ghost use Rattle.std.specs.List.{IsDistinct};
 ghost use Rattle.std.specs.List.Sorted.{IsPermutation};
+ghost use Rattle.std.specs.Str.{bytes_eq};
 ghost use Rattle.pipe_running.specs.declared.function.AggregateFunction.{AggregateFunction};
+ghost use Rattle.pipe_running.specs.GroupStates.{StatesHold, TakesFrom};
 ghost use Rattle.pipe_spill.specs.SpillRow.{IsRow};
 ghost use Rattle.pipe_spill.specs.declared.spill_row.SpillRow.{SpillRow};
-ghost use Rattle.pipe_groups.specs.Groups.{AreJoined, cover, Group, held_at, put, RowlessAreFresh};
-ghost use Rattle.pipe_groups.specs.Holds.{Holds};
+ghost use Rattle.pipe_groups.specs.Given.{CanGive};
+ghost use Rattle.pipe_groups.specs.Groups.{AreJoined, cover, Group, held_at, held_groups, keys_of, put, RowlessAreFresh};
+ghost use Rattle.pipe_groups.specs.Holds.{HoldFewer, Holds};
 ghost use Rattle.pipe_groups.specs.Shape.{IsShape, Shape};
 
 /// Which rows groups hold: none, one more, the same with room for a key, those of two joined, the
@@ -33,4 +37,21 @@ pub fn what_groups_hold()
         → Holds prototypes gs rows → Holds prototypes part (filter (λ r. test r.key) rows) }
     ensures filtered { (test : List ℕ → Bool) (k : List ℕ) (gs : List Group)
         → held_at k (filter (λ g. test g.key) gs) ≡ (if test k then held_at k gs else None) }
+{}
+
+/// What groups that hold few rows allow: their running aggregates have counted no more values than
+/// there are rows, and take the inputs of one more; and each that holds a row can give its own.
+pub fn what_few_rows_allow()
+    ensures counted { (prototypes : List AggregateFunction) (gs : List Group)
+        (rows : List SpillRow) → IsDistinct bytes_eq (keys_of gs) → RowlessAreFresh prototypes gs
+        → Holds prototypes gs rows
+        → All (λ g. StatesHold (length rows) prototypes g.states) gs }
+    ensures few { (s : Shape) (gs : List Group) (more : ℕ) → IsDistinct bytes_eq (keys_of gs)
+        → RowlessAreFresh s.prototypes gs → HoldFewer s gs more
+        → All (λ g. StatesHold (2 ^ 32 - 1 - more) s.prototypes g.states) gs }
+    ensures taken { (s : Shape) (n : ℕ) (states : List AggregateFunction) (r : SpillRow)
+        → IsShape s → IsRow s.key_types s.input_types r → StatesHold n s.prototypes states
+        → TakesFrom 0 states r.values }
+    ensures given { (s : Shape) (gs : List Group) → IsShape s → IsDistinct bytes_eq (keys_of gs)
+        → HoldFewer s gs 0 → All (CanGive s) (held_groups gs) }
 {}

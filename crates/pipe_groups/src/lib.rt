@@ -10,7 +10,7 @@ mod places;
 mod row_code;
 
 pub use groups::Groups;
-pub use laws::what_groups_hold;
+pub use laws::{what_few_rows_allow, what_groups_hold};
 pub use placed_groups::PlacedGroups;
 pub use places::Places;
 pub use row_code::encode_row;
