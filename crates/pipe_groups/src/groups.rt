@@ -2,7 +2,7 @@
 
 ghost use Rattle.std.specs.Prelude.{◌≡◌, ◌+◌, ◌<◌, ◌≤◌, ◌^◌, [], IfOk, length, sum_by};
 ghost use Rattle.pipe_aggs.specs.QueryTrees.{query_tree};
-ghost use Rattle.pipe_groups.specs.Groups.{count_held, group_of, held_bytes};
+ghost use Rattle.pipe_groups.specs.Groups.{count_held, group_of, held_bytes, RowlessAreFresh};
 ghost use Rattle.pipe_groups.specs.Layout.{held_len, key_at};
 ghost use Rattle.pipe_groups.specs.Shape.{IsShape, shape_of};
 
@@ -133,6 +133,7 @@ impl Groups {
     pub fn len(&self) -> usize
         ensures len { result ≡ length self.now.groups }
         ensures shape { IsShape self.now.shape }
+        ensures fresh { RowlessAreFresh self.now.shape.prototypes self.now.groups }
     {
         self.entries.len()
     }
