@@ -5,3 +5,4 @@ pub mod PutFacts
 pub mod ShapeFacts
 pub mod LaidFacts
 pub mod FreshFacts
+pub mod PushFacts

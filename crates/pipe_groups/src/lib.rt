@@ -7,6 +7,7 @@ mod groups;
 mod laws;
 mod placed_groups;
 mod places;
+mod room;
 mod row_code;
 
 pub use groups::Groups;
