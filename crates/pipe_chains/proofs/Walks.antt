@@ -1,5 +1,5 @@
 -- A walk along a chain: it meets each entry of its mark once, the last first.
-use Rattle.std.proofs.Common.{◌≡◌, ◌≢◌, ℕ, ◌<◌, ◌≤◌, ◌==◌, List, length, take, get_or, Option, Some, None, sym, ap, ◌∙◌, arith, subst, eqb-true, eq-eqb, true≢false, ◌⊎◌, inl, inr}
+use Rattle.std.proofs.Common.{◌≡◌, ◌≢◌, ℕ, suc, ◌<◌, ◌≤◌, ◌==◌, List, length, take, get_or, Option, Some, None, sym, ap, ◌∙◌, arith, subst, eqb-true, eq-eqb, true≢false, ◌⊎◌, inl, inr}
 use Rattle.std.proofs.lemmas.List.{take_all, length-take-le, get_or-take}
 use Rattle.std.proofs.lemmas.Bool.{cases_lt, cases_eq}
 use Rattle.pipe_chains.specs.Chains.{last_of}
@@ -62,3 +62,18 @@ module _ (P : ℕ → Type 0) (mark : ℕ) (marks : List ℕ) where
     by (inl h) =
         let r = none-last _ (take below marks) (sym w.last) j 0 (omega (arith, length-take-le below marks w.within)) in
         absurd (true≢false (sym (eq-eqb (get_or marks j 0) mark q) ∙ ap (λ x. x == mark) (sym (get_or-take below marks j 0 h)) ∙ r))
+
+-- how many entries may still come: all up to the one at hand
+abbrev pub left_of : Option ℕ → ℕ
+left_of None = 0
+left_of (Some i) = suc i
+
+-- the entry before one lies below it
+pub left-falls : (P : ℕ → Type 0) (mark : ℕ) (marks : List ℕ) (i : ℕ) (at : Option ℕ) → Walking P mark marks i at → left_of at < suc i
+left-falls P mark marks i None w = omega arith
+left-falls P mark marks i (Some j) w = omega (arith, walking-below P mark marks i j w)
+
+-- a walk that has come to an entry of chains, from wherever
+pub record OnChain (P : ℕ → Type 0) (mark : ℕ) (marks : List ℕ) (at : Option ℕ) : Type 0 where
+  pub below : ℕ
+  pub walk : Walking P mark marks below at

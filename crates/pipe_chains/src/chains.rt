@@ -44,6 +44,13 @@ impl Chains {
         }
     }
 
+    /// Chains of no entries, whose memory comes from where that of these does.
+    pub fn split(&self) -> Chains
+        ensures { result.marks ≡ [] }
+    {
+        Chains::new(*self.links.allocator())
+    }
+
     /// How many entries there are.
     pub fn len(&self) -> usize
         ensures { result ≡ length self.now.marks }
