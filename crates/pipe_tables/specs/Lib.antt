@@ -1,3 +1,5 @@
+pub mod BufferLayout
+pub mod Buffers
 pub mod Tables
 pub mod Taken
 pub mod OocState

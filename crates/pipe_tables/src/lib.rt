@@ -3,11 +3,15 @@
 
 mod hash_table;
 mod insert_end;
+mod local_end;
 mod ooc_state;
 mod query_groups;
+mod spill_partitions;
 
 pub use hash_table::AggHashTable;
 pub use insert_end::{InsertEnd, LentEnd};
+pub use local_end::{LentLocalEnd, LocalEnd};
 pub use ooc_state::OocState;
 pub use pipe_plan::SpillAction;
 pub use query_groups::QueryGroups;
+pub use spill_partitions::SpillPartitions;
