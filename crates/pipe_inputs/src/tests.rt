@@ -1,10 +1,11 @@
 //! The rows of a chunk of two rows.
 
 use crate::{ChunkRows, are_chunks};
-use pipe_aggs::{AExpr, Arena, IRAggExpr, Node, Operator, Query};
+use pipe_aggs::{AExpr, Arena, CheckedQuery, IRAggExpr, Node, Operator, Query};
 use pipe_columns::{AnyValue, Column, DataChunk, DataFrame, DataType, Field, Place, Schema, Text};
 use std::alloc::Global;
 use std::cmp::Ordering;
+use std::process::Abort;
 use std::test::Fail;
 
 fn add(arena: &mut Arena, expr: AExpr) -> Result<(), Fail> {
@@ -76,51 +77,73 @@ fn chunk_of(alloc: Global) -> Result<DataChunk, Fail> {
     }
 }
 
+/// What is lent of the row `b,127` and of a row of nulls, in chunk 3.
+fn assert_lent(rt: &impl Abort, rows: &ChunkRows<'_>) {
+    assert!(rt; rows.len() == 2);
+    assert!(rt; rows.place(1) == Place { chunk: 3, row: 1 });
+    assert!(rt; rows.key_len() == 1);
+    for (row, input, want) in [(0, 0, Some(-128)), (1, 0, None), (0, 1, None)] {
+        assert!(rt;
+            is_number(rows.input(row, input), want),
+            "row {row}, input {input}"
+        );
+    }
+}
+
+fn is_number(value: &AnyValue, want: Option<i128>) -> bool {
+    match (value, want) {
+        (AnyValue::Int(number), Some(want)) => *number == want,
+        (AnyValue::Null, None) => true,
+        _ => false,
+    }
+}
+
+/// The key of the first row, lent and owned, and how many inputs are owned.
+fn assert_owned(rt: &impl Abort, alloc: Global, rows: &ChunkRows<'_>) -> Result<(), Fail> {
+    assert!(rt; rows.len() == 2);
+    let key = rows.own_key(alloc, 0)?;
+    assert!(rt; rows.compare_key(0, &key) == Ordering::Equal);
+    assert!(rt; rows.compare_key(1, &key) == Ordering::Less);
+    let text = AnyValue::Text(Text::new(alloc, "b")?);
+    assert!(rt; *rows.key(0, 0) == text);
+    let inputs = rows.own_inputs(alloc, 0)?;
+    assert!(rt; inputs.len() == 2);
+    Ok(())
+}
+
+fn assert_rows(
+    rt: &impl Abort,
+    alloc: Global,
+    query: &CheckedQuery<'_>,
+    chunk: &DataChunk,
+) -> Result<(), Fail> {
+    if !chunk.frame.fits(&query.query().schema) {
+        return Err("other columns".into());
+    }
+    let rows = ChunkRows::new(alloc, query, 3, chunk)?;
+    assert_lent(rt, &rows);
+    assert_owned(rt, alloc, &rows)
+}
+
 #[test]
 fn rows_of_a_chunk(rt: HostRuntime) -> Result<(), Fail> {
     let alloc = rt.alloc();
     let query = query_of(alloc)?;
-    let Ok(checked) = query.check(alloc) else {
-        return Err("no query".into());
-    };
     let chunk = chunk_of(alloc)?;
-    if !chunk.frame.fits(&checked.query().schema) {
-        return Err("other columns".into());
+    match query.check(alloc) {
+        Ok(checked) => assert_rows(&rt, alloc, &checked, &chunk),
+        Err(_) => Err("no query".into()),
     }
-    let rows = ChunkRows::new(alloc, &checked, 3, &chunk)?;
-    if rows.len() != 2 {
-        return Err("no two rows".into());
-    }
-    assert_eq!(rt; rows.place(1), Place { chunk: 3, row: 1 });
-    assert_eq!(rt; rows.key_len(), 1);
-    assert_eq!(rt; *rows.key(0, 0), AnyValue::Text(Text::new(alloc, "b")?));
-    assert_eq!(rt; *rows.input(0, 0), AnyValue::Int(-128));
-    assert_eq!(rt; *rows.input(1, 0), AnyValue::Null);
-    assert_eq!(rt; *rows.input(0, 1), AnyValue::Null);
-    Ok(())
 }
 
 #[test]
-fn rows_of_their_own(rt: HostRuntime) -> Result<(), Fail> {
+fn chunks_of_a_query(rt: HostRuntime) -> Result<(), Fail> {
     let alloc = rt.alloc();
     let query = query_of(alloc)?;
-    let Ok(checked) = query.check(alloc) else {
-        return Err("no query".into());
-    };
     let chunks = vec![in alloc; chunk_of(alloc)?]?;
-    assert!(rt; are_chunks(&chunks, &checked));
-    let chunk = &chunks[0];
-    if !chunk.frame.fits(&checked.query().schema) {
-        return Err("other columns".into());
+    match query.check(alloc) {
+        Ok(checked) => assert!(rt; are_chunks(&chunks, &checked)),
+        Err(_) => return Err("no query".into()),
     }
-    let rows = ChunkRows::new(alloc, &checked, 0, chunk)?;
-    if rows.len() != 2 {
-        return Err("no two rows".into());
-    }
-    let key = rows.own_key(alloc, 0)?;
-    assert_eq!(rt; rows.compare_key(0, &key), Ordering::Equal);
-    assert_eq!(rt; rows.compare_key(1, &key), Ordering::Less);
-    let inputs = rows.own_inputs(alloc, 0)?;
-    assert_eq!(rt; inputs.len(), 2);
     Ok(())
 }
