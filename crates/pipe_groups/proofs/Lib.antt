@@ -1,6 +1,8 @@
 pub mod FeedFacts
 pub mod GiveFacts
 pub mod HoldFacts
+pub mod KeyFacts
+pub mod OnceFacts
 pub mod PutFacts
 pub mod ShapeFacts
 pub mod LaidFacts

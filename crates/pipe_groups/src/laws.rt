@@ -1,15 +1,16 @@
 //! What groups hold, whatever comes, and what they give.
 
-ghost use Rattle.std.specs.Prelude.{◌≡◌, ◌-◌, ◌^◌, All, List, [], ◌∷◌, ◌++◌, ℕ, Bool, None, filter, if◌then◌else◌, length};
-ghost use Rattle.std.specs.List.{IsDistinct};
+ghost use Rattle.std.specs.Prelude.{◌≡◌, ◌-◌, ◌^◌, All, List, [], ◌∷◌, ◌++◌, ℕ, Bool, None, filter, if◌then◌else◌, length, map};
+ghost use Rattle.std.specs.List.{IsDistinct, list_any};
 ghost use Rattle.std.specs.List.Sorted.{IsPermutation};
 ghost use Rattle.std.specs.Str.{bytes_eq};
+ghost use Rattle.pipe_columns.specs.Groups.{sorted_keys};
 ghost use Rattle.pipe_running.specs.declared.function.AggregateFunction.{AggregateFunction};
 ghost use Rattle.pipe_running.specs.GroupStates.{StatesHold, TakesFrom};
 ghost use Rattle.pipe_spill.specs.SpillRow.{IsRow};
 ghost use Rattle.pipe_spill.specs.declared.spill_row.SpillRow.{SpillRow};
-ghost use Rattle.pipe_groups.specs.Given.{CanGive};
-ghost use Rattle.pipe_groups.specs.Groups.{AreJoined, cover, Group, held_at, held_groups, keys_of, put, RowlessAreFresh};
+ghost use Rattle.pipe_groups.specs.Given.{CanGive, key_cmp};
+ghost use Rattle.pipe_groups.specs.Groups.{AreJoined, count_held, cover, Group, held_at, held_groups, is_held, keys_of, put, RowlessAreFresh};
 ghost use Rattle.pipe_groups.specs.Holds.{HoldFewer, Holds};
 ghost use Rattle.pipe_groups.specs.Shape.{IsShape, Shape};
 
@@ -54,4 +55,14 @@ pub fn what_few_rows_allow()
         → TakesFrom 0 states r.values }
     ensures given { (s : Shape) (gs : List Group) → IsShape s → IsDistinct bytes_eq (keys_of gs)
         → HoldFewer s gs 0 → All (CanGive s) (held_groups gs) }
+{}
+
+/// Which keys are held: those of the rows. Where no key has two groups, so many are counted.
+pub fn which_keys_are_held()
+    ensures held { (prototypes : List AggregateFunction) (gs : List Group)
+        (rows : List SpillRow) (k : List ℕ) → Holds prototypes gs rows
+        → is_held k gs ≡ list_any (λ r. bytes_eq k r.key) rows }
+    ensures counted { (prototypes : List AggregateFunction) (gs : List Group)
+        (rows : List SpillRow) → IsDistinct bytes_eq (keys_of gs) → Holds prototypes gs rows
+        → count_held gs ≡ length (sorted_keys key_cmp (map (λ r. r.key) rows)) }
 {}

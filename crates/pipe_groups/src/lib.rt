@@ -11,7 +11,7 @@ mod room;
 mod row_code;
 
 pub use groups::Groups;
-pub use laws::{what_few_rows_allow, what_groups_hold};
+pub use laws::{what_few_rows_allow, what_groups_hold, which_keys_are_held};
 pub use placed_groups::PlacedGroups;
 pub use places::Places;
 pub use row_code::encode_row;
