@@ -1,11 +1,12 @@
 //! Aggregates that are kept, fields, and faults of queries.
 
 use crate::{
-    AExpr, AddError, Arena, CheckError, IRAggExpr, Node, Operator, Query, QueryFault, TypeFault,
-    can_convert_to_hash_agg, to_field,
+    AExpr, AddError, Arena, CheckError, CheckedQuery, IRAggExpr, Node, Operator, Query, QueryFault,
+    TypeFault, can_convert_to_hash_agg, to_field,
 };
 use pipe_columns::{AnyValue, DataType, Field, Schema, Text};
 use std::alloc::{AllocError, Global};
+use std::process::Abort;
 use std::test::Fail;
 
 fn column_of(alloc: Global, name: &str) -> Result<AExpr, Fail> {
@@ -99,14 +100,18 @@ fn field_of(alloc: Global, name: &str, dtype: DataType) -> Result<Field, Fail> {
     Ok(Field { name, dtype })
 }
 
+/// The fields of the schema.
+const FIELDS: [(&str, DataType); 4] = [
+    ("v", DataType::Int8),
+    ("w", DataType::Int16),
+    ("d", DataType::Date),
+    ("b", DataType::Boolean),
+];
+
 /// The schema of the tables, with one more field if wanted.
 pub(crate) fn schema_of(alloc: Global, more: Option<(&str, DataType)>) -> Result<Schema, Fail> {
     let mut fields = Vec::new(alloc);
-    fields.push(field_of(alloc, "v", DataType::Int8)?)?;
-    fields.push(field_of(alloc, "w", DataType::Int16)?)?;
-    fields.push(field_of(alloc, "d", DataType::Date)?)?;
-    fields.push(field_of(alloc, "b", DataType::Boolean)?)?;
-    if let Some((name, dtype)) = more {
+    for (name, dtype) in FIELDS.into_iter().chain(more) {
         fields.push(field_of(alloc, name, dtype)?)?;
     }
     Ok(Schema::new(fields))
@@ -134,31 +139,61 @@ fn field_at(
     }
 }
 
+/// Nodes, and whether a table of groups can keep them.
+const KEPT: [(usize, bool); 9] = [
+    (6, true),
+    (7, false),
+    (9, false),
+    (10, false),
+    (11, false),
+    (12, false),
+    (13, false),
+    (14, true),
+    (15, true),
+];
+
 #[test]
 fn convertible_list(rt: HostRuntime) -> Result<(), Fail> {
     let alloc = rt.alloc();
     let arena = arena_of(alloc)?;
     let schema = schema_of(alloc, None)?;
-    for (node, want) in [
-        (6, true),
-        (7, false),
-        (9, false),
-        (10, false),
-        (11, false),
-        (12, false),
-        (13, false),
-        (14, true),
-        (15, true),
-    ] {
-        assert_eq!(rt; is_kept(alloc, &arena, node, &schema)?, want, "at {node}");
+    for (node, want) in KEPT {
+        assert!(rt; is_kept(alloc, &arena, node, &schema)? == want, "at {node}");
     }
-    let mut empty = Arena::new(alloc);
+    Ok(())
+}
+
+#[test]
+fn nodes_without_a_child(rt: HostRuntime) {
+    let mut empty = Arena::new(rt.alloc());
     let added = empty.add(AExpr::Cast {
         expr: Node(0),
         dtype: DataType::Int8,
     });
-    assert_eq!(rt; added, Err(AddError::NoChild));
-    Ok(())
+    assert!(rt; added == Err(AddError::NoChild));
+}
+
+/// The name and the type of a field, or a fault.
+type Found = Result<(&'static str, DataType), TypeFault>;
+
+/// Nodes, and their fields or faults.
+const FOUND: [(usize, Found); 8] = [
+    (0, Ok(("v", DataType::Int8))),
+    (6, Ok(("s", DataType::Int64))),
+    (9, Ok(("v", DataType::Int64))),
+    (8, Ok(("literal", DataType::Int64))),
+    (15, Ok(("len", DataType::UInt32))),
+    (19, Ok(("v", DataType::Int128))),
+    (4, Err(TypeFault::UnknownColumn)),
+    (16, Err(TypeFault::IllTyped)),
+];
+
+fn is_found(found: &Result<Field, TypeFault>, want: &Found) -> bool {
+    match (found, want) {
+        (Ok(field), Ok((name, dtype))) => field.name.as_str() == *name && field.dtype == *dtype,
+        (Err(fault), Err(other)) => fault == other,
+        _ => false,
+    }
 }
 
 #[test]
@@ -166,27 +201,9 @@ fn fields(rt: HostRuntime) -> Result<(), Fail> {
     let alloc = rt.alloc();
     let arena = arena_of(alloc)?;
     let schema = schema_of(alloc, None)?;
-    for (node, name, dtype) in [
-        (0, "v", DataType::Int8),
-        (6, "s", DataType::Int64),
-        (9, "v", DataType::Int64),
-        (8, "literal", DataType::Int64),
-        (15, "len", DataType::UInt32),
-        (19, "v", DataType::Int128),
-    ] {
-        match field_at(alloc, &arena, node, &schema)? {
-            Ok(field) => {
-                assert_eq!(rt; field.name.as_str(), name, "at {node}");
-                assert_eq!(rt; field.dtype, dtype, "at {node}");
-            }
-            Err(_) => return Err("no field".into()),
-        }
-    }
-    for (node, want) in [(4, TypeFault::UnknownColumn), (16, TypeFault::IllTyped)] {
-        match field_at(alloc, &arena, node, &schema)? {
-            Ok(_) => return Err("a field".into()),
-            Err(fault) => assert_eq!(rt; fault, want, "at {node}"),
-        }
+    for (node, want) in &FOUND {
+        let found = field_at(alloc, &arena, *node, &schema)?;
+        assert!(rt; is_found(&found, want), "at {node}");
     }
     Ok(())
 }
@@ -218,41 +235,85 @@ fn fault_of(alloc: Global, query: &Query) -> Result<Option<QueryFault>, Fail> {
     }
 }
 
+/// A key, an aggregate, and the fault of their query.
+const FAULTS: [(usize, usize, Option<QueryFault>); 9] = [
+    (0, 6, None),
+    (99, 6, Some(QueryFault::BadNode)),
+    (0, 99, Some(QueryFault::BadNode)),
+    (4, 9, Some(QueryFault::UnknownColumn)),
+    (16, 9, Some(QueryFault::IllTyped)),
+    (5, 9, Some(QueryFault::KeyHasAggregate)),
+    (0, 9, Some(QueryFault::NotConvertible)),
+    (0, 17, Some(QueryFault::SumOfDate)),
+    (0, 14, Some(QueryFault::DoubleOutput)),
+];
+
 #[test]
 fn faults_of_expressions(rt: HostRuntime) -> Result<(), Fail> {
     let alloc = rt.alloc();
-    for (key, agg, want) in [
-        (0, 6, None),
-        (99, 6, Some(QueryFault::BadNode)),
-        (0, 99, Some(QueryFault::BadNode)),
-        (4, 9, Some(QueryFault::UnknownColumn)),
-        (16, 9, Some(QueryFault::IllTyped)),
-        (5, 9, Some(QueryFault::KeyHasAggregate)),
-        (0, 9, Some(QueryFault::NotConvertible)),
-        (0, 17, Some(QueryFault::SumOfDate)),
-        (0, 14, Some(QueryFault::DoubleOutput)),
-    ] {
+    for (key, agg, want) in FAULTS {
         let query = query_of(alloc, &[key], &[agg])?;
-        assert_eq!(rt; fault_of(alloc, &query)?, want, "at {key} and {agg}");
+        assert!(rt; fault_of(alloc, &query)? == want, "at {key} and {agg}");
     }
     Ok(())
+}
+
+/// The fault of a query whose slice starts before the first group, with one more field if wanted.
+fn sliced_fault(
+    alloc: Global,
+    more: Option<(&str, DataType)>,
+    keys: &[usize],
+    aggs: &[usize],
+) -> Result<Option<QueryFault>, Fail> {
+    let mut query = query_of(alloc, keys, aggs)?;
+    query.slice = Some((-1, 2));
+    query.schema = schema_of(alloc, more)?;
+    fault_of(alloc, &query)
 }
 
 #[test]
 fn faults_around_expressions(rt: HostRuntime) -> Result<(), Fail> {
     let alloc = rt.alloc();
-    let mut query = query_of(alloc, &[0], &[6, 18])?;
-    query.slice = Some((-1, 2));
-    assert_eq!(rt; fault_of(alloc, &query)?, Some(QueryFault::DoubleOutput));
-    query.aggs = nodes_of(alloc, &[6])?;
-    assert_eq!(rt; fault_of(alloc, &query)?, Some(QueryFault::NegativeSlice));
-    query.schema = schema_of(alloc, Some(("q", DataType::Int128)))?;
-    assert_eq!(rt; fault_of(alloc, &query)?, Some(QueryFault::IllTyped));
-    query.keys = Vec::new(alloc);
-    assert_eq!(rt; fault_of(alloc, &query)?, Some(QueryFault::NoKey));
-    query.schema = schema_of(alloc, Some(("v", DataType::Int8)))?;
-    assert_eq!(rt; fault_of(alloc, &query)?, Some(QueryFault::DoubleName));
+    let wide = Some(("q", DataType::Int128));
+    let doubled = Some(("v", DataType::Int8));
+    let none: &[usize] = &[];
+    for (more, keys, aggs, want) in [
+        (
+            None,
+            [0].as_slice(),
+            [6, 18].as_slice(),
+            QueryFault::DoubleOutput,
+        ),
+        (
+            None,
+            [0].as_slice(),
+            [6].as_slice(),
+            QueryFault::NegativeSlice,
+        ),
+        (wide, [0].as_slice(), [6].as_slice(), QueryFault::IllTyped),
+        (wide, none, [6].as_slice(), QueryFault::NoKey),
+        (doubled, none, [6].as_slice(), QueryFault::DoubleName),
+    ] {
+        let fault = sliced_fault(alloc, more, keys, aggs)?;
+        assert!(rt; fault == Some(want), "in place of {want:?}");
+    }
     Ok(())
+}
+
+/// The outputs of the query below, by name.
+const OUTPUTS: [&str; 5] = ["v", "s", "m_sum", "m_count", "len"];
+
+fn assert_checked(rt: &impl Abort, checked: &CheckedQuery<'_>) {
+    assert!(rt; checked.slice() == Some((1, 2)));
+    assert!(rt; checked.query().aggs.len() == 3);
+    assert!(rt; checked.key_types() == [DataType::Int8].as_slice());
+    let inputs = [DataType::Int8, DataType::Int8, DataType::UInt32];
+    assert!(rt; checked.input_types() == inputs.as_slice());
+    let fields = checked.output_schema().fields();
+    assert!(rt; fields.len() == 5);
+    for (field, name) in fields.iter().zip(OUTPUTS) {
+        assert!(rt; field.name.as_str() == name, "{name}");
+    }
 }
 
 #[test]
@@ -260,27 +321,16 @@ fn checked_query(rt: HostRuntime) -> Result<(), Fail> {
     let alloc = rt.alloc();
     let mut query = query_of(alloc, &[0], &[6, 20, 15])?;
     query.slice = Some((1, 2));
-    let checked = match query.check(alloc) {
-        Ok(checked) => checked,
+    match query.check(alloc) {
+        Ok(checked) => assert_checked(&rt, &checked),
         Err(CheckError::Memory) => return Err(AllocError.into()),
         Err(CheckError::Fault(_)) => return Err("a fault".into()),
-    };
-    assert_eq!(rt; checked.slice(), Some((1, 2)));
-    assert_eq!(rt; checked.query().aggs.len(), 3);
-    assert_eq!(rt; checked.key_types(), [DataType::Int8].as_slice());
-    let inputs = [DataType::Int8, DataType::Int8, DataType::UInt32];
-    assert_eq!(rt; checked.input_types(), inputs.as_slice());
-    let names = ["v", "s", "m_sum", "m_count", "len"];
-    for (field, name) in checked.output_schema().fields().iter().zip(names) {
-        assert_eq!(rt; field.name.as_str(), name);
     }
-    assert_eq!(rt; checked.output_schema().fields().len(), 5);
     Ok(())
 }
 
-#[test]
-fn doubled_sums(rt: HostRuntime) -> Result<(), Fail> {
-    let alloc = rt.alloc();
+/// Twice v, doubled until it is v times 2^64, its sum, and that under a name: nodes 5 to 70.
+fn doubled_arena(alloc: Global) -> Result<Arena, Fail> {
     let mut arena = columns_of(alloc)?;
     add(&mut arena, plus_of(0, 0))?;
     for before in 5..68 {
@@ -288,20 +338,18 @@ fn doubled_sums(rt: HostRuntime) -> Result<(), Fail> {
     }
     add(&mut arena, AExpr::Agg(IRAggExpr::Sum(Node(68))))?;
     add(&mut arena, alias_of(alloc, 69, "s")?)?;
-    let schema = schema_of(alloc, None)?;
-    match field_at(alloc, &arena, 68, &schema)? {
-        Ok(field) => assert_eq!(rt; field.dtype, DataType::Int8),
-        Err(_) => return Err("no field".into()),
-    }
-    assert!(rt; is_kept(alloc, &arena, 69, &schema)?);
-    let query = Query {
-        schema,
-        arena,
-        keys: nodes_of(alloc, &[68])?,
-        aggs: nodes_of(alloc, &[70])?,
-        slice: None,
-        maintain_order: true,
-    };
-    assert_eq!(rt; fault_of(alloc, &query)?, None);
+    Ok(arena)
+}
+
+#[test]
+fn doubled_sums(rt: HostRuntime) -> Result<(), Fail> {
+    let alloc = rt.alloc();
+    let mut query = query_of(alloc, &[68], &[70])?;
+    query.arena = doubled_arena(alloc)?;
+    query.maintain_order = true;
+    let field = field_at(alloc, &query.arena, 68, &query.schema)?;
+    assert!(rt; is_found(&field, &Ok(("v", DataType::Int8))));
+    assert!(rt; is_kept(alloc, &query.arena, 69, &query.schema)?);
+    assert!(rt; fault_of(alloc, &query)?.is_none());
     Ok(())
 }
