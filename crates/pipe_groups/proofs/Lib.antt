@@ -1,6 +1,8 @@
 pub mod FeedFacts
 pub mod GiveFacts
 pub mod HoldFacts
+pub mod AnswerFacts
+pub mod CodedFacts
 pub mod KeyFacts
 pub mod OnceFacts
 pub mod PutFacts

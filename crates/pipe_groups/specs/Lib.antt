@@ -3,4 +3,5 @@ pub mod Groups
 pub mod Holds
 pub mod Layout
 pub mod Placed
+pub mod QueryRows
 pub mod Shape

@@ -1,6 +1,7 @@
 //! Groups in one buffer: the keys' bytes, the running aggregates and the first places of rows.
 #![tactic(auto)]
 
+mod answer_laws;
 mod copies;
 mod finish;
 mod groups;
@@ -10,6 +11,7 @@ mod places;
 mod room;
 mod row_code;
 
+pub use answer_laws::what_groups_give;
 pub use groups::Groups;
 pub use laws::{what_few_rows_allow, what_groups_hold, which_keys_are_held};
 pub use placed_groups::PlacedGroups;

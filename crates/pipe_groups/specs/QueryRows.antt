@@ -1,0 +1,20 @@
+-- Groups that hold the rows of a query.
+use Rattle.std.specs.Prelude.{All, List, map}
+use Rattle.std.specs.List.{IsDistinct}
+use Rattle.std.specs.Str.{bytes_eq}
+use Rattle.pipe_columns.specs.Row.{Row}
+use Rattle.pipe_aggs.specs.HashAggs.{prototypes}
+use Rattle.pipe_inputs.specs.RowTypes.{IsRowOf}
+use Rattle.pipe_model.specs.Groupable.{IsGroupable}
+use Rattle.pipe_model.specs.Output.{key_types}
+use Rattle.pipe_model.specs.Query.{QueryTree}
+use Rattle.pipe_spill.specs.SpillRow.{spilled}
+use Rattle.pipe_groups.specs.Groups.{Group, keys_of}
+use Rattle.pipe_groups.specs.Holds.{Holds}
+
+-- groups in which no key stands twice hold rows, with the types of a query that has no fault
+pub record HoldRowsOf (q : QueryTree) (gs : List Group) (rs : List Row) : Type 0 where
+  pub groupable : IsGroupable q
+  pub typed : All (IsRowOf q) rs
+  pub apart : IsDistinct bytes_eq (keys_of gs)
+  pub holds : Holds (prototypes q) gs (map (spilled (key_types q)) rs)
