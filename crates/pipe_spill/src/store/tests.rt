@@ -8,22 +8,42 @@ use std::alloc::{AllocError, Global};
 use std::fs;
 use std::test::Fail;
 
+/// The answer to a put, as a line.
+fn put_line<S: SpillStore>(
+    alloc: Global,
+    store: &mut S,
+    frame: &str,
+) -> Result<String, AllocError> {
+    if store.held() == u64::MAX {
+        return Ok(String::new(alloc));
+    }
+    let answer = store.put(frame.as_bytes());
+    format!(in alloc; "put {answer:?}\n")
+}
+
+/// The answer to a get and the text that it leaves, as a line.
+fn get_line<S: SpillStore>(
+    alloc: Global,
+    store: &mut S,
+    number: u64,
+) -> Result<String, AllocError> {
+    if number >= store.held() {
+        return Ok(String::new(alloc));
+    }
+    let mut into = Vec::from_slice(alloc, b"before")?;
+    let answer = store.get(number, &mut into);
+    let text = String::from_utf8_lossy(alloc, &into)?;
+    format!(in alloc; "get {answer:?} {text}\n")
+}
+
 /// Puts two frames and gets each that is held. It writes down the answers, a line each.
 fn put_and_get<S: SpillStore>(alloc: Global, store: &mut S) -> Result<String, AllocError> {
     let mut lines = String::new(alloc);
     for frame in ["one", "second"] {
-        if store.held() < u64::MAX {
-            let answer = store.put(frame.as_bytes());
-            lines.push_str(format!(in alloc; "put {answer:?}\n")?.as_str())?;
-        }
+        lines.push_str(put_line(alloc, store, frame)?.as_str())?;
     }
-    let mut into = Vec::from_slice(alloc, b"before")?;
     for number in 0..store.held() {
-        if number < store.held() {
-            let answer = store.get(number, &mut into);
-            let text = String::from_utf8_lossy(alloc, &into)?;
-            lines.push_str(format!(in alloc; "get {answer:?} {text}\n")?.as_str())?;
-        }
+        lines.push_str(get_line(alloc, store, number)?.as_str())?;
     }
     Ok(lines)
 }
