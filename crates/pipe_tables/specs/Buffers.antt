@@ -4,6 +4,8 @@ use Rattle.pipe_columns.specs.Key.{fold_bytes}
 use Rattle.pipe_spill.specs.declared.spill_row.SpillRow.{SpillRow}
 use Rattle.pipe_tables.specs.declared.local_end.LocalEnd.{LocalEnd}
 use Rattle.pipe_tables.specs.declared.local_end.LocalEnd.TheVariants as end
+use Rattle.pipe_tables.specs.declared.local_end.LentLocalEnd.{LentLocalEnd}
+use Rattle.pipe_tables.specs.declared.local_end.LentLocalEnd.TheVariants as lent
 
 -- the size at which a buffer leaves, and the rows that wait in each
 pub record Buffers : Type 0 where
@@ -58,3 +60,15 @@ abbrev pub is_taken : LocalEnd → Bool
 is_taken end.Done = true
 is_taken (end.Payload p payload) = true
 is_taken (end.Memory r) = false
+
+-- the same of an insert of a row that is lent
+abbrev pub left_by_lent : LentLocalEnd → Option (ℕ × List SpillRow)
+left_by_lent lent.Done = None
+left_by_lent (lent.Payload p payload) = Some (p, payload.rows)
+left_by_lent lent.Memory = None
+
+-- whether an insert took the row that is lent in
+abbrev pub is_taken_lent : LentLocalEnd → Bool
+is_taken_lent lent.Done = true
+is_taken_lent (lent.Payload p payload) = true
+is_taken_lent lent.Memory = false

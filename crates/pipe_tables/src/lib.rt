@@ -7,6 +7,7 @@ mod local_end;
 mod ooc_state;
 mod query_groups;
 mod spill_partitions;
+mod thread_local;
 
 pub use hash_table::AggHashTable;
 pub use insert_end::{InsertEnd, LentEnd};
@@ -15,3 +16,4 @@ pub use ooc_state::OocState;
 pub use pipe_plan::SpillAction;
 pub use query_groups::QueryGroups;
 pub use spill_partitions::SpillPartitions;
+pub use thread_local::ThreadLocalTable;

@@ -48,6 +48,7 @@ impl SpillPartitions {
         requires buffer { 0 < buffer_size }
         ensures size { IfOk result (λ b. b.size ≡ buffer_size) }
         ensures rows { IfOk result (λ b. b.rows ≡ no_rows partitions) }
+        ensures buffers { IfOk result (λ b. AreBuffers b) }
     {
         let mut buffers = Vec::with_capacity(alloc, partitions)?;
         for _ in 0..partitions {
@@ -57,6 +58,20 @@ impl SpillPartitions {
             buffers,
             buffer_size,
         })
+    }
+
+    /// Empty buffers of the same size and number.
+    pub(crate) fn split(&self) -> Result<SpillPartitions, AllocError>
+        ensures size { IfOk result (λ b. b.size ≡ self.now.size) }
+        ensures rows { IfOk result (λ b. b.rows ≡ no_rows (length self.now.rows)) }
+        ensures buffers { IfOk result (λ b. AreBuffers b) }
+    {
+        SpillPartitions::new(self.alloc(), self.buffers.len(), self.buffer_size)
+    }
+
+    /// What memory is taken of.
+    pub(crate) fn alloc(&self) -> Global {
+        *self.buffers.allocator()
     }
 
     /// Puts a row behind those of its key's partition. Where it fills the buffer, the rows leave.
