@@ -10,3 +10,6 @@ pub mod ShapeFacts
 pub mod LaidFacts
 pub mod FreshFacts
 pub mod PushFacts
+pub mod StateFacts
+pub mod SetFacts
+pub mod PlaceSteps

@@ -1,5 +1,5 @@
 -- Of the proofs alone: how groups lie in memory.
-use Rattle.std.specs.Prelude.{◌≡◌, ◌+◌, ◌*◌, ◌-◌, ◌≤◌, ℕ, List, [], ◌∷◌, length, take, drop, if◌then◌else◌, is_some, sum_by, vec_capacity}
+use Rattle.std.specs.Prelude.{◌≡◌, ◌+◌, ◌*◌, ◌-◌, ◌≤◌, ℕ, List, [], ◌∷◌, ◌++◌, None, length, take, drop, if◌then◌else◌, is_some, sum_by, vec_capacity}
 use Rattle.std.specs.List.{All}
 use Rattle.pipe_running.specs.declared.function.AggregateFunction.{AggregateFunction}
 use Rattle.pipe_groups.specs.declared.groups.Entry.{Entry}
@@ -10,6 +10,14 @@ use Rattle.pipe_groups.specs.Shape.{IsShape, Shape}
 -- the key bytes of an entry
 abbrev pub key_at : List ℕ → Entry → List ℕ
 key_at bytes e = take e.len (drop e.start bytes)
+
+-- what stands for an entry past the last
+abbrev pub no_entry : Entry
+no_entry = record { start = 0; len = 0; first = None }
+
+-- running aggregates, with those from a position on replaced by others
+abbrev pub spliced : ℕ → List AggregateFunction → List AggregateFunction → List AggregateFunction
+spliced at new states = take at states ++ (new ++ drop (at + length new) states)
 
 -- the groups of entries: each takes n states in turn
 abbrev pub groups_at : ℕ → List ℕ → List AggregateFunction → List Entry → List Group

@@ -3,6 +3,7 @@
 
 mod answer_laws;
 mod copies;
+mod feed;
 mod finish;
 mod groups;
 mod laws;
@@ -10,6 +11,7 @@ mod placed_groups;
 mod places;
 mod room;
 mod row_code;
+mod states;
 
 pub use answer_laws::what_groups_give;
 pub use groups::Groups;

@@ -1,0 +1,11 @@
+use Rattle.std.proofs.Common.{◌≡◌, ◌++◌, take, drop}
+use Rattle.pipe_running.specs.GroupStates.{fed_from}
+use Rattle.pipe_groups.proofs.states.feed_states.Given as goal
+
+-- the states so far are fed, and the others and their inputs are as before
+abbrev pub invariant-loop-j : goal.invariant-loop-j
+invariant-loop-j l = record {
+  left : drop l.j l.states ≡ drop l.j l.fn.states;
+  inputs : drop l.j l.values.items ≡ drop l.j l.fn.values.items;
+  fed : take l.j l.states ++ fed_from l.place l.j l.fn.values.items (drop l.j l.states) ≡ fed_from l.place 0 l.fn.values.items l.fn.states;
+}

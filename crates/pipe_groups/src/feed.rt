@@ -1,0 +1,80 @@
+//! Rows that are fed to groups.
+
+ghost use Rattle.std.specs.Prelude.{◌≡◌, ◌+◌, ◌-◌, ◌*◌, ◌≤◌, ◌<◌, ◌^◌, Some, drop, if◌then◌else◌, is_some, length, slice_index_or, slice_set, take, vec_capacity};
+ghost use Rattle.pipe_columns.specs.Place.{place_cmp};
+ghost use Rattle.pipe_running.specs.GroupStates.{fed_from, StatesSeen, TakesFrom};
+ghost use Rattle.pipe_running.specs.Pick.{nearer};
+ghost use Rattle.pipe_groups.specs.Groups.{group_of, HasGroups, KeepsRoom, with_row};
+ghost use Rattle.pipe_groups.specs.Layout.{no_entry, spliced};
+
+use crate::groups::{Entry, Groups};
+use crate::states::feed_states;
+use pipe_aggs::AggregateFunction;
+use pipe_columns::{AnyValue, Place};
+use pipe_spill::Values;
+use std::cmp::Ordering;
+
+/// The lesser of a place and the one so far, if any.
+fn least_of(place: Place, first: Option<Place>) -> Place
+    ensures { result ≡ nearer place_cmp place first }
+{
+    match first {
+        None => place,
+        Some(held) => match place.cmp(&held) {
+            Ordering::Less => place,
+            _ => held,
+        },
+    }
+}
+
+/// Puts a place to an entry, and counts it if that is its first.
+fn put_place(entries: &mut Vec<Entry>, held: &mut usize, index: usize, place: Place)
+    requires within { index < length entries.old.items }
+    requires few { held.old ≤ length entries.old.items }
+    ensures entries { entries.new.items ≡ (let e = slice_index_or entries.old.items index no_entry in
+        slice_set entries.old.items index
+        (record e { first = Some (nearer place_cmp place e.first) })) }
+    ensures held { held.new ≡ (if is_some (slice_index_or entries.old.items index no_entry).first
+        then held.old else held.old + 1) }
+    ensures capacity { vec_capacity entries.new ≡ vec_capacity entries.old }
+{
+    let entry = &mut entries[index];
+    if entry.first.is_none() {
+        *held += 1;
+    }
+    entry.first = Some(least_of(place, entry.first));
+}
+
+/// Feeds the running aggregates from a position on the inputs of a row.
+fn feed_at(
+    states: &mut Vec<AggregateFunction>,
+    at: usize,
+    n: usize,
+    place: Place,
+    values: Vec<AnyValue>,
+)
+    requires within { at + n ≤ length states.old.items }
+    requires few { StatesSeen (2 ^ 32 - 2) (take n (drop at states.old.items)) }
+    requires taken { TakesFrom 0 (take n (drop at states.old.items)) values.items }
+    ensures states { states.new.items ≡ spliced at
+        (fed_from place 0 values.items (take n (drop at states.old.items))) states.old.items }
+    ensures capacity { vec_capacity states.new ≡ vec_capacity states.old }
+{
+    feed_states(&mut states[at..at + n], place, values);
+}
+
+impl Groups {
+    /// Feeds a group a row: its place, and its inputs, which are moved. It takes no memory.
+    pub fn feed(&mut self, index: usize, place: Place, values: Values)
+        requires within { index < length self.old.groups }
+        requires few { StatesSeen (2 ^ 32 - 2) (group_of self.old.groups index).states }
+        requires taken { TakesFrom 0 (group_of self.old.groups index).states values }
+        ensures groups { HasGroups self.old self.new (slice_set self.old.groups index
+            (with_row place values (group_of self.old.groups index))) }
+        ensures room { KeepsRoom self.old self.new }
+    {
+        let n = self.prototypes.len();
+        feed_at(&mut self.states, index * n, n, place, values.into_vec());
+        put_place(&mut self.entries, &mut self.held, index, place);
+    }
+}
