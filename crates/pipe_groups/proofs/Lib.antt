@@ -2,6 +2,8 @@ pub mod FeedFacts
 pub mod GiveFacts
 pub mod HoldFacts
 pub mod AnswerFacts
+pub mod ByPlaceFacts
+pub mod FrameRows
 pub mod CodedFacts
 pub mod KeyFacts
 pub mod OnceFacts

@@ -1,7 +1,9 @@
 -- Groups that hold the rows of a query.
-use Rattle.std.specs.Prelude.{All, List, map}
+use Rattle.std.specs.Prelude.{◌≡◌, All, List, map, Some}
 use Rattle.std.specs.List.{IsDistinct}
 use Rattle.std.specs.Str.{bytes_eq}
+use Rattle.pipe_columns.specs.declared.place.Place.{Place}
+use Rattle.pipe_columns.specs.Frame.{FrameData}
 use Rattle.pipe_columns.specs.Row.{Row}
 use Rattle.pipe_aggs.specs.HashAggs.{prototypes}
 use Rattle.pipe_inputs.specs.RowTypes.{IsRowOf}
@@ -9,8 +11,10 @@ use Rattle.pipe_model.specs.Groupable.{IsGroupable}
 use Rattle.pipe_model.specs.Output.{key_types}
 use Rattle.pipe_model.specs.Query.{QueryTree}
 use Rattle.pipe_spill.specs.SpillRow.{spilled}
+use Rattle.pipe_groups.specs.Given.{in_order, IsFrameOfGroups}
 use Rattle.pipe_groups.specs.Groups.{Group, keys_of}
 use Rattle.pipe_groups.specs.Holds.{Holds}
+use Rattle.pipe_groups.specs.Shape.{Shape}
 
 -- groups in which no key stands twice hold rows, with the types of a query that has no fault
 pub record HoldRowsOf (q : QueryTree) (gs : List Group) (rs : List Row) : Type 0 where
@@ -18,3 +22,9 @@ pub record HoldRowsOf (q : QueryTree) (gs : List Group) (rs : List Row) : Type 0
   pub typed : All (IsRowOf q) rs
   pub apart : IsDistinct bytes_eq (keys_of gs)
   pub holds : Holds (prototypes q) gs (map (spilled (key_types q)) rs)
+
+-- a frame has a row for each group in order, and these are the least places of their rows
+pub record ArePlaced (s : Shape) (gs : List Group) (frame : FrameData) (firsts : List Place)
+    : Type 0 where
+  pub frame_is : IsFrameOfGroups s (in_order gs) frame
+  pub firsts_are : map Some firsts ≡ map (λ g. g.first) (in_order gs)
