@@ -1,6 +1,6 @@
 //! Casts between all types that a cast takes, at their edges.
 
-use crate::evaluate_tests::{cast_of, number};
+use crate::evaluate_tests::{casts_to, number};
 use pipe_columns::{AnyValue, DataType};
 use std::test::Fail;
 
@@ -140,8 +140,8 @@ const TABLES: [(DataType, [Cast; 9]); 9] = [
 fn casts_of_numbers(rt: HostRuntime) -> Result<(), Fail> {
     for (from, casts) in TABLES {
         for (to, value, want) in casts {
-            let there = cast_of(rt.alloc(), from, AnyValue::Int(value), to)?;
-            assert!(rt; there == number(want), "{value} of {from:?} as {to:?}");
+            let is = casts_to(rt.alloc(), from, AnyValue::Int(value), to, number(want))?;
+            assert!(rt; is, "{value} of {from:?} as {to:?}");
         }
     }
     Ok(())
@@ -160,30 +160,36 @@ fn casts_to_truths(rt: HostRuntime) -> Result<(), Fail> {
         (DataType::UInt64, 18446744073709551615, true),
         (DataType::Date, 0, false),
     ] {
-        let there = cast_of(rt.alloc(), from, AnyValue::Int(value), DataType::Boolean)?;
-        assert!(rt; there == AnyValue::Boolean(want), "{value} of {from:?}");
+        let to = DataType::Boolean;
+        let want = AnyValue::Boolean(want);
+        let is = casts_to(rt.alloc(), from, AnyValue::Int(value), to, want)?;
+        assert!(rt; is, "{value} of {from:?}");
     }
     Ok(())
 }
 
+/// Truths, types, and what they become there.
+const OF_BOOLEAN: [(bool, DataType, i128); 9] = [
+    (true, DataType::Int8, 1),
+    (false, DataType::Int16, 0),
+    (true, DataType::Int32, 1),
+    (false, DataType::Int64, 0),
+    (true, DataType::UInt8, 1),
+    (false, DataType::UInt16, 0),
+    (true, DataType::UInt32, 1),
+    (false, DataType::UInt64, 0),
+    (true, DataType::Date, 1),
+];
+
 #[test]
 fn casts_of_truths(rt: HostRuntime) -> Result<(), Fail> {
-    let truth = DataType::Boolean;
-    for (value, to, want) in [
-        (true, DataType::Int8, 1),
-        (false, DataType::Int16, 0),
-        (true, DataType::Int32, 1),
-        (false, DataType::Int64, 0),
-        (true, DataType::UInt8, 1),
-        (false, DataType::UInt16, 0),
-        (true, DataType::UInt32, 1),
-        (false, DataType::UInt64, 0),
-        (true, DataType::Date, 1),
-    ] {
-        let there = cast_of(rt.alloc(), truth, AnyValue::Boolean(value), to)?;
-        assert!(rt; there == AnyValue::Int(want), "{value} as {to:?}");
+    let from = DataType::Boolean;
+    for (value, to, want) in OF_BOOLEAN {
+        let want = AnyValue::Int(want);
+        let is = casts_to(rt.alloc(), from, AnyValue::Boolean(value), to, want)?;
+        assert!(rt; is, "{value} as {to:?}");
     }
-    let there = cast_of(rt.alloc(), truth, AnyValue::Boolean(true), truth)?;
-    assert!(rt; there == AnyValue::Boolean(true));
+    let truth = AnyValue::Boolean(true);
+    assert!(rt; casts_to(rt.alloc(), from, AnyValue::Boolean(true), from, truth)?);
     Ok(())
 }

@@ -75,19 +75,20 @@ fn only_value(alloc: Global, arena: &Arena, node: usize) -> Result<AnyValue, Fai
     }
 }
 
-/// What an operator makes of two values of a type.
-pub(crate) fn made(
+/// Whether an operator makes a wanted value of two values of a type.
+pub(crate) fn makes(
     alloc: Global,
     op: Operator,
     dtype: DataType,
     a: AnyValue,
     b: AnyValue,
-) -> Result<AnyValue, Fail> {
+    want: AnyValue,
+) -> Result<bool, Fail> {
     let mut arena = Arena::new(alloc);
     add(&mut arena, literal(dtype, a))?;
     add(&mut arena, literal(dtype, b))?;
     add(&mut arena, binary(0, op, 1))?;
-    only_value(alloc, &arena, 2)
+    Ok(only_value(alloc, &arena, 2)? == want)
 }
 
 /// A number, or null.
@@ -100,88 +101,70 @@ pub(crate) fn number(value: Option<i128>) -> AnyValue {
 
 type Made = (Operator, DataType, i128, i128, Option<i128>);
 
-fn edges_of_small_types() -> [Made; 12] {
-    [
-        (Operator::Plus, DataType::Int8, 127, 1, Some(-128)),
-        (Operator::Minus, DataType::Int8, -128, 1, Some(127)),
-        (Operator::Multiply, DataType::Int8, -128, -1, Some(-128)),
-        (Operator::FloorDivide, DataType::Int8, 7, -2, Some(-4)),
-        (Operator::Modulus, DataType::Int8, 7, -2, Some(-1)),
-        (Operator::FloorDivide, DataType::Int8, 7, 0, None),
-        (Operator::Modulus, DataType::Int8, 7, 0, None),
-        (Operator::FloorDivide, DataType::Int8, -128, -1, Some(-128)),
-        (Operator::Modulus, DataType::Int8, -128, -1, Some(0)),
-        (Operator::Plus, DataType::UInt8, 255, 1, Some(0)),
-        (Operator::Minus, DataType::UInt8, 0, 1, Some(255)),
-        (Operator::Multiply, DataType::UInt8, 255, 255, Some(1)),
-    ]
-}
+const SMALL: [Made; 12] = [
+    (Operator::Plus, DataType::Int8, 127, 1, Some(-128)),
+    (Operator::Minus, DataType::Int8, -128, 1, Some(127)),
+    (Operator::Multiply, DataType::Int8, -128, -1, Some(-128)),
+    (Operator::FloorDivide, DataType::Int8, 7, -2, Some(-4)),
+    (Operator::Modulus, DataType::Int8, 7, -2, Some(-1)),
+    (Operator::FloorDivide, DataType::Int8, 7, 0, None),
+    (Operator::Modulus, DataType::Int8, 7, 0, None),
+    (Operator::FloorDivide, DataType::Int8, -128, -1, Some(-128)),
+    (Operator::Modulus, DataType::Int8, -128, -1, Some(0)),
+    (Operator::Plus, DataType::UInt8, 255, 1, Some(0)),
+    (Operator::Minus, DataType::UInt8, 0, 1, Some(255)),
+    (Operator::Multiply, DataType::UInt8, 255, 255, Some(1)),
+];
 
-fn edges_of_wide_types() -> [Made; 10] {
-    let least: i128 = -9223372036854775808;
-    let greatest: i128 = 9223372036854775807;
-    let most: i128 = 18446744073709551615;
-    [
-        (Operator::Plus, DataType::Int64, greatest, 1, Some(least)),
-        (Operator::Minus, DataType::Int64, least, 1, Some(greatest)),
-        (Operator::Multiply, DataType::Int64, least, least, Some(0)),
-        (
-            Operator::FloorDivide,
-            DataType::Int64,
-            least,
-            -1,
-            Some(least),
-        ),
-        (Operator::Modulus, DataType::Int64, least, -1, Some(0)),
-        (Operator::Plus, DataType::UInt64, most, 1, Some(0)),
-        (Operator::Minus, DataType::UInt64, 0, 1, Some(most)),
-        (Operator::Multiply, DataType::UInt64, most, most, Some(1)),
-        (
-            Operator::FloorDivide,
-            DataType::UInt64,
-            most,
-            2,
-            Some(greatest),
-        ),
-        (Operator::Modulus, DataType::UInt64, most, 2, Some(1)),
-    ]
-}
+const LEAST: i128 = -9223372036854775808;
+
+const GREATEST: i128 = 9223372036854775807;
+
+const MOST: i128 = 18446744073709551615;
+
+const WIDE: [Made; 10] = [
+    (Operator::Plus, DataType::Int64, GREATEST, 1, Some(LEAST)),
+    (Operator::Minus, DataType::Int64, LEAST, 1, Some(GREATEST)),
+    (Operator::Multiply, DataType::Int64, LEAST, LEAST, Some(0)),
+    (
+        Operator::FloorDivide,
+        DataType::Int64,
+        LEAST,
+        -1,
+        Some(LEAST),
+    ),
+    (Operator::Modulus, DataType::Int64, LEAST, -1, Some(0)),
+    (Operator::Plus, DataType::UInt64, MOST, 1, Some(0)),
+    (Operator::Minus, DataType::UInt64, 0, 1, Some(MOST)),
+    (Operator::Multiply, DataType::UInt64, MOST, MOST, Some(1)),
+    (
+        Operator::FloorDivide,
+        DataType::UInt64,
+        MOST,
+        2,
+        Some(GREATEST),
+    ),
+    (Operator::Modulus, DataType::UInt64, MOST, 2, Some(1)),
+];
 
 #[test]
 fn arithmetic_at_the_edges(rt: HostRuntime) -> Result<(), Fail> {
-    for (op, dtype, a, b, want) in edges_of_small_types() {
-        let value = made(rt.alloc(), op, dtype, AnyValue::Int(a), AnyValue::Int(b))?;
-        assert!(rt; value == number(want), "{op:?} of {a} and {b}");
+    for (op, dtype, a, b, want) in SMALL.into_iter().chain(WIDE) {
+        let (left, right) = (AnyValue::Int(a), AnyValue::Int(b));
+        let is = makes(rt.alloc(), op, dtype, left, right, number(want))?;
+        assert!(rt; is, "{op:?} of {a} and {b}");
     }
-    for (op, dtype, a, b, want) in edges_of_wide_types() {
-        let value = made(rt.alloc(), op, dtype, AnyValue::Int(a), AnyValue::Int(b))?;
-        assert!(rt; value == number(want), "{op:?} of {a} and {b}");
-        let null = made(rt.alloc(), op, dtype, AnyValue::Null, AnyValue::Int(b))?;
-        assert!(rt; null == AnyValue::Null, "{op:?} of null");
+    for (op, dtype, _, b, _) in WIDE {
+        let (left, right) = (AnyValue::Null, AnyValue::Int(b));
+        let is = makes(rt.alloc(), op, dtype, left, right, AnyValue::Null)?;
+        assert!(rt; is, "{op:?} of null");
     }
     Ok(())
 }
 
-#[test]
-fn logic_and_choices(rt: HostRuntime) -> Result<(), Fail> {
-    let truth = AnyValue::Boolean;
-    let both = made(
-        rt.alloc(),
-        Operator::And,
-        DataType::Boolean,
-        AnyValue::Null,
-        truth(false),
-    )?;
-    assert!(rt; both == AnyValue::Boolean(false));
-    let either = made(
-        rt.alloc(),
-        Operator::Or,
-        DataType::Boolean,
-        AnyValue::Null,
-        truth(true),
-    )?;
-    assert!(rt; either == AnyValue::Boolean(true));
-    let mut arena = Arena::new(rt.alloc());
+/// One of two numbers, as a null chooses.
+fn chosen_by_null(alloc: Global) -> Result<AnyValue, Fail> {
+    let mut arena = Arena::new(alloc);
     add(&mut arena, literal(DataType::Boolean, AnyValue::Null))?;
     add(&mut arena, literal(DataType::Int8, AnyValue::Int(1)))?;
     add(&mut arena, literal(DataType::Int8, AnyValue::Int(2)))?;
@@ -191,22 +174,34 @@ fn logic_and_choices(rt: HostRuntime) -> Result<(), Fail> {
         falsy: Node(2),
     };
     add(&mut arena, choice)?;
-    assert!(rt; only_value(rt.alloc(), &arena, 3)? == AnyValue::Int(2));
+    only_value(alloc, &arena, 3)
+}
+
+#[test]
+fn logic_and_choices(rt: HostRuntime) -> Result<(), Fail> {
+    let dtype = DataType::Boolean;
+    for (op, truth) in [(Operator::And, false), (Operator::Or, true)] {
+        let (right, want) = (AnyValue::Boolean(truth), AnyValue::Boolean(truth));
+        let is = makes(rt.alloc(), op, dtype, AnyValue::Null, right, want)?;
+        assert!(rt; is, "{op:?} of null and {truth}");
+    }
+    assert!(rt; chosen_by_null(rt.alloc())? == AnyValue::Int(2));
     Ok(())
 }
 
-/// A value of a type in another type.
-pub(crate) fn cast_of(
+/// Whether a value of a type becomes a wanted value in another type.
+pub(crate) fn casts_to(
     alloc: Global,
     from: DataType,
     value: AnyValue,
     dtype: DataType,
-) -> Result<AnyValue, Fail> {
+    want: AnyValue,
+) -> Result<bool, Fail> {
     let mut arena = Arena::new(alloc);
     add(&mut arena, literal(from, value))?;
     let expr = Node(0);
     add(&mut arena, AExpr::Cast { expr, dtype })?;
-    only_value(alloc, &arena, 1)
+    Ok(only_value(alloc, &arena, 1)? == want)
 }
 
 #[test]
@@ -219,55 +214,74 @@ fn casts(rt: HostRuntime) -> Result<(), Fail> {
         (0, DataType::Boolean, AnyValue::Boolean(false)),
         (-5, DataType::Boolean, AnyValue::Boolean(true)),
     ] {
-        let value = cast_of(rt.alloc(), DataType::Int64, AnyValue::Int(number), dtype)?;
-        assert!(rt; value == want, "{number} as {dtype:?}");
+        let is = casts_to(
+            rt.alloc(),
+            DataType::Int64,
+            AnyValue::Int(number),
+            dtype,
+            want,
+        )?;
+        assert!(rt; is, "{number} as {dtype:?}");
     }
-    let one = cast_of(
-        rt.alloc(),
-        DataType::Boolean,
-        AnyValue::Boolean(true),
-        DataType::Int64,
-    )?;
-    assert!(rt; one == AnyValue::Int(1));
+    let (truth, one) = (AnyValue::Boolean(true), AnyValue::Int(1));
+    assert!(rt; casts_to(rt.alloc(), DataType::Boolean, truth, DataType::Int64, one)?);
     Ok(())
 }
 
-#[test]
-fn shared_nodes_once(rt: HostRuntime) -> Result<(), Fail> {
-    let alloc = rt.alloc();
+/// A column, and its sum with itself, doubled until it is the column times 2^64: nodes 0 to 64.
+fn doubled_arena(alloc: Global) -> Result<Arena, Fail> {
     let mut arena = Arena::new(alloc);
     add(&mut arena, AExpr::Column(Text::new(alloc, "v")?))?;
     for node in 0..64 {
         add(&mut arena, binary(node, Operator::Plus, node))?;
     }
-    let chunk = chunk_of(alloc, DataType::Int64, false, &[1, 3])?;
-    let wide = evaluated(alloc, &arena, 62, &chunk)?;
-    assert!(rt; wide.values().first() == Some(&AnyValue::Int(4611686018427387904)));
-    let wrapped = evaluated(alloc, &arena, 64, &chunk)?;
-    assert!(rt; wrapped.values().first() == Some(&AnyValue::Int(0)));
-    Ok(())
+    Ok(arena)
 }
 
 #[test]
-fn flags_and_counts(rt: HostRuntime) -> Result<(), Fail> {
+fn shared_nodes_once(rt: HostRuntime) -> Result<(), Fail> {
     let alloc = rt.alloc();
+    let arena = doubled_arena(alloc)?;
+    let chunk = chunk_of(alloc, DataType::Int64, false, &[1, 3])?;
+    for (node, first) in [(62, 4611686018427387904), (64, 0)] {
+        let column = evaluated(alloc, &arena, node, &chunk)?;
+        let is = column.values().first() == Some(&AnyValue::Int(first));
+        assert!(rt; is, "at {node}");
+    }
+    Ok(())
+}
+
+/// A column, it under another name, and its sum with itself: nodes 0 to 2.
+fn named_arena(alloc: Global) -> Result<Arena, Fail> {
     let mut arena = Arena::new(alloc);
     add(&mut arena, AExpr::Column(Text::new(alloc, "v")?))?;
     add(&mut arena, AExpr::Alias(Node(0), Text::new(alloc, "w")?))?;
     add(&mut arena, binary(0, Operator::Plus, 1))?;
+    Ok(arena)
+}
+
+#[test]
+fn flags(rt: HostRuntime) -> Result<(), Fail> {
+    let alloc = rt.alloc();
+    let arena = named_arena(alloc)?;
     let chunk = chunk_of(alloc, DataType::Int8, true, &[1, 2])?;
     for (node, name, sorted, last) in [(0, "v", true, 2), (1, "w", true, 2), (2, "v", false, 4)] {
         let column = evaluated(alloc, &arena, node, &chunk)?;
-        assert_eq!(rt; column.name().as_str(), name, "at {node}");
-        assert_eq!(rt; column.sorted(), sorted, "at {node}");
-        assert!(rt;
-            column.values().last() == Some(&AnyValue::Int(last)),
-            "at {node}"
-        );
+        let is = column.name().as_str() == name
+            && column.sorted() == sorted
+            && column.values().last() == Some(&AnyValue::Int(last));
+        assert!(rt; is, "at {node}");
     }
+    Ok(())
+}
+
+#[test]
+fn counts(rt: HostRuntime) -> Result<(), Fail> {
+    let alloc = rt.alloc();
+    let chunk = chunk_of(alloc, DataType::Int8, true, &[1, 2])?;
     let nulls = Len.evaluate(alloc, &chunk)?;
-    assert_eq!(rt; nulls.name().as_str(), "len");
-    assert_eq!(rt; nulls.values().len(), 2);
+    assert!(rt; nulls.name().as_str() == "len");
+    assert!(rt; nulls.values().len() == 2);
     assert!(rt; nulls.values().first() == Some(&AnyValue::Null));
     Ok(())
 }

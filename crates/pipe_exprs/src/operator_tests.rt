@@ -1,7 +1,7 @@
 //! Operators over the edges of number types, over truths and over nulls.
 
 use crate::Operator;
-use crate::evaluate_tests::{made, number};
+use crate::evaluate_tests::{makes, number};
 use pipe_columns::{AnyValue, DataType};
 use std::alloc::Global;
 use std::process::Abort;
@@ -165,18 +165,45 @@ fn check_row(rt: &(impl Abort + Alloc<A = Global>), dtype: DataType, row: Row) -
         (Operator::FloorDivide, quotient),
         (Operator::Modulus, rest),
     ] {
-        let value = made(rt.alloc(), op, dtype, AnyValue::Int(a), AnyValue::Int(b))?;
-        assert!(rt; value == number(want), "{op:?} of {a} and {b} of {dtype:?}");
+        let want = number(want);
+        let is = makes(
+            rt.alloc(),
+            op,
+            dtype,
+            AnyValue::Int(a),
+            AnyValue::Int(b),
+            want,
+        )?;
+        assert!(rt; is, "{op:?} of {a} and {b} of {dtype:?}");
     }
     for (op, want) in COMPARISONS.iter().zip(order) {
-        let value = made(rt.alloc(), *op, dtype, AnyValue::Int(a), AnyValue::Int(b))?;
-        assert!(rt;
-            value == AnyValue::Boolean(want),
-            "{op:?} of {a} and {b} of {dtype:?}"
-        );
+        let want = AnyValue::Boolean(want);
+        let is = makes(
+            rt.alloc(),
+            *op,
+            dtype,
+            AnyValue::Int(a),
+            AnyValue::Int(b),
+            want,
+        )?;
+        assert!(rt; is, "{op:?} of {a} and {b} of {dtype:?}");
     }
     Ok(())
 }
+
+const OPERATORS: [Operator; 11] = [
+    Operator::Plus,
+    Operator::Minus,
+    Operator::Multiply,
+    Operator::FloorDivide,
+    Operator::Modulus,
+    Operator::Eq,
+    Operator::NotEq,
+    Operator::Lt,
+    Operator::LtEq,
+    Operator::Gt,
+    Operator::GtEq,
+];
 
 /// Asks that each operator makes null of a number of a type, or a null, and a null.
 fn check_nulls(
@@ -184,29 +211,13 @@ fn check_nulls(
     dtype: DataType,
     a: Option<i128>,
 ) -> Result<(), Fail> {
-    for op in [
-        Operator::Plus,
-        Operator::Minus,
-        Operator::Multiply,
-        Operator::FloorDivide,
-        Operator::Modulus,
-        Operator::Eq,
-        Operator::NotEq,
-        Operator::Lt,
-        Operator::LtEq,
-        Operator::Gt,
-        Operator::GtEq,
-    ] {
-        let left = made(rt.alloc(), op, dtype, number(a), AnyValue::Null)?;
-        assert!(rt;
-            left == AnyValue::Null,
-            "{op:?} of {a:?} and null of {dtype:?}"
-        );
-        let right = made(rt.alloc(), op, dtype, AnyValue::Null, number(a))?;
-        assert!(rt;
-            right == AnyValue::Null,
-            "{op:?} of null and {a:?} of {dtype:?}"
-        );
+    for op in OPERATORS {
+        let null = AnyValue::Null;
+        let left = makes(rt.alloc(), op, dtype, number(a), AnyValue::Null, null)?;
+        assert!(rt; left, "{op:?} of {a:?} and null of {dtype:?}");
+        let null = AnyValue::Null;
+        let right = makes(rt.alloc(), op, dtype, AnyValue::Null, number(a), null)?;
+        assert!(rt; right, "{op:?} of null and {a:?} of {dtype:?}");
     }
     Ok(())
 }
@@ -253,8 +264,9 @@ fn truth(value: Option<bool>) -> AnyValue {
 fn logic_of_three_truths(rt: HostRuntime) -> Result<(), Fail> {
     for (a, b, both, either) in TRUTHS {
         for (op, want) in [(Operator::And, both), (Operator::Or, either)] {
-            let value = made(rt.alloc(), op, DataType::Boolean, truth(a), truth(b))?;
-            assert!(rt; value == truth(want), "{op:?} of {a:?} and {b:?}");
+            let dtype = DataType::Boolean;
+            let is = makes(rt.alloc(), op, dtype, truth(a), truth(b), truth(want))?;
+            assert!(rt; is, "{op:?} of {a:?} and {b:?}");
         }
     }
     Ok(())
