@@ -13,7 +13,7 @@ mod room;
 mod row_code;
 mod states;
 
-pub use answer_laws::{what_groups_give, what_placed_groups_give};
+pub use answer_laws::{what_groups_give, what_placed_groups_give, what_placed_rows_give};
 pub use groups::Groups;
 pub use laws::{what_few_rows_allow, what_groups_hold, which_keys_are_held};
 pub use placed_groups::PlacedGroups;
