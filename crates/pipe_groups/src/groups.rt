@@ -107,6 +107,7 @@ impl Groups {
     /// No groups, of what a query's are.
     pub fn new(alloc: Global, query: &CheckedQuery<'_>) -> Result<Groups, AllocError>
         ensures shape { IfOk result (λ g. g.shape ≡ shape_of (query_tree query.now)) }
+        ensures known { IfOk result (λ g. IsShape g.shape) }
         ensures groups { IfOk result (λ g. g.groups ≡ []) }
     {
         let key_types = copied_types(alloc, query.key_types())?;
