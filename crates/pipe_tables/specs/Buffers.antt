@@ -1,6 +1,8 @@
 -- Rows that wait in buffers, one for each partition.
-use Rattle.std.specs.Prelude.{◌+◌, ◌<◌, ◌%◌, ◌==◌, ℕ, Bool, true, false, List, [], ◌∷◌, ◌++◌, All, length, replicate, slice_index_or, slice_set, Option, Some, None, if◌then◌else◌}
+use Rattle.std.specs.Prelude.{◌+◌, ◌<◌, ◌%◌, ◌==◌, ℕ, Bool, true, false, List, [], ◌∷◌, ◌++◌, All, filter, length, nat_lt, replicate, slice_index_or, slice_set, Option, Some, None, if◌then◌else◌}
+use Rattle.std.specs.List.{enumerate_from}
 use Rattle.pipe_columns.specs.Key.{fold_bytes}
+use Rattle.pipe_spill.specs.SpillRow.{Payload}
 use Rattle.pipe_spill.specs.declared.spill_row.SpillRow.{SpillRow}
 use Rattle.pipe_tables.specs.declared.local_end.LocalEnd.{LocalEnd}
 use Rattle.pipe_tables.specs.declared.local_end.LocalEnd.TheVariants as end
@@ -72,3 +74,21 @@ abbrev pub is_taken_lent : LentLocalEnd → Bool
 is_taken_lent lent.Done = true
 is_taken_lent (lent.Payload p payload) = true
 is_taken_lent lent.Memory = false
+
+-- ---- what waits
+
+-- whether rows wait in a partition
+abbrev pub waits : ℕ × List SpillRow → Bool
+waits e = nat_lt 0 (length e.1)
+
+-- the partitions in which rows wait, each with its rows, in order
+abbrev pub rests : Buffers → List (ℕ × List SpillRow)
+rests b = filter waits (enumerate_from 0 b.rows)
+
+-- a partition and the rows of a payload
+abbrev pub rows_left : ℕ × Payload → ℕ × List SpillRow
+rows_left e = (e.0, e.1.rows)
+
+-- buffers in which nothing waits
+abbrev pub with_none : Buffers → Buffers
+with_none b = record { size = b.size; rows = no_rows (length b.rows) }

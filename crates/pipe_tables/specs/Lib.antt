@@ -1,4 +1,5 @@
 pub mod BufferLayout
+pub mod LendsTable
 pub mod LocalTable
 pub mod Buffers
 pub mod Tables

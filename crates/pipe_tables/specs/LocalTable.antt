@@ -55,3 +55,7 @@ IsToLimit t = HoldsToLimit (count_held t.groups) t.limit
 -- no row waits
 abbrev pub NoneWaits : Local → Type 0
 NoneWaits t = All (λ rows. rows ≡ []) t.buffers.rows
+
+-- a local table with other buffers
+abbrev pub with_buffers : Buffers → Local → Local
+with_buffers b t = record { table = t.table; buffers = b; overflowed = t.overflowed }

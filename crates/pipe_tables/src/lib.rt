@@ -4,6 +4,8 @@
 mod hash_table;
 mod insert_end;
 mod local_end;
+mod local_finish;
+mod local_rests;
 mod ooc_state;
 mod query_groups;
 mod spill_partitions;

@@ -1,9 +1,9 @@
 //! Buffers of rows, one for each partition.
 
-ghost use Rattle.std.specs.Prelude.{◌≡◌, ◌↔◌, ◌<◌, ◌∷◌, ◌++◌, [], IfErr, IfOk, IfSome, IsNone, OnErr, OnOk, length, slice_index_or, slice_set, true, vec_len};
+ghost use Rattle.std.specs.Prelude.{◌≡◌, ◌↔◌, ◌<◌, ◌∷◌, ◌++◌, [], IfErr, IfOk, IfSome, IsNone, OnErr, OnOk, length, map, slice_index_or, slice_set, true, vec_len};
 ghost use Rattle.pipe_spill.specs.declared.spill_row.SpillRow.{SpillRow};
 ghost use Rattle.pipe_tables.specs.BufferLayout.{rows_of};
-ghost use Rattle.pipe_tables.specs.Buffers.{AreBuffers, buffered, is_taken, leaving, left_by, no_rows, waiting_in, with_rows};
+ghost use Rattle.pipe_tables.specs.Buffers.{AreBuffers, buffered, is_taken, leaving, left_by, no_rows, rests, rows_left, waiting_in, with_none, with_rows};
 
 use crate::local_end::LocalEnd;
 use pipe_spill::{SpillPayload, SpillRow, partition_of};
@@ -114,6 +114,22 @@ impl SpillPartitions {
             return None;
         }
         Some(SpillPayload { rows })
+    }
+
+    /// Takes the rows that wait in each partition where some do, in order.
+    pub(crate) fn take_rests(&mut self) -> Result<Vec<(usize, SpillPayload)>, AllocError>
+        ensures rests { IfOk result (λ list. map rows_left list.items ≡ rests self.old) }
+        ensures emptied { OnOk result (self.new ≡ with_none self.old) }
+        ensures err { OnErr result (self.new ≡ self.old) }
+        ensures buffers { AreBuffers self.new }
+    {
+        let mut list = Vec::with_capacity(self.alloc(), self.buffers.len())?;
+        for partition in 0..self.buffers.len() {
+            if let Some(payload) = self.rest(partition) {
+                list.push_reserved((partition, payload));
+            }
+        }
+        Ok(list)
     }
 }
 
