@@ -15,3 +15,5 @@ pub mod PushFacts
 pub mod StateFacts
 pub mod SetFacts
 pub mod PlaceSteps
+pub mod JoinFacts
+pub mod JoinSteps

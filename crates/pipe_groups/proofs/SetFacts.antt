@@ -1,5 +1,5 @@
 -- One group in the place of another of its key.
-use Rattle.std.proofs.Common.{◌≡◌, ◌∙◌, ℕ, zero, suc, ◌+◌, ◌-◌, ◌*◌, ◌<◌, ◌≤◌, false, cond, is_some, List, [], ◌∷◌, ◌++◌, length, take, drop, get_or, set, Option, refl, sym, ap, arith, length-append, length-drop, length-take-le}
+use Rattle.std.proofs.Common.{◌≡◌, ◌∙◌, ℕ, zero, suc, ◌+◌, ◌-◌, ◌*◌, ◌<◌, ◌≤◌, true, false, cond, is_some, List, [], ◌∷◌, ◌++◌, length, take, drop, get_or, set, Option, refl, sym, ap, arith, length-append, length-drop, length-take-le}
 use Rattle.std.proofs.Math.Nat.{mul-le-mul_right}
 use Rattle.std.proofs.lemmas.List.{drop-append-le, drop-drop, drop-take, get_or_default, length-set, take-append-le, take-take, take_at, drop_at}
 use Rattle.std.proofs.lemmas.List.Elements.{All-set}
@@ -108,3 +108,9 @@ module _ (a b : Inside) (laid : IsLaidOut a) (i : ℕ) (within : i < length a.en
         let inside : i < length (groups_in a) = omega (arith, within, length-groups (length a.prototypes.items) a.bytes.items a.states.items a.entries.items) in
         let before : ◌≡◌ {A = ℕ} (cond (has_rows (group_of (groups_in a) i)) 1 0) (cond (is_some old.first) 1 0) = ap (λ (g : Group). let k : ℕ = cond (has_rows g) 1 0 in k) was in
         omega (arith, held, before, laid.counted, count-set (groups_in a) i replaced inside, ap (λ (gs : List Group). count_held gs) exact)
+
+-- where a group holds a row, some are held
+pub count-some : (gs : List Group) (i : ℕ) → i < length gs → has_rows (group_of gs i) ≡ true → 0 < count_held gs
+count-some gs i h some =
+    let one : ◌≡◌ {A = ℕ} (cond (has_rows (group_of gs i)) 1 0) 1 = rw some refl in
+    omega (arith, one, count-set gs i no_group h)

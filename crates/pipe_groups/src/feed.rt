@@ -28,7 +28,7 @@ fn least_of(place: Place, first: Option<Place>) -> Place
 }
 
 /// Puts a place to an entry, and counts it if that is its first.
-fn put_place(entries: &mut Vec<Entry>, held: &mut usize, index: usize, place: Place)
+pub(crate) fn put_place(entries: &mut Vec<Entry>, held: &mut usize, index: usize, place: Place)
     requires within { index < length entries.old.items }
     requires few { held.old ≤ length entries.old.items }
     ensures entries { entries.new.items ≡ (let e = slice_index_or entries.old.items index no_entry in

@@ -6,6 +6,7 @@ mod copies;
 mod feed;
 mod finish;
 mod groups;
+mod join;
 mod laws;
 mod placed_groups;
 mod places;
