@@ -1,9 +1,9 @@
 -- The rows of groups in the order of their first places are those of an answer that keeps order.
 use Rattle.std.proofs.Common.{◌≡◌, ◌∙◌, inl, inr, ℕ, suc, ◌+◌, ◌<◌, Bool, true, false, List, [], ◌∷◌, length, map, get_or, Option, Some, None, option_map, unwrap_or, refl, sym, ap, subst, arith}
-use Rattle.std.specs.Cmp.{Equal-is, tied_itself}
+use Rattle.std.specs.Cmp.{Equal-is, IsTotalOrder, tied_itself}
 use Rattle.std.specs.List.{All, IsDistinct, AllByRecursion, position, position_from}
 use Rattle.std.specs.declared.cmp.Ordering.{Ordering}
-use Rattle.std.specs.declared.cmp.Ordering.TheVariants.{Less}
+use Rattle.std.specs.declared.cmp.Ordering.TheVariants.{Less, Equal}
 use Rattle.std.specs.Ordering.{eq_by_cmp, is_eq}
 use Rattle.std.proofs.lemmas.Iterator.Adapters.{position_from-zero}
 use Rattle.std.proofs.lemmas.List.{get_or-map, length-map}
@@ -18,7 +18,7 @@ use Rattle.pipe_columns.specs.Row.{Row}
 use Rattle.pipe_columns.specs.Slice.{sliced}
 use Rattle.pipe_columns.proofs.AscendingFacts.{any_keys, AnyKey, sorted_are, sorted_sole, sorted-ascending, sorted-from, sorted-has_on, sorted-holds}
 use Rattle.pipe_columns.proofs.ElementFacts.{all_at, all_has, Has, has-same, same_elements, same-has}
-use Rattle.pipe_columns.proofs.ValueOrder.{tuples_exact, tuples_total}
+use Rattle.pipe_columns.proofs.ValueOrder.{tuples_exact, tuples_tie, tuples_total}
 use Rattle.pipe_inputs.specs.RowTypes.{IsRowOf}
 use Rattle.pipe_model.specs.Answer.{answer_of, answer_row, first_place_cmp, groups, rows_at, tuple_cmp}
 use Rattle.pipe_model.specs.Output.{key_types, output_schema}
@@ -207,21 +207,28 @@ module _ (q : QueryTree) (rs : List Row) (distinct : HaveDistinctPlaces rs) (key
 
 -- ---- groups that hold rows
 
--- keys that ascend stand once
-ascending-once : (ks : List (List AnyValue)) → IsAscending tuple_cmp ks → IsDistinct (eq_by_cmp tuple_cmp) ks
+-- keys that ascend in an order stand once
+pub ascending-once : (R : List AnyValue → List AnyValue → Ordering) → IsTotalOrder R → (ks : List (List AnyValue)) → IsAscending R ks → IsDistinct (eq_by_cmp tuple_cmp) ks
 unfolding IsDistinct
-ascending-once [] a = tt
-ascending-once (k ∷ ks) a = (below-apart ks a.0, ascending-once ks a.1) where
-  below-apart : (xs : List (List AnyValue)) → AllByRecursion (λ y. tuple_cmp k y ≡ Less) xs → AllByRecursion (λ y. eq_by_cmp tuple_cmp k y ≡ false) xs
+ascending-once R o [] a = tt
+ascending-once R o (k ∷ ks) a = (below-apart ks a.0, ascending-once R o ks a.1) where
+  below-apart : (xs : List (List AnyValue)) → AllByRecursion (λ y. R k y ≡ Less) xs → AllByRecursion (λ y. eq_by_cmp tuple_cmp k y ≡ false) xs
   below-apart [] b = tt
-  below-apart (x ∷ xs) b = (ap is_eq b.0, below-apart xs b.1)
+  below-apart (x ∷ xs) b = (by (eq_by_cmp tuple_cmp k x) refl, below-apart xs b.1) where
+    by : (t : Bool) → eq_by_cmp tuple_cmp k x ≡ t → eq_by_cmp tuple_cmp k x ≡ false
+    by false e = e
+    by true e =
+        let own : k ≡ x = tuples_tie k x ((Equal-is (tuple_cmp k x)).0 e) in
+        let less : R k k ≡ Less = ap (R k) own ∙ b.0 in
+        let tie : R k k ≡ Equal = tied_itself o k in
+        cc
 
 -- the keys of rows in their order are those of the rows, and stand once
 pub by_key-same : (rs : List Row) → HaveSameElements (sorted_keys tuple_cmp (tuples_of rs)) (tuples_of rs)
 by_key-same rs = (sorted_are AnyKey tuple_cmp tuples_exact (tuples_of rs) (any_keys (tuples_of rs))).same
 
 pub by_key-once : (rs : List Row) → IsDistinct (eq_by_cmp tuple_cmp) (sorted_keys tuple_cmp (tuples_of rs))
-by_key-once rs = ascending-once (sorted_keys tuple_cmp (tuples_of rs)) (sorted-ascending tuple_cmp tuples_total (tuples_of rs))
+by_key-once rs = ascending-once tuple_cmp tuples_total (sorted_keys tuple_cmp (tuples_of rs)) (sorted-ascending tuple_cmp tuples_total (tuples_of rs))
 
 -- groups in order, with a frame of them and their first places, are placed rows of their keys
 pub held-placed : (q : QueryTree) (rs : List Row) (gs : List Group) (frame : FrameData) (firsts : List Place) → HoldRowsOf q gs rs → HaveDistinctPlaces rs → ArePlaced (shape_of q) gs frame firsts

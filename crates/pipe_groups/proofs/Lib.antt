@@ -7,6 +7,7 @@ pub mod FrameRows
 pub mod CodedFacts
 pub mod KeyFacts
 pub mod OnceFacts
+pub mod PartsFacts
 pub mod PutFacts
 pub mod ShapeFacts
 pub mod LaidFacts
