@@ -2,6 +2,7 @@ use crate::{are_chunks, plain_answer};
 use pipe_aggs::{AExpr, Arena, IRAggExpr, Node, Query};
 use pipe_columns::{AnyValue, Column, DataChunk, DataFrame, DataType, Field, Schema, Text};
 use std::alloc::{AllocError, Global};
+use std::process::Abort;
 use std::test::Fail;
 
 mod expressions;
@@ -29,12 +30,15 @@ fn column_of(alloc: Global, name: &str, rows: &[Given], place: usize) -> Result<
     Ok(column.ok_or("no column")?)
 }
 
+/// The names of the columns.
+const NAMES: [&str; 3] = ["j", "k", "v"];
+
 /// The chunk of rows, with columns j, k and v.
 fn chunk_of(alloc: Global, rows: &[Given]) -> Result<DataChunk, Fail> {
     let mut columns = Vec::new(alloc);
-    columns.push(column_of(alloc, "j", rows, 0)?)?;
-    columns.push(column_of(alloc, "k", rows, 1)?)?;
-    columns.push(column_of(alloc, "v", rows, 2)?)?;
+    for (place, name) in NAMES.iter().enumerate() {
+        columns.push(column_of(alloc, name, rows, place)?)?;
+    }
     let frame = DataFrame::new(rows.len(), columns).ok_or("no frame")?;
     Ok(DataChunk {
         chunk_index: 0,
@@ -75,27 +79,40 @@ const ALL: Wanted = (None, false, 1);
 /// The schema of the columns j, k and v.
 fn schema_of(alloc: Global) -> Result<Schema, AllocError> {
     let mut fields = Vec::new(alloc);
-    for name in ["j", "k", "v"] {
+    for name in NAMES {
         fields.push(field_of(alloc, name, DataType::Int64)?)?;
     }
     Ok(Schema::new(fields))
 }
 
+/// Adds columns of names.
+fn add_columns(alloc: Global, arena: &mut Arena, names: &[&str]) -> Result<Vec<Node>, Fail> {
+    let mut nodes = Vec::new(alloc);
+    for name in names {
+        nodes.push(add_column(alloc, arena, name)?)?;
+    }
+    Ok(nodes)
+}
+
+/// Adds the sum and the count of v.
+fn add_aggs(alloc: Global, arena: &mut Arena) -> Result<Vec<Node>, Fail> {
+    let input = add_column(alloc, arena, "v")?;
+    let sum = add_agg(alloc, arena, IRAggExpr::Sum(input), "s")?;
+    let count = add_agg(alloc, arena, IRAggExpr::Count(input, false), "c")?;
+    Ok(vec![in alloc; sum, count]?)
+}
+
 /// The query for the sum and the count of v by some keys.
 fn query_of(alloc: Global, names: &[&str], wanted: Wanted) -> Result<Query, Fail> {
+    let schema = schema_of(alloc)?;
     let mut arena = Arena::new(alloc);
-    let mut keys = Vec::new(alloc);
-    for name in names {
-        keys.push(add_column(alloc, &mut arena, name)?)?;
-    }
-    let input = add_column(alloc, &mut arena, "v")?;
-    let sum = add_agg(alloc, &mut arena, IRAggExpr::Sum(input), "s")?;
-    let count = add_agg(alloc, &mut arena, IRAggExpr::Count(input, false), "c")?;
+    let keys = add_columns(alloc, &mut arena, names)?;
+    let aggs = add_aggs(alloc, &mut arena)?;
     Ok(Query {
-        schema: schema_of(alloc)?,
+        schema,
         arena,
         keys,
-        aggs: vec![in alloc; sum, count]?,
+        aggs,
         slice: wanted.0,
         maintain_order: wanted.1,
     })
@@ -148,6 +165,15 @@ fn text_of(alloc: Global, frame: &DataFrame) -> Result<String, Fail> {
     Ok(text)
 }
 
+/// Chunks of rows.
+fn chunks_of(alloc: Global, pieces: &[&[Given]]) -> Result<Vec<DataChunk>, Fail> {
+    let mut chunks = Vec::new(alloc);
+    for piece in pieces {
+        chunks.push(chunk_of(alloc, piece)?)?;
+    }
+    Ok(chunks)
+}
+
 /// The answer over chunks of rows, as text.
 fn answered(
     alloc: Global,
@@ -155,53 +181,51 @@ fn answered(
     wanted: Wanted,
     pieces: &[&[Given]],
 ) -> Result<String, Fail> {
-    let mut chunks = Vec::new(alloc);
-    for piece in pieces {
-        chunks.push(chunk_of(alloc, piece)?)?;
-    }
+    let chunks = chunks_of(alloc, pieces)?;
     let query = query_of(alloc, keys, wanted)?;
     let frame = asked(alloc, &chunks, &query, wanted.2)?;
     text_of(alloc, &frame)
 }
 
+const THREE: [Given; 3] = [
+    [Some(1), Some(1), Some(5)],
+    [Some(2), Some(2), Some(6)],
+    [Some(1), Some(1), Some(7)],
+];
+
+const NULLS: [Given; 3] = [
+    [None, None, Some(1)],
+    [None, Some(2), Some(2)],
+    [None, None, Some(3)],
+];
+
+const LARGE: [Given; 3] = [
+    [None, Some(1), Some(9223372036854775807)],
+    [None, Some(1), Some(1)],
+    [None, Some(1), None],
+];
+
+/// Asserts what chunks of rows answer by keys.
+fn check(
+    rt: &(impl Abort + Alloc<A = Global>),
+    keys: &[&str],
+    pieces: &[&[Given]],
+    due: &str,
+) -> Result<(), Fail> {
+    let text = answered(rt.alloc(), keys, ALL, pieces)?;
+    assert!(rt; text.as_str() == due, "{text} in place of {due}");
+    Ok(())
+}
+
 #[test]
 fn answers(rt: HostRuntime) -> Result<(), Fail> {
-    let alloc = rt.alloc();
-    let three: &[Given] = &[
-        [Some(1), Some(1), Some(5)],
-        [Some(2), Some(2), Some(6)],
-        [Some(1), Some(1), Some(7)],
-    ];
-    assert_eq!(rt;
-        answered(alloc, &["k"], ALL, &[three])?.as_str(),
-        " 1 12 2; 2 6 1;"
-    );
-    assert_eq!(rt; answered(alloc, &["k"], ALL, &[])?.as_str(), "");
-    let nulls: &[Given] = &[
-        [None, None, Some(1)],
-        [None, Some(2), Some(2)],
-        [None, None, Some(3)],
-    ];
-    assert_eq!(rt;
-        answered(alloc, &["k"], ALL, &[nulls])?.as_str(),
-        " null 4 2; 2 2 1;"
-    );
-    assert_eq!(rt;
-        answered(alloc, &["j", "k"], ALL, &[nulls, three])?.as_str(),
-        " null null 4 2; null 2 2 1; 1 1 12 2; 2 2 6 1;"
-    );
-    assert_eq!(rt;
-        answered(alloc, &["k"], ALL, &[three, nulls])?.as_str(),
-        " null 4 2; 1 12 2; 2 8 2;"
-    );
-    let large: &[Given] = &[
-        [None, Some(1), Some(9223372036854775807)],
-        [None, Some(1), Some(1)],
-        [None, Some(1), None],
-    ];
-    assert_eq!(rt;
-        answered(alloc, &["k"], ALL, &[large])?.as_str(),
-        " 1 -9223372036854775808 2;"
-    );
-    Ok(())
+    let three: &[Given] = &THREE;
+    let nulls: &[Given] = &NULLS;
+    check(&rt, &["k"], &[three], " 1 12 2; 2 6 1;")?;
+    check(&rt, &["k"], &[], "")?;
+    check(&rt, &["k"], &[nulls], " null 4 2; 2 2 1;")?;
+    let both = " null null 4 2; null 2 2 1; 1 1 12 2; 2 2 6 1;";
+    check(&rt, &["j", "k"], &[nulls, three], both)?;
+    check(&rt, &["k"], &[three, nulls], " null 4 2; 1 12 2; 2 8 2;")?;
+    check(&rt, &["k"], &[&LARGE], " 1 -9223372036854775808 2;")
 }

@@ -1,8 +1,8 @@
 //! Keys and inputs that are computed, and each kind of aggregate.
 
-use super::{Given, add, add_agg, add_column, asked, chunk_of, schema_of, text_of};
+use super::{Given, add, add_column, asked, chunks_of, schema_of, text_of};
 use pipe_aggs::{AExpr, Arena, IRAggExpr, Node, Operator, Query};
-use pipe_columns::{AnyValue, DataChunk, DataType, Text};
+use pipe_columns::{AnyValue, DataType, Text};
 use std::alloc::Global;
 use std::test::Fail;
 
@@ -14,26 +14,36 @@ fn add_operator(arena: &mut Arena, left: Node, op: Operator, number: i128) -> Re
     add(arena, AExpr::BinaryExpr { left, op, right })
 }
 
-/// Each kind of aggregate of a node.
-fn add_each(alloc: Global, arena: &mut Arena, node: Node) -> Result<Vec<Node>, Fail> {
-    let len = add(arena, AExpr::Len)?;
-    let mut aggs = Vec::new(alloc);
-    aggs.push(add_agg(alloc, arena, IRAggExpr::First(node), "first")?)?;
-    aggs.push(add_agg(alloc, arena, IRAggExpr::Last(node), "last")?)?;
-    aggs.push(add_agg(alloc, arena, IRAggExpr::Count(node, false), "count")?)?;
-    aggs.push(add(arena, AExpr::Alias(len, Text::new(alloc, "len")?))?)?;
-    aggs.push(add_agg(alloc, arena, IRAggExpr::Sum(node), "sum")?)?;
+/// Each kind of aggregate of a node, and its name.
+fn kinds_of(input: Node) -> [(AExpr, &'static str); 8] {
+    let propagate_nans = false;
     let least = IRAggExpr::Min {
-        input: node,
-        propagate_nans: false,
+        input,
+        propagate_nans,
     };
-    aggs.push(add_agg(alloc, arena, least, "min")?)?;
     let greatest = IRAggExpr::Max {
-        input: node,
-        propagate_nans: false,
+        input,
+        propagate_nans,
     };
-    aggs.push(add_agg(alloc, arena, greatest, "max")?)?;
-    aggs.push(add_agg(alloc, arena, IRAggExpr::Mean(node), "mean")?)?;
+    [
+        (AExpr::Agg(IRAggExpr::First(input)), "first"),
+        (AExpr::Agg(IRAggExpr::Last(input)), "last"),
+        (AExpr::Agg(IRAggExpr::Count(input, false)), "count"),
+        (AExpr::Len, "len"),
+        (AExpr::Agg(IRAggExpr::Sum(input)), "sum"),
+        (AExpr::Agg(least), "min"),
+        (AExpr::Agg(greatest), "max"),
+        (AExpr::Agg(IRAggExpr::Mean(input)), "mean"),
+    ]
+}
+
+/// Adds each kind of aggregate of a node.
+fn add_each(alloc: Global, arena: &mut Arena, node: Node) -> Result<Vec<Node>, Fail> {
+    let mut aggs = Vec::new(alloc);
+    for (agg, name) in kinds_of(node) {
+        let node = add(arena, agg)?;
+        aggs.push(add(arena, AExpr::Alias(node, Text::new(alloc, name)?))?)?;
+    }
     Ok(aggs)
 }
 
@@ -55,22 +65,21 @@ fn query_of(alloc: Global) -> Result<Query, Fail> {
     })
 }
 
+const FRONT: [Given; 3] = [
+    [None, Some(1), None],
+    [None, Some(3), Some(5)],
+    [None, Some(2), Some(-4)],
+];
+
+const BACK: [Given; 2] = [[None, Some(4), Some(7)], [None, Some(2), Some(1)]];
+
 #[test]
 fn every_aggregate(rt: HostRuntime) -> Result<(), Fail> {
     let alloc = rt.alloc();
-    let front: &[Given] = &[
-        [None, Some(1), None],
-        [None, Some(3), Some(5)],
-        [None, Some(2), Some(-4)],
-    ];
-    let back: &[Given] = &[[None, Some(4), Some(7)], [None, Some(2), Some(1)]];
-    let mut chunks: Vec<DataChunk> = Vec::new(alloc);
-    chunks.push(chunk_of(alloc, front)?)?;
-    chunks.push(chunk_of(alloc, back)?)?;
-    let frame = asked(alloc, &chunks, &query_of(alloc)?, 1)?;
-    assert_eq!(rt;
-        text_of(alloc, &frame)?.as_str(),
-        " 0 -8 2 3 3 8 -8 14 8 3; 1 null 10 1 2 10 10 10 10 1;"
-    );
+    let chunks = chunks_of(alloc, &[&FRONT, &BACK])?;
+    let query = query_of(alloc)?;
+    let frame = asked(alloc, &chunks, &query, 1)?;
+    let due = " 0 -8 2 3 3 8 -8 14 8 3; 1 null 10 1 2 10 10 10 10 1;";
+    assert!(rt; text_of(alloc, &frame)?.as_str() == due);
     Ok(())
 }

@@ -1,4 +1,4 @@
-use super::{Given, Wanted, answered};
+use super::{Given, NULLS, Wanted, answered};
 use std::alloc::{AllocError, Global};
 use std::process::Abort;
 use std::test::Fail;
@@ -21,7 +21,7 @@ fn check(
     let alloc = rt.alloc();
     for (wanted, due) in cases {
         let text = answered(alloc, &["k"], *wanted, &[rows])?;
-        assert_eq!(rt; text.as_str(), *due);
+        assert!(rt; text.as_str() == *due, "{text} in place of {due}");
     }
     Ok(())
 }
@@ -65,40 +65,32 @@ fn kept_order(rt: HostRuntime) -> Result<(), Fail> {
     ];
     for (wanted, due) in cases {
         let text = answered(alloc, &["k"], *wanted, &[front, back])?;
-        assert_eq!(rt; text.as_str(), *due);
+        assert!(rt; text.as_str() == *due, "{text} in place of {due}");
     }
     Ok(())
 }
 
 #[test]
 fn many_chunks(rt: HostRuntime) -> Result<(), Fail> {
-    let alloc = rt.alloc();
     let three: &[Given] = &[[None, Some(3), Some(1)]];
     let two: &[Given] = &[[None, Some(2), Some(10)]];
     let one: &[Given] = &[[None, Some(1), Some(100)]];
     let ten: &[&[Given]] = &[three, two, two, one, three, two, two, one, three, one];
-    let text = answered(alloc, &["k"], (None, true, 1), ten)?;
-    assert_eq!(rt; text.as_str(), " 3 3 3; 2 40 4; 1 300 3;");
+    let text = answered(rt.alloc(), &["k"], (None, true, 1), ten)?;
+    assert!(rt; text.as_str() == " 3 3 3; 2 40 4; 1 300 3;", "{text}");
     Ok(())
 }
 
+const FOUR: [Given; 4] = [
+    [None, Some(1), Some(10)],
+    [None, Some(2), Some(20)],
+    [None, Some(3), Some(30)],
+    [None, Some(4), Some(40)],
+];
+
 #[test]
 fn partitions(rt: HostRuntime) -> Result<(), Fail> {
-    let four: &[Given] = &[
-        [None, Some(1), Some(10)],
-        [None, Some(2), Some(20)],
-        [None, Some(3), Some(30)],
-        [None, Some(4), Some(40)],
-    ];
-    check(
-        &rt,
-        four,
-        &[((None, false, 2), " 1 10 1; 3 30 1; 2 20 1; 4 40 1;")],
-    )?;
-    let nulls: &[Given] = &[
-        [None, None, Some(1)],
-        [None, Some(2), Some(2)],
-        [None, None, Some(3)],
-    ];
-    check(&rt, nulls, &[((None, false, 2), " null 4 2; 2 2 1;")])
+    let halves = (None, false, 2);
+    check(&rt, &FOUR, &[(halves, " 1 10 1; 3 30 1; 2 20 1; 4 40 1;")])?;
+    check(&rt, &NULLS, &[(halves, " null 4 2; 2 2 1;")])
 }
