@@ -18,3 +18,4 @@ pub mod SetFacts
 pub mod PlaceSteps
 pub mod JoinFacts
 pub mod JoinSteps
+pub mod TakeFacts

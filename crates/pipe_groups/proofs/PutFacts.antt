@@ -11,7 +11,7 @@ use Rattle.pipe_running.specs.declared.function.AggregateFunction.{AggregateFunc
 use Rattle.pipe_groups.specs.Groups.{cover, Group, group_of, has_rows, held_at, is_covered, is_held, keys_of, new_group, no_group, put, with_row}
 
 -- the first key differs from that of a later group
-later-differs : (g : Group) (gs : List Group) (i : ℕ) (k : List ℕ) → IsDistinct bytes_eq (keys_of (g ∷ gs)) → i < length gs → (group_of gs i).key ≡ k → bytes_eq k g.key ≡ false
+pub later-differs : (g : Group) (gs : List Group) (i : ℕ) (k : List ℕ) → IsDistinct bytes_eq (keys_of (g ∷ gs)) → i < length gs → (group_of gs i).key ≡ k → bytes_eq k g.key ≡ false
 later-differs g gs i k d lt e =
     let there : get_or (keys_of gs) i [] ≡ k = get_or-map (λ (x : Group). x.key) gs i no_group [] lt ∙ e in
     let apart : bytes_eq g.key (get_or (keys_of gs) i []) ≡ false = apart_from_distinct bytes_eq (keys_of (g ∷ gs)) 0 (suc i) [] d (omega arith) (omega (arith, lt, length-map gs (λ (x : Group). x.key))) in
@@ -47,13 +47,13 @@ module _ (k : List ℕ) where
     by false = refl
 
   -- a key that isn't covered is not that of the first group, and not covered by the others
-  not-first : (g : Group) (gs : List Group) → is_covered k (g ∷ gs) ≡ false → bytes_eq k g.key ≡ false
+  pub not-first : (g : Group) (gs : List Group) → is_covered k (g ∷ gs) ≡ false → bytes_eq k g.key ≡ false
   not-first g gs h = by (bytes_eq k g.key) h where
     by : (b : Bool) → b || is_covered k gs ≡ false → b ≡ false
     by true h = cc
     by false h = refl
 
-  not-later : (g : Group) (gs : List Group) → is_covered k (g ∷ gs) ≡ false → is_covered k gs ≡ false
+  pub not-later : (g : Group) (gs : List Group) → is_covered k (g ∷ gs) ≡ false → is_covered k gs ≡ false
   not-later g gs h = by (bytes_eq k g.key) h where
     by : (b : Bool) → b || is_covered k gs ≡ false → is_covered k gs ≡ false
     by true h = cc
