@@ -28,4 +28,6 @@ pub use pipe_native::NumericNative;
 pub use sum::SumAgg;
 
 #[cfg(test)]
+mod lent_tests;
+#[cfg(test)]
 mod tests;

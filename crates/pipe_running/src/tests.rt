@@ -10,7 +10,7 @@ use std::alloc::{AllocError, Global};
 use std::test::Fail;
 
 /// Whether an aggregate takes a value.
-fn is_taken(function: &AggregateFunction, value: &AnyValue) -> bool
+pub(crate) fn is_taken(function: &AggregateFunction, value: &AnyValue) -> bool
     ensures { result ≡ true → takes function.now value.now ≡ true }
 {
     match function {
@@ -108,11 +108,11 @@ fn always_gives(
     Ok(true)
 }
 
-fn int(number: i128) -> AnyValue {
+pub(crate) fn int(number: i128) -> AnyValue {
     AnyValue::Int(number)
 }
 
-fn one(number: i128) -> Finalized {
+pub(crate) fn one(number: i128) -> Finalized {
     Finalized::One(AnyValue::Int(number))
 }
 
@@ -120,7 +120,7 @@ fn null() -> Finalized {
     Finalized::One(AnyValue::Null)
 }
 
-fn sum_i64() -> AggregateFunction {
+pub(crate) fn sum_i64() -> AggregateFunction {
     AggregateFunction::SumI64(SumAgg::new())
 }
 
