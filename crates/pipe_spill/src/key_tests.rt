@@ -156,11 +156,11 @@ fn partitions(rt: HostRuntime) {
         (b"\x01a\x00\x00", 123008, 0, 0),
         (b"\x01b\x00\x00", 123969, 1, 1),
     ] {
-        assert_eq!(rt; fold(key), number);
-        assert_eq!(rt; partition_of(key, 16), of_16);
-        assert_eq!(rt; partition_of(key, 2), of_2);
+        assert!(rt; fold(key) == number);
+        assert!(rt; partition_of(key, 16) == of_16);
+        assert!(rt; partition_of(key, 2) == of_2);
     }
-    assert_eq!(rt; fold(b""), 0);
+    assert!(rt; fold(b"") == 0);
 }
 
 #[test]

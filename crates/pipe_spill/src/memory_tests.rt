@@ -17,7 +17,7 @@ fn memory_for_a_key(rt: HostRuntime) -> Result<(), Fail> {
     let text = Text::new(alloc, "a\0b")?;
     let types = [DataType::String, DataType::Int16];
     match encode_key(alloc, &[AnyValue::Text(text), AnyValue::Int(258)], &types) {
-        Ok(key) => assert_eq!(rt; key.into_vec().as_slice(), KEY.as_slice()),
+        Ok(key) => assert!(rt; key.into_vec().as_slice() == KEY.as_slice()),
         Err(AllocError) => return Err("encode_key wants memory".into()),
     }
     Ok(())
@@ -26,7 +26,7 @@ fn memory_for_a_key(rt: HostRuntime) -> Result<(), Fail> {
 #[test]
 fn memory_for_the_values_of_a_key(rt: HostRuntime) -> Result<(), Fail> {
     match decode_key(rt.alloc(), &KEY, &[DataType::String, DataType::Int16]) {
-        Ok(values) => assert_eq!(rt; values.into_vec().len(), 2),
+        Ok(values) => assert!(rt; values.into_vec().len() == 2),
         Err(DecodeError::Memory) => return Err("decode_key wants memory".into()),
         Err(DecodeError::NotAKey) => return Err("not a key".into()),
     }
@@ -38,7 +38,7 @@ fn memory_for_a_frame(rt: HostRuntime) -> Result<(), Fail> {
     let alloc = rt.alloc();
     let rows = [row_of(alloc, 1, 2, 6)?, row_of(alloc, 2, 2, 7)?];
     match write_frame(alloc, &rows, &[DataType::Int64]) {
-        Ok(frame) => assert_eq!(rt; frame.as_slice(), TWO_ROWS.as_slice()),
+        Ok(frame) => assert!(rt; frame.as_slice() == TWO_ROWS.as_slice()),
         Err(AllocError) => return Err("write_frame wants memory".into()),
     }
     Ok(())
@@ -49,7 +49,7 @@ fn memory_for_a_frame_of_payloads(rt: HostRuntime) -> Result<(), Fail> {
     let alloc = rt.alloc();
     let payloads = [payload_of(alloc, 1, 2, 6)?, payload_of(alloc, 2, 2, 7)?];
     match write_payloads(alloc, &payloads, &[DataType::Int64]) {
-        Ok(frame) => assert_eq!(rt; frame.as_slice(), TWO_ROWS.as_slice()),
+        Ok(frame) => assert!(rt; frame.as_slice() == TWO_ROWS.as_slice()),
         Err(AllocError) => return Err("write_payloads wants memory".into()),
     }
     Ok(())
@@ -59,7 +59,7 @@ fn memory_for_a_frame_of_payloads(rt: HostRuntime) -> Result<(), Fail> {
 fn memory_for_the_rows_of_a_frame(rt: HostRuntime) -> Result<(), Fail> {
     let types = [DataType::Int64];
     match read_frame(rt.alloc(), &TWO_ROWS, &types, &types) {
-        Ok(rows) => assert_eq!(rt; rows.len(), 2),
+        Ok(rows) => assert!(rt; rows.len() == 2),
         Err(FrameError::Memory) => return Err("read_frame wants memory".into()),
         Err(FrameError::NotAFrame) => return Err("not a frame".into()),
     }

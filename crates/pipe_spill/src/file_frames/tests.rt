@@ -43,7 +43,7 @@ impl Seek for FailingFile {
     }
 }
 
-/// A call of frames, and what it is told.
+/// A call of frames.
 enum Call {
     /// A put into a file that has room for so many bytes.
     Put(usize, &'static str),

@@ -51,7 +51,7 @@ fn rows_of_one_partition(rt: HostRuntime) -> Result<(), Fail> {
     let types = [DataType::Int64];
     let rows = read_frame(rt.alloc(), &TWO_ROWS, &types, &types)?;
     for row in &rows {
-        assert_eq!(rt; partition_of(row.key.as_slice(), 16), 3);
+        assert!(rt; partition_of(row.key.as_slice(), 16) == 3);
     }
     Ok(())
 }

@@ -68,7 +68,8 @@ fn listed_calls_of_a_store_fail(rt: HostRuntime) -> Result<(), Fail> {
         ),
     ] {
         let mut store = MemoryStore::new(alloc, Vec::from_slice(alloc, &[failing])?);
-        assert_eq!(rt; put_and_get(alloc, &mut store)?.as_str(), want);
+        let lines = put_and_get(alloc, &mut store)?;
+        assert!(rt; lines.as_str() == want, "call {failing} fails: {lines}");
     }
     Ok(())
 }
@@ -79,41 +80,42 @@ fn frames_of_a_store_are_lent(rt: HostRuntime) -> Result<(), Fail> {
     let mut store = MemoryStore::new(alloc, Vec::new(alloc));
     put_and_get(alloc, &mut store)?;
     let frames = store.frames();
-    assert_eq!(rt; frames.len(), 2);
-    assert_eq!(rt; frames[1].as_slice(), b"second".as_slice());
+    assert!(rt; frames.len() == 2);
+    assert!(rt; frames[1].as_slice() == b"second".as_slice());
     Ok(())
 }
 
 /// Takes a store that threads may share behind a lock.
 fn share<S: Send + Sync>(_store: &S) {}
 
+/// The answers of a store in a file of a folder.
+fn file_lines(rt: HostRuntime, dir: &str) -> Result<String, AllocError> {
+    let dir = Text::new(rt.alloc(), dir)?;
+    let mut store = FileStore::new(rt, rt.alloc(), &dir, 3)?;
+    share(&store);
+    put_and_get(rt.alloc(), &mut store)
+}
+
 #[test]
 fn frames_in_a_file_are_read_back(rt: HostRuntime) -> Result<(), Fail> {
-    let alloc = rt.alloc();
     let both = "put Ok(0)\nput Ok(1)\nget Ok(()) one\nget Ok(()) second\n";
     fs::create_dir(&rt, "spills")?;
     fs::write(&rt, "spills/partition-3.spill", "of a former run")?;
-    let dir = Text::new(alloc, "spills")?;
-    let mut store = FileStore::new(rt, alloc, &dir, 3)?;
-    share(&store);
-    assert_eq!(rt; put_and_get(alloc, &mut store)?.as_str(), both);
+    assert!(rt; file_lines(rt, "spills")?.as_str() == both);
     let text = fs::read_to_string(&rt, "spills/partition-3.spill")?;
-    assert_eq!(rt; text.as_str(), "onesecond");
+    assert!(rt; text.as_str() == "onesecond", "{text}");
     fs::remove_dir_all(&rt, "spills")?;
     Ok(())
 }
 
 #[test]
 fn folders_that_are_absent(rt: HostRuntime) -> Result<(), Fail> {
-    let alloc = rt.alloc();
+    let refused = "put Err(Failed)\nput Err(Failed)\n";
     for name in ["absent", ""] {
-        let dir = Text::new(alloc, name)?;
-        let mut store = FileStore::new(rt, alloc, &dir, 3)?;
-        let refused = "put Err(Failed)\nput Err(Failed)\n";
-        assert_eq!(rt; put_and_get(alloc, &mut store)?.as_str(), refused);
+        assert!(rt; file_lines(rt, name)?.as_str() == refused, "in {name:?}");
     }
     for path in ["/partition-3.spill", "partition-3.spill"] {
-        assert!(rt; fs::metadata(&rt, path).is_err());
+        assert!(rt; fs::metadata(&rt, path).is_err(), "{path}");
     }
     Ok(())
 }
@@ -125,6 +127,6 @@ fn a_file_that_was_taken_away(rt: HostRuntime) -> Result<(), Fail> {
     store.put(b"frame")?;
     fs::remove_file(&rt, "./partition-7.spill")?;
     let refused = "put Err(Failed)\nput Err(Failed)\nget Err(Failed) \n";
-    assert_eq!(rt; put_and_get(alloc, &mut store)?.as_str(), refused);
+    assert!(rt; put_and_get(alloc, &mut store)?.as_str() == refused);
     Ok(())
 }
