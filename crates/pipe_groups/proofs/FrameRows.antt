@@ -19,6 +19,7 @@ use Rattle.pipe_model.specs.Query.{AggTree, QueryTree}
 use Rattle.pipe_model.specs.Typing.{known_type}
 use Rattle.pipe_spill.specs.KeyTypes.{AreOfTypes}
 use Rattle.pipe_spill.proofs.Tuples.{as_long}
+use Rattle.pipe_groups.proofs.ShapeFacts.{value-behind}
 
 -- ---- rows and columns
 
@@ -40,10 +41,6 @@ row-columns j (f ∷ fs) rows i lt =
     let here = value-column rows i j lt in
     let rest = row-columns (j + 1) fs rows i lt in
     λ n. here n ∷ rest n
-
-value-behind : (front : List AnyValue) (v : AnyValue) (vs : List AnyValue) → value_at (front ++ v ∷ vs) (length front) ≡ v
-value-behind [] v vs = refl
-value-behind (x ∷ xs) v vs = value-behind xs v vs
 
 -- a row with a value for each field, also behind other values
 cells-behind : (fields : List Field) (front row : List AnyValue) → length row ≡ length fields → cells (length front) fields (front ++ row) ≡ row

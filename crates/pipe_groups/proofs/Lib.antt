@@ -19,3 +19,4 @@ pub mod PlaceSteps
 pub mod JoinFacts
 pub mod JoinSteps
 pub mod TakeFacts
+pub mod KeepFacts

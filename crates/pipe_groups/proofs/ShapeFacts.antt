@@ -28,7 +28,7 @@ aggs-served schema (a ∷ others) s =
     )
 
 -- a value behind others
-value-behind : (front : List AnyValue) (v : AnyValue) (vs : List AnyValue) → value_at (front ++ v ∷ vs) (length front) ≡ v
+pub value-behind : (front : List AnyValue) (v : AnyValue) (vs : List AnyValue) → value_at (front ++ v ∷ vs) (length front) ≡ v
 value-behind [] v vs = refl
 value-behind (x ∷ xs) v vs = value-behind xs v vs
 

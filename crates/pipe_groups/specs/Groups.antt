@@ -98,7 +98,8 @@ held_groups gs = filter has_rows gs
 
 -- each group without rows has the running aggregates of none
 abbrev pub RowlessAreFresh : List AggregateFunction → List Group → Type 0
-RowlessAreFresh prototypes gs = All (λ g. has_rows g ≡ false → g.states ≡ fresh_states prototypes) gs
+RowlessAreFresh prototypes gs =
+    All (λ g. has_rows g ≡ false → g.states ≡ fresh_states prototypes) gs
 
 -- how many keys hold a row
 abbrev pub count_held : List Group → ℕ

@@ -32,8 +32,8 @@ pub record ArePlaced (s : Shape) (gs : List Group) (frame : FrameData) (firsts :
   pub frame_is : IsFrameOfGroups s (in_order gs) frame
   pub firsts_are : map Some firsts ≡ map (λ g. g.first) (in_order gs)
 
--- a frame has the row of the answer for each of some keys, and these are the least places where rows
--- have them
+-- a frame has the row of the answer for each of some keys, and these are the least places where
+-- rows have them
 pub record ArePlacedRows (q : QueryTree) (rs : List Row) (keys : List (List AnyValue))
     (frame : FrameData) (firsts : List Place) : Type 0 where
   pub frame_is : frame ≡ frame_of (output_schema q) (map (answer_row q rs) keys)
