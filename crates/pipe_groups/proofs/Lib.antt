@@ -20,3 +20,4 @@ pub mod JoinFacts
 pub mod JoinSteps
 pub mod TakeFacts
 pub mod KeepFacts
+pub mod TextFacts

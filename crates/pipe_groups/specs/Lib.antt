@@ -5,3 +5,4 @@ pub mod Layout
 pub mod Placed
 pub mod QueryRows
 pub mod Shape
+pub mod Texts

@@ -1,17 +1,22 @@
 //! Rows that are fed to groups.
 
-ghost use Rattle.std.specs.Prelude.{◌≡◌, ◌+◌, ◌-◌, ◌*◌, ◌≤◌, ◌<◌, ◌^◌, Some, drop, if◌then◌else◌, is_some, length, slice_index_or, slice_set, take, vec_capacity};
+ghost use Rattle.std.specs.Prelude.{◌≡◌, ◌+◌, ◌-◌, ◌*◌, ◌≤◌, ◌<◌, ◌^◌, [], IsOk, OnErr, OnOk, Some, drop, if◌then◌else◌, is_some, length, slice_index_or, slice_set, take, vec_capacity};
 ghost use Rattle.pipe_columns.specs.Place.{place_cmp};
+ghost use Rattle.pipe_inputs.specs.ChunkRows.{row_at};
 ghost use Rattle.pipe_running.specs.GroupStates.{fed_from, StatesSeen, TakesFrom};
 ghost use Rattle.pipe_running.specs.Pick.{nearer};
 ghost use Rattle.pipe_groups.specs.Groups.{group_of, HasGroups, KeepsRoom, with_row};
 ghost use Rattle.pipe_groups.specs.Layout.{no_entry, spliced};
+ghost use Rattle.pipe_groups.specs.Texts.{kept_texts};
 
 use crate::groups::{Entry, Groups};
+use crate::lent_states::lend_at;
 use crate::states::feed_states;
 use pipe_aggs::AggregateFunction;
 use pipe_columns::{AnyValue, Place};
+use pipe_inputs::ChunkRows;
 use pipe_spill::Values;
+use std::alloc::AllocError;
 use std::cmp::Ordering;
 
 /// The lesser of a place and the one so far, if any.
@@ -76,5 +81,42 @@ impl Groups {
         let n = self.prototypes.len();
         feed_at(&mut self.states, index * n, n, place, values.into_vec());
         put_place(&mut self.entries, &mut self.held, index, place);
+    }
+
+    /// Feeds a group a row of a chunk, which is lent. A text that a first or a last keeps is copied
+    /// before anything changes; nothing else takes memory.
+    pub fn feed_lent(
+        &mut self,
+        index: usize,
+        rows: &ChunkRows<'_>,
+        row: usize,
+    ) -> Result<(), AllocError>
+        requires within { index < length self.old.groups }
+        requires there { row < length rows.now }
+        requires placed { row < 2 ^ 32 }
+        requires few { StatesSeen (2 ^ 32 - 2) (group_of self.old.groups index).states }
+        requires taken { TakesFrom 0 (group_of self.old.groups index).states
+            (row_at rows.now row).inputs }
+        ensures ok { OnOk result (let r = row_at rows.now row in
+            HasGroups self.old self.new (slice_set self.old.groups index
+            (with_row r.place r.inputs (group_of self.old.groups index)))) }
+        ensures err { OnErr result (HasGroups self.old self.new self.old.groups) }
+        ensures room { KeepsRoom self.old self.new }
+        ensures plain { kept_texts (row_at rows.now row).place 0 (row_at rows.now row).inputs
+            (group_of self.old.groups index).states ≡ [] → IsOk result }
+    {
+        let n = self.prototypes.len();
+        let place = rows.place(row);
+        lend_at(
+            &mut self.states,
+            index * n,
+            n,
+            &mut self.copies,
+            rows,
+            row,
+            place,
+        )?;
+        put_place(&mut self.entries, &mut self.held, index, place);
+        Ok(())
     }
 }

@@ -8,7 +8,7 @@ ghost use Rattle.pipe_groups.specs.Shape.{IsShape, shape_of};
 
 use crate::copies::{copied_fields, copied_types, fresh_copies};
 use pipe_aggs::{AggregateFunction, CheckedQuery};
-use pipe_columns::{DataType, Place, Schema};
+use pipe_columns::{AnyValue, DataType, Place, Schema};
 use std::alloc::{AllocError, Global};
 use std::marker::Model;
 
@@ -33,6 +33,8 @@ pub struct Groups {
     pub(crate) entries: Vec<Entry>,
     pub(crate) states: Vec<AggregateFunction>,
     pub(crate) held: usize,
+    /// Texts of a row that is lent, while it is fed.
+    pub(crate) copies: Vec<AnyValue>,
 }
 
 impl Model for Groups {
@@ -101,6 +103,7 @@ impl Groups {
             entries: Vec::new(alloc),
             states: Vec::new(alloc),
             held: 0,
+            copies: Vec::new(alloc),
         }
     }
 

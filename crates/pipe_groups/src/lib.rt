@@ -8,6 +8,7 @@ mod finish;
 mod groups;
 mod join;
 mod laws;
+mod lent_states;
 mod part_laws;
 mod placed_groups;
 mod places;
