@@ -5,6 +5,7 @@ use crate::types::{node_facts, node_types};
 use crate::{AExpr, AddError, Arena, Len, Node, Operator, PipedExpr};
 use pipe_columns::{AnyValue, Column, DataChunk, DataFrame, DataType, Text};
 use std::alloc::{AllocError, Global};
+use std::process::Abort;
 use std::test::Fail;
 
 fn add(arena: &mut Arena, expr: AExpr) -> Result<(), Fail> {
@@ -147,16 +148,23 @@ const WIDE: [Made; 10] = [
     (Operator::Modulus, DataType::UInt64, MOST, 2, Some(1)),
 ];
 
-#[test]
-fn arithmetic_at_the_edges(rt: HostRuntime) -> Result<(), Fail> {
-    for (op, dtype, a, b, want) in SMALL.into_iter().chain(WIDE) {
-        let (left, right) = (AnyValue::Int(a), AnyValue::Int(b));
-        let is = makes(rt.alloc(), op, dtype, left, right, number(want))?;
+/// Asks that operators make of numbers what is said of them.
+fn check_made(rt: &(impl Abort + Alloc<A = Global>), cases: &[Made]) -> Result<(), Fail> {
+    for (op, dtype, a, b, want) in cases {
+        let (left, right) = (AnyValue::Int(*a), AnyValue::Int(*b));
+        let is = makes(rt.alloc(), *op, *dtype, left, right, number(*want))?;
         assert!(rt; is, "{op:?} of {a} and {b}");
     }
-    for (op, dtype, _, b, _) in WIDE {
-        let (left, right) = (AnyValue::Null, AnyValue::Int(b));
-        let is = makes(rt.alloc(), op, dtype, left, right, AnyValue::Null)?;
+    Ok(())
+}
+
+#[test]
+fn arithmetic_at_the_edges(rt: HostRuntime) -> Result<(), Fail> {
+    check_made(&rt, &SMALL)?;
+    check_made(&rt, &WIDE)?;
+    for (op, dtype, _, b, _) in &WIDE {
+        let (left, right) = (AnyValue::Null, AnyValue::Int(*b));
+        let is = makes(rt.alloc(), *op, *dtype, left, right, AnyValue::Null)?;
         assert!(rt; is, "{op:?} of null");
     }
     Ok(())
