@@ -5,3 +5,7 @@ pub mod Buffers
 pub mod Tables
 pub mod Taken
 pub mod OocState
+pub mod Keyed
+pub mod KeyedLayout
+pub mod TableLayout
+pub mod Parts

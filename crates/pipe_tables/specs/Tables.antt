@@ -6,7 +6,7 @@ use Rattle.pipe_columns.specs.Key.{fold_bytes}
 use Rattle.pipe_running.specs.declared.function.AggregateFunction.{AggregateFunction}
 use Rattle.pipe_spill.specs.SpillRow.{AreRows}
 use Rattle.pipe_spill.specs.declared.spill_row.SpillRow.{SpillRow}
-use Rattle.pipe_groups.specs.Groups.{count_held, cover, Group, has_rows, keys_of, put}
+use Rattle.pipe_groups.specs.Groups.{count_held, cover, Group, keys_of, put, RowlessAreFresh}
 use Rattle.pipe_groups.specs.Given.{CanGive}
 use Rattle.pipe_groups.specs.Holds.{HoldFewer, Holds}
 use Rattle.pipe_groups.specs.Shape.{IsShape, Shape}
@@ -17,10 +17,12 @@ pub record Table : Type 0 where
   pub limit : Option ℕ
   pub groups : List Group
 
--- what every table keeps: each key once, and groups that hold fewer than 2^32 rows of the shape
+-- what every table keeps: each key once, those without rows as they began, and groups that hold
+-- fewer than 2^32 rows of the shape
 pub record IsTable (t : Table) : Type 0 where
   pub shape : IsShape t.shape
   pub apart : IsDistinct bytes_eq (keys_of t.groups)
+  pub fresh : RowlessAreFresh t.shape.prototypes t.groups
   pub rows : HoldFewer t.shape t.groups 0
 
 -- whether more keys are held than a limit allows for a new one to come

@@ -14,10 +14,11 @@ ghost use Rattle.pipe_groups.specs.Shape.{shape_of};
 ghost use Rattle.pipe_tables.specs.Tables.{cover_rows, groups_in, HasGroups, HoldFewTogether, is_full, IsTable, KeepsShape, lies_in, put_row, TakesOne};
 ghost use Rattle.pipe_tables.specs.declared.insert_end.InsertEnd.TheVariants as end;
 
-use crate::insert_end::{InsertEnd, LentEnd};
+use crate::insert_end::LentEnd;
+use crate::keyed_groups::KeyedGroups;
+use crate::parts::Parts;
 use pipe_aggs::CheckedQuery;
 use pipe_columns::DataFrame;
-use pipe_groups::Groups;
 use pipe_inputs::ChunkRows;
 use pipe_spill::SpillRow;
 use std::alloc::{AllocError, Global};
@@ -27,26 +28,20 @@ use std::marker::Model;
 /// their keys came, those without rows among them, which are room that was reserved.
 #[derive(Drop)]
 pub struct AggHashTable {
-    groups: Groups,
-    limit: Option<usize>,
+    pub(crate) keyed: KeyedGroups,
+    pub(crate) limit: Option<usize>,
+    pub(crate) parts: Option<Parts>,
 }
 
 impl Model for AggHashTable {
-    ghost use Rattle.pipe_tables.specs.Tables.{IsTable, Table};
+    ghost use Rattle.pipe_tables.specs.TableLayout.{IsKept, table_in};
+    ghost use Rattle.pipe_tables.specs.Tables.{Table};
 
     ghost Value = { Table };
 
-    ghost view = { λ a. record {
-      shape = a.groups.shape;
-      limit = a.limit;
-      groups = a.groups.groups;
-    } };
+    ghost view = { table_in };
 
-    ghost invariant = { λ a. IsTable (record {
-      shape = a.groups.shape;
-      limit = a.limit;
-      groups = a.groups.groups;
-    }) };
+    ghost invariant = { IsKept };
 }
 
 impl AggHashTable {
@@ -61,7 +56,11 @@ impl AggHashTable {
         ensures limit { IfOk result (λ t. t.limit ≡ limit) }
         ensures groups { IfOk result (λ t. t.groups ≡ []) }
     {
-        Err(AllocError)
+        Ok(AggHashTable {
+            keyed: KeyedGroups::new(alloc, query)?,
+            limit,
+            parts: None,
+        })
     }
 
     /// An empty table of the same query and limit.
@@ -70,7 +69,11 @@ impl AggHashTable {
         ensures limit { IfOk result (λ t. t.limit ≡ self.now.limit) }
         ensures groups { IfOk result (λ t. t.groups ≡ []) }
     {
-        Err(AllocError)
+        Ok(AggHashTable {
+            keyed: self.keyed.split()?,
+            limit: self.limit,
+            parts: None,
+        })
     }
 
     /// How many keys are held.
@@ -78,21 +81,21 @@ impl AggHashTable {
         ensures len { result ≡ count_held self.now.groups }
         ensures table { IsTable self.now }
     {
-        0
+        self.keyed.held()
     }
 
     /// Whether no key is held.
     pub fn is_empty(&self) -> bool
         ensures { IsTrue result ↔ (count_held self.now.groups ≡ 0) }
     {
-        true
+        self.len() == 0
     }
 
     /// How many bytes the codes of the held keys have.
     pub fn key_bytes(&self) -> usize
         ensures { result ≡ held_bytes self.now.groups }
     {
-        0
+        self.keyed.key_bytes()
     }
 
     /// Takes memory for the key of each row, so that no insert of one of these rows wants any.
@@ -102,45 +105,6 @@ impl AggHashTable {
         ensures err { OnErr result (HasGroups self.old self.new self.old.groups) }
     {
         Err(AllocError)
-    }
-
-    /// Takes a row in. Where its key is covered it takes no memory.
-    pub fn insert(&mut self, row: SpillRow) -> InsertEnd
-        requires typed { IsRow self.old.shape.key_types self.old.shape.input_types row }
-        requires few { TakesOne self.old }
-        ensures done { result ≡ end.Done → HasGroups self.old self.new (put_row self.old row) }
-        ensures refused { result ≢ end.Done → HasGroups self.old self.new self.old.groups }
-        ensures holds { result ≡ end.Done → (rows : List SpillRow)
-            → Holds self.old.shape.prototypes self.old.groups rows
-            → Holds self.old.shape.prototypes self.new.groups (rows ++ row ∷ []) }
-        ensures overflow { (result ≡ end.Overflow row)
-            ↔ ((is_full self.old ≡ true) × (is_held row.key self.old.groups ≡ false)) }
-        ensures others { (r : SpillRow) → (result ≡ end.Overflow r → r ≡ row)
-            × (result ≡ end.Memory r → r ≡ row) }
-        ensures covered { is_covered row.key self.old.groups ≡ true → result ≢ end.Memory row }
-    {
-        InsertEnd::Memory(row)
-    }
-
-    /// Takes row `row` of a chunk in, which is lent, and whose key's code is `key`. A key is owned
-    /// only where it is new, and a text only where a first or a last keeps it.
-    pub fn insert_lent(&mut self, key: &[u8], rows: &ChunkRows<'_>, row: usize) -> LentEnd
-        requires there { row < length rows.now }
-        requires code { key.now ≡ code self.old.shape.key_types (row_at rows.now row).key }
-        requires typed { IsRow self.old.shape.key_types self.old.shape.input_types
-            (spilled self.old.shape.key_types (row_at rows.now row)) }
-        requires few { TakesOne self.old }
-        ensures done { result ≡ LentEnd.Done → HasGroups self.old self.new
-            (put_row self.old (spilled self.old.shape.key_types (row_at rows.now row))) }
-        ensures refused { result ≢ LentEnd.Done → HasGroups self.old self.new self.old.groups }
-        ensures holds { result ≡ LentEnd.Done → (taken : List SpillRow)
-            → Holds self.old.shape.prototypes self.old.groups taken
-            → Holds self.old.shape.prototypes self.new.groups
-            (taken ++ spilled self.old.shape.key_types (row_at rows.now row) ∷ []) }
-        ensures overflow { (result ≡ LentEnd.Overflow)
-            ↔ ((is_full self.old ≡ true) × (is_held key.now self.old.groups ≡ false)) }
-    {
-        LentEnd::Memory
     }
 
     /// Takes the rows of another table in, which is then empty. The limit is lifted meanwhile.
@@ -175,19 +139,6 @@ impl AggHashTable {
         ensures other_shape { KeepsShape other.old other.new }
         ensures err { OnErr result (HasGroups self.old self.new self.old.groups) }
         ensures other_err { OnErr result (HasGroups other.old other.new other.old.groups) }
-    {
-        Err(AllocError)
-    }
-
-    /// Gives the groups in the order of their keys, under a slice, of which less is then left.
-    pub fn finalize(&mut self, slice: &mut Option<(usize, usize)>) -> Result<DataFrame, AllocError>
-        ensures frame { IfOk result (λ f. IsFrameOfGroups self.old.shape
-            (sliced slice.old (in_order self.old.groups)) f) }
-        ensures slice { OnOk result
-            (slice.new ≡ slice_after (count_held self.old.groups) slice.old) }
-        ensures emptied { OnOk result (HasGroups self.old self.new []) }
-        ensures err { OnErr result (HasGroups self.old self.new self.old.groups) }
-        ensures slice_err { OnErr result (slice.new ≡ slice.old) }
     {
         Err(AllocError)
     }

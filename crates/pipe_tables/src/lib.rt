@@ -1,14 +1,21 @@
 //! Tables of groups, the local table of a worker, and what overflows from it.
 #![tactic(auto)]
 
+mod finish;
 mod hash_table;
+mod insert;
 mod insert_end;
+mod keyed_feed;
+mod keyed_finish;
+mod keyed_groups;
 mod local_end;
 mod local_finish;
 mod local_rests;
 mod ooc_state;
+mod parts;
 mod query_groups;
 mod spill_partitions;
+mod spot;
 mod thread_local;
 
 pub use hash_table::AggHashTable;

@@ -1,0 +1,14 @@
+use Rattle.std.proofs.Common.{sym, subst}
+use Rattle.pipe_groups.specs.Shape.{IsShape, Shape}
+use Rattle.pipe_groups.proofs.GiveFacts.{can-give}
+use Rattle.pipe_tables.proofs.TableFacts.{table-none}
+use Rattle.pipe_tables.proofs.hash_table.AggHashTable.finalize_placed.Goals as goal
+
+pub finalize_placed-requires-clause-gives : goal.finalize_placed-requires-clause-gives
+finalize_placed-requires-clause-gives c = can-give _ _ c.self.invariant.table.shape c.self.invariant.table.apart c.self.invariant.table.rows
+
+pub invariant_of-self-2 : goal.invariant_of-self-2
+invariant_of-self-2 c = record {
+  table = table-none _ (subst (λ (s : Shape). IsShape s) (sym c.in_ok-placed.ensures.emptied.1) c.self.invariant.table.shape) c.in_ok-placed.ensures.emptied.0;
+  parts = tt;
+}
