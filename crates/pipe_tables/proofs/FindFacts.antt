@@ -1,11 +1,11 @@
 -- A look-up for a key walks along the chain of its hash.
-use Rattle.std.proofs.Common.{◌≡◌, ℕ, zero, suc, ◌<◌, ◌||◌, Bool, true, false, List, [], ◌∷◌, length, map, take, get_or, Option, Some, None, refl, sym, ap, ◌∙◌, arith, subst}
+use Rattle.std.proofs.Common.{◌≡◌, ℕ, suc, ◌<◌, ◌||◌, Bool, true, false, List, [], ◌∷◌, length, take, get_or, Option, Some, None, refl, sym, ap, ◌∙◌, arith}
 use Rattle.std.proofs.lemmas.List.{get_or-map, length-map}
 use Rattle.std.proofs.lemmas.Slice.Eq.{bytes_eq-Decides}
 use Rattle.std.specs.Str.{bytes_eq}
 use Rattle.pipe_chains.specs.Chains.{last_of}
 use Rattle.pipe_chains.specs.Hash.{hash_of}
-use Rattle.pipe_chains.proofs.Walks.{left-falls, left_of, OnChain, Walking, walking-end, walking-mark, walking-next, walking-start, walking-within}
+use Rattle.pipe_chains.proofs.Walks.{left-falls, left_of, OnChain, Walking, walking-end, walking-next, walking-start, walking-within}
 use Rattle.pipe_groups.specs.Groups.{Group, group_of, is_covered, keys_of, no_group}
 use Rattle.pipe_tables.specs.KeyedLayout.{AreMarked}
 

@@ -1,5 +1,5 @@
 -- A row that a table takes in, at the group of its key or a new one.
-use Rattle.std.proofs.Common.{◌≡◌, ℕ, ◌-◌, ◌<◌, ◌^◌, false, List, [], ◌∷◌, ◌++◌, length, set, refl, sym, ap, ◌∙◌, arith, subst}
+use Rattle.std.proofs.Common.{◌≡◌, ℕ, ◌-◌, ◌^◌, false, List, [], ◌∷◌, ◌++◌, length, set, sym, ap, ◌∙◌, arith, subst}
 use Rattle.std.proofs.lemmas.List.{length_push}
 use Rattle.std.specs.List.{All}
 use Rattle.pipe_running.specs.GroupStates.{fresh_states, StatesHold, StatesSeen, TakesFrom}

@@ -1,5 +1,5 @@
 -- Groups that change and keep their keys.
-use Rattle.std.proofs.Common.{◌≡◌, ℕ, zero, suc, ◌%◌, List, [], ◌∷◌, length, map, set, Option, Some, None, refl, sym, ap, ◌∙◌}
+use Rattle.std.proofs.Common.{◌≡◌, ℕ, zero, suc, List, [], ◌∷◌, map, set, Option, Some, None, refl, sym, ap, ◌∙◌}
 use Rattle.pipe_chains.specs.Hash.{hash_of}
 use Rattle.pipe_groups.specs.Groups.{Group, group_of, keys_of}
 use Rattle.pipe_tables.specs.KeyedLayout.{AreMarked}

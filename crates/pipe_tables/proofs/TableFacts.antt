@@ -1,6 +1,6 @@
 -- What every table keeps, call by call.
-use Rattle.std.proofs.Common.{◌≡◌, ℕ, ◌+◌, ◌<◌, ◌^◌, ◌||◌, Bool, true, false, List, [], ◌∷◌, ◌++◌, length, fold, map, Option, Some, None, refl, sym, ap, ◌∙◌, arith, subst}
-use Rattle.std.specs.List.{All, IsDistinct, list_any}
+use Rattle.std.proofs.Common.{◌≡◌, ℕ, ◌||◌, Bool, true, false, List, [], ◌∷◌, ◌++◌, refl, ap, arith}
+use Rattle.std.specs.List.{IsDistinct}
 use Rattle.std.specs.Str.{bytes_eq}
 use Rattle.std.proofs.lemmas.Cmp.{nat_list_eq_equiv}
 use Rattle.std.proofs.lemmas.List.{length_push, map-append}
@@ -10,15 +10,15 @@ use Rattle.pipe_columns.specs.declared.any_value.AnyValue.{AnyValue}
 use Rattle.pipe_columns.specs.declared.place.Place.{Place}
 use Rattle.pipe_running.specs.declared.function.AggregateFunction.{AggregateFunction}
 use Rattle.pipe_running.specs.GroupStates.{fresh_states}
-use Rattle.pipe_spill.specs.SpillRow.{AreRows, IsRow}
+use Rattle.pipe_spill.specs.SpillRow.{IsRow}
 use Rattle.pipe_spill.specs.declared.spill_row.SpillRow.{SpillRow}
 use Rattle.pipe_groups.specs.Groups.{cover, Group, has_rows, is_covered, keys_of, new_group, put, RowlessAreFresh, with_row}
-use Rattle.pipe_groups.specs.Holds.{HoldFewer, Holds}
+use Rattle.pipe_groups.specs.Holds.{HoldFewer}
 use Rattle.pipe_groups.specs.Shape.{IsShape, Shape}
 use Rattle.pipe_groups.proofs.HoldFacts.{holds-covered, holds-none, holds-row}
 use Rattle.pipe_groups.proofs.PutFacts.{cover-new, cover-there, put-new}
 use Rattle.pipe_groups.proofs.ShapeFacts.{shape-takes}
-use Rattle.pipe_tables.specs.Tables.{cover_rows, HasGroups, IsTable, put_row, Table, TakesOne}
+use Rattle.pipe_tables.specs.Tables.{HasGroups, IsTable, put_row, Table, TakesOne}
 
 module _ (ps : List AggregateFunction) where
   -- what is fresh where a group has no rows

@@ -7,20 +7,18 @@ use Rattle.std.proofs.lemmas.List.FromFn.{get_or-range_with_len, length-map-rang
 use Rattle.std.proofs.lemmas.List.Sums.{sum_by-cons, sum_by_push}
 use Rattle.std.proofs.lemmas.Option.{unwrap_or-slice_get}
 use Rattle.pipe_columns.specs.declared.data_chunk.DataChunk.{DataChunk}
-use Rattle.pipe_columns.specs.declared.data_type.DataType.{DataType}
 use Rattle.pipe_columns.specs.Frame.{FitsSchema, FrameData, HoldsTypes}
 use Rattle.pipe_columns.specs.Row.{Row}
 use Rattle.pipe_model.specs.Output.{key_types}
 use Rattle.pipe_model.specs.Query.{QueryTree}
 use Rattle.pipe_model.specs.Rows.{AreChunksOf, chunk_rows, row_of, rows, rows_from, total_height}
 use Rattle.pipe_aggs.specs.CheckedQuery.{input_types}
-use Rattle.pipe_inputs.specs.ChunkRows.{no_row, row_at}
+use Rattle.pipe_inputs.specs.ChunkRows.{no_row}
 use Rattle.pipe_inputs.specs.RowTypes.{IsRowOf}
 use Rattle.pipe_inputs.proofs.CellFacts.{row_at-chunk}
-use Rattle.pipe_spill.specs.SpillRow.{AreRows, HasValues, IsRow, spilled}
+use Rattle.pipe_spill.specs.SpillRow.{AreRows, IsRow, spilled}
 use Rattle.pipe_spill.specs.declared.spill_row.SpillRow.{SpillRow}
 use Rattle.pipe_spill.proofs.SpilledRows.{spilled_is_row}
-use Rattle.pipe_groups.specs.Groups.{Group}
 use Rattle.pipe_groups.specs.Holds.{HoldFewer, Holds}
 use Rattle.pipe_groups.specs.Shape.{Shape, shape_of}
 use Rattle.pipe_tables.specs.Tables.{Table}

@@ -1,5 +1,5 @@
 -- Rows that wait in buffers, one for each partition.
-use Rattle.std.specs.Prelude.{◌+◌, ◌<◌, ◌%◌, ◌==◌, ℕ, Bool, true, false, List, [], ◌∷◌, ◌++◌, All, filter, length, nat_lt, replicate, slice_index_or, slice_set, Option, Some, None, if◌then◌else◌}
+use Rattle.std.specs.Prelude.{◌<◌, ◌%◌, ◌==◌, ℕ, Bool, true, false, List, [], ◌∷◌, ◌++◌, All, filter, length, nat_lt, replicate, slice_index_or, slice_set, Option, Some, None, if◌then◌else◌}
 use Rattle.std.specs.List.{enumerate_from}
 use Rattle.pipe_columns.specs.Key.{fold_bytes}
 use Rattle.pipe_spill.specs.SpillRow.{Payload}

@@ -1,7 +1,7 @@
 -- Of the proofs alone: how groups that are found by their keys are kept.
-use Rattle.std.specs.Prelude.{◌≡◌, ◌<◌, ℕ, min, map, length, List}
+use Rattle.std.specs.Prelude.{◌≡◌, ℕ, min, map, List}
 use Rattle.pipe_chains.specs.Hash.{hash_of}
-use Rattle.pipe_groups.specs.Groups.{Group, group_of, keys_of, Seen}
+use Rattle.pipe_groups.specs.Groups.{Group, keys_of, Seen}
 use Rattle.pipe_tables.specs.declared.keyed_groups.KeyedGroups.TheInside.{Inside}
 
 -- the groups, with room for as many more as there is in both the buffer and the chains

@@ -1,5 +1,5 @@
 -- Of the proofs alone: which groups lie in which partition.
-use Rattle.std.specs.Prelude.{◌≡◌, ◌<◌, ◌%◌, ℕ, List, map, Option, Some, None}
+use Rattle.std.specs.Prelude.{◌≡◌, ◌%◌, ℕ, List, map, Option, Some, None}
 use Rattle.pipe_columns.specs.Key.{fold_bytes}
 use Rattle.pipe_groups.specs.Groups.{Group, keys_of}
 use Rattle.pipe_tables.specs.declared.parts.Parts.{Parts}

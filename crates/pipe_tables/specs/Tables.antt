@@ -1,5 +1,5 @@
 -- A table of groups, as contracts see it.
-use Rattle.std.specs.Prelude.{◌≡◌, ◌<◌, ◌+◌, ◌^◌, ◌%◌, ◌==◌, ℕ, Bool, true, false, List, [], ◌∷◌, fold, length, nat_lt, Option, Some, None, if◌then◌else◌, filter}
+use Rattle.std.specs.Prelude.{◌≡◌, ◌<◌, ◌+◌, ◌^◌, ◌%◌, ◌==◌, ℕ, Bool, false, List, fold, length, nat_lt, Option, Some, None, filter}
 use Rattle.std.specs.List.{IsDistinct}
 use Rattle.std.specs.Str.{bytes_eq}
 use Rattle.pipe_columns.specs.Key.{fold_bytes}
@@ -7,7 +7,6 @@ use Rattle.pipe_running.specs.declared.function.AggregateFunction.{AggregateFunc
 use Rattle.pipe_spill.specs.SpillRow.{AreRows}
 use Rattle.pipe_spill.specs.declared.spill_row.SpillRow.{SpillRow}
 use Rattle.pipe_groups.specs.Groups.{count_held, cover, Group, keys_of, put, RowlessAreFresh}
-use Rattle.pipe_groups.specs.Given.{CanGive}
 use Rattle.pipe_groups.specs.Holds.{HoldFewer, Holds}
 use Rattle.pipe_groups.specs.Shape.{IsShape, Shape}
 

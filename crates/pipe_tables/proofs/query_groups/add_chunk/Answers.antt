@@ -1,21 +1,16 @@
-use Rattle.std.proofs.Common.{◌≡◌, ◌∙◌, ◌<◌, ◌≤◌, ◌+◌, ◌^◌, ◌++◌, ◌∷◌, [], ℕ, List, length, map, sym, ap, subst, arith}
+use Rattle.std.proofs.Common.{◌≡◌, ◌∙◌, ◌<◌, List, length, sym, ap, subst, arith}
 use Rattle.std.proofs.lemmas.Option.{unwrap_or-slice_get}
 use Rattle.std.proofs.lemmas.List.FromFn.{length-map-range_with_len}
-use Rattle.pipe_columns.specs.declared.data_type.DataType.{DataType}
 use Rattle.pipe_columns.specs.Frame.{FrameData}
 use Rattle.pipe_columns.specs.Row.{Row}
 use Rattle.pipe_aggs.specs.QueryTrees.{query_tree}
-use Rattle.pipe_aggs.specs.CheckedQuery.{input_types}
 use Rattle.pipe_model.specs.Output.{key_types}
 use Rattle.pipe_model.specs.Query.{QueryTree}
-use Rattle.pipe_model.specs.Rows.{chunk_rows, row_of}
+use Rattle.pipe_model.specs.Rows.{row_of}
 use Rattle.pipe_inputs.specs.ChunkRows.{no_row, row_at}
 use Rattle.pipe_inputs.specs.RowTypes.{IsRowOf}
 use Rattle.pipe_inputs.proofs.CellFacts.{row_at-chunk}
-use Rattle.pipe_spill.specs.KeyTypes.{AreOfTypes}
-use Rattle.pipe_spill.specs.SpillRow.{AreRows, IsRow, spilled}
-use Rattle.pipe_spill.specs.declared.spill_row.SpillRow.{SpillRow}
-use Rattle.pipe_groups.specs.Holds.{Holds}
+use Rattle.pipe_spill.specs.SpillRow.{spilled}
 use Rattle.pipe_groups.specs.Shape.{Shape}
 use Rattle.pipe_tables.proofs.TakenFacts.{room-for-one, row-typed, rows-typed, took-more}
 use Rattle.pipe_tables.proofs.query_groups.add_chunk.Goals as goal

@@ -1,4 +1,4 @@
-use Rattle.std.proofs.Common.{sym, subst}
+use Rattle.std.proofs.Common.{subst}
 use Rattle.pipe_groups.specs.Groups.{is_covered, Seen}
 use Rattle.pipe_tables.specs.Keyed.{IsAt}
 use Rattle.pipe_tables.proofs.FindFacts.{find-end, find-falls, find-mark, find-next, find-start, find-within, other-key, same-key}

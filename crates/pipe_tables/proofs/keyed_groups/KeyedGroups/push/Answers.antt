@@ -1,4 +1,4 @@
-use Rattle.std.proofs.Common.{◌+◌, ◌≤◌, ℕ, length, arith, sym, subst}
+use Rattle.std.proofs.Common.{◌+◌, length, arith, sym, subst}
 use Rattle.pipe_groups.specs.Groups.{Covers, Seen}
 use Rattle.pipe_tables.proofs.keyed_groups.KeyedGroups.push.Goals as goal
 

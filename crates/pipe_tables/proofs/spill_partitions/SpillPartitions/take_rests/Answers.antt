@@ -1,4 +1,4 @@
-use Rattle.std.proofs.Common.{◌≡◌, ◌∙◌, ◌+◌, ◌∷◌, ◌++◌, ℕ, List, [], length, map, refl, ap, sym, arith, Vec, Global, vec_len, vec_capacity}
+use Rattle.std.proofs.Common.{◌∙◌, ◌∷◌, ◌++◌, ℕ, List, [], length, map, refl, ap, sym, arith, Vec, Global, vec_len, vec_capacity}
 use Rattle.std.proofs.lemmas.Bool.{false≢true}
 use Rattle.std.proofs.lemmas.List.{length-set, map-append}
 use Rattle.pipe_spill.specs.SpillRow.{Payload}
