@@ -303,17 +303,20 @@ fn faults_around_expressions(rt: HostRuntime) -> Result<(), Fail> {
 /// The outputs of the query below, by name.
 const OUTPUTS: [&str; 5] = ["v", "s", "m_sum", "m_count", "len"];
 
+fn assert_outputs(rt: &impl Abort, fields: &[Field]) {
+    assert!(rt; fields.len() == 5);
+    for (field, name) in fields.iter().zip(OUTPUTS) {
+        assert!(rt; field.name.as_str() == name, "{name}");
+    }
+}
+
 fn assert_checked(rt: &impl Abort, checked: &CheckedQuery<'_>) {
     assert!(rt; checked.slice() == Some((1, 2)));
     assert!(rt; checked.query().aggs.len() == 3);
     assert!(rt; checked.key_types() == [DataType::Int8].as_slice());
     let inputs = [DataType::Int8, DataType::Int8, DataType::UInt32];
     assert!(rt; checked.input_types() == inputs.as_slice());
-    let fields = checked.output_schema().fields();
-    assert!(rt; fields.len() == 5);
-    for (field, name) in fields.iter().zip(OUTPUTS) {
-        assert!(rt; field.name.as_str() == name, "{name}");
-    }
+    assert_outputs(rt, checked.output_schema().fields());
 }
 
 #[test]
@@ -341,12 +344,18 @@ fn doubled_arena(alloc: Global) -> Result<Arena, Fail> {
     Ok(arena)
 }
 
-#[test]
-fn doubled_sums(rt: HostRuntime) -> Result<(), Fail> {
-    let alloc = rt.alloc();
+/// The query for that sum by what is summed.
+fn doubled_query(alloc: Global) -> Result<Query, Fail> {
     let mut query = query_of(alloc, &[68], &[70])?;
     query.arena = doubled_arena(alloc)?;
     query.maintain_order = true;
+    Ok(query)
+}
+
+#[test]
+fn doubled_sums(rt: HostRuntime) -> Result<(), Fail> {
+    let alloc = rt.alloc();
+    let query = doubled_query(alloc)?;
     let field = field_at(alloc, &query.arena, 68, &query.schema)?;
     assert!(rt; is_found(&field, &Ok(("v", DataType::Int8))));
     assert!(rt; is_kept(alloc, &query.arena, 69, &query.schema)?);
