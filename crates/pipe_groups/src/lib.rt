@@ -3,6 +3,7 @@
 
 mod answer_laws;
 mod copies;
+mod eval;
 mod feed;
 mod finish;
 mod groups;
@@ -17,6 +18,7 @@ mod row_code;
 mod states;
 
 pub use answer_laws::{what_groups_give, what_placed_groups_give, what_placed_rows_give};
+pub use eval::Eval;
 pub use groups::Groups;
 pub use laws::{what_few_rows_allow, what_groups_hold, which_keys_are_held};
 pub use part_laws::{how_placed_rows_join, what_a_partition_gives};
