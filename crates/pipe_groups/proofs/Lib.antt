@@ -21,3 +21,13 @@ pub mod JoinSteps
 pub mod TakeFacts
 pub mod KeepFacts
 pub mod TextFacts
+pub mod AscentFacts
+pub mod OrderFacts
+pub mod ColumnFacts
+pub mod ColumnRows
+pub mod GivenFacts
+pub mod ShapeTypes
+pub mod FrameFacts
+pub mod SliceFacts
+pub mod TakenFacts
+pub mod ReadFacts

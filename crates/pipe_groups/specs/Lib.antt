@@ -1,8 +1,11 @@
+pub mod Columns
 pub mod Given
 pub mod Groups
 pub mod Holds
 pub mod Layout
 pub mod Placed
 pub mod QueryRows
+pub mod Ranks
+pub mod Reading
 pub mod Shape
 pub mod Texts

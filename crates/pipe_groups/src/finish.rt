@@ -1,15 +1,18 @@
 //! How groups become a frame.
 
-ghost use Rattle.std.specs.Prelude.{◌≡◌, [], All, IfOk, map, OnErr, OnOk, Some};
+ghost use Rattle.std.specs.Prelude.{◌≡◌, ◌<◌, [], All, IfOk, length, map, nat_eq, OnErr, OnOk, Some, true};
 ghost use Rattle.std.specs.List.{IsDistinct};
 ghost use Rattle.std.specs.Str.{bytes_eq};
 ghost use Rattle.pipe_columns.specs.Slice.{sliced};
 ghost use Rattle.pipe_groups.specs.Given.{CanGive, in_order, IsFrameOfGroups, slice_after};
-ghost use Rattle.pipe_groups.specs.Groups.{count_held, HasGroups, held_groups, keys_of};
+ghost use Rattle.pipe_groups.specs.Groups.{count_held, group_of, HasGroups, has_rows, held_groups, keys_of};
 
 use crate::groups::Groups;
 use crate::placed_groups::PlacedGroups;
-use pipe_columns::DataFrame;
+use crate::places::Places;
+use crate::slices::{left_of, taken_by};
+use crate::unfinished::finish_all;
+use pipe_columns::{DataFrame, Place};
 use std::alloc::AllocError;
 
 impl Groups {
@@ -26,8 +29,10 @@ impl Groups {
         ensures err { OnErr result (HasGroups self.old self.new self.old.groups) }
         ensures slice_err { OnErr result (slice.new ≡ slice.old) }
     {
-        let _ = slice.is_some();
-        Err(AllocError)
+        let order = self.ordered()?;
+        let frame = self.give(taken_by(&order, *slice))?;
+        *slice = left_of(*slice, order.len());
+        Ok(frame)
     }
 
     /// The frame of all groups that hold rows, in the order of their keys, with the least place of
@@ -42,6 +47,48 @@ impl Groups {
         ensures emptied { OnOk result (HasGroups self.old self.new []) }
         ensures err { OnErr result (HasGroups self.old self.new self.old.groups) }
     {
-        Err(AllocError)
+        let order = self.ordered()?;
+        let firsts = self.first_places(&order)?;
+        let frame = self.give(&order)?;
+        let firsts = Places::new(firsts);
+        Ok(PlacedGroups { frame, firsts })
+    }
+
+    /// The least places of the rows of groups that hold rows.
+    fn first_places(&self, taken: &[usize]) -> Result<Vec<Place>, AllocError>
+        requires within { All (λ i. i < length self.now.groups) taken.now }
+        requires rows { All (λ i. has_rows (group_of self.now.groups i) ≡ true) taken.now }
+        ensures { IfOk result (λ v.
+            map Some v.items ≡ map (λ i. (group_of self.now.groups i).first) taken.now) }
+    {
+        let mut firsts = Vec::with_capacity(*self.entries.allocator(), taken.len())?;
+        for index in taken {
+            let Some(first) = self.first(*index) else {
+                unreachable!()
+            };
+            firsts.push(first)?;
+        }
+        Ok(firsts)
+    }
+
+    /// The frame of some groups, in turn. No group is left. All memory is had before anything
+    /// changes.
+    fn give(&mut self, taken: &[usize]) -> Result<DataFrame, AllocError>
+        requires within { All (λ i. i < length self.old.groups) taken.now }
+        requires once { IsDistinct nat_eq taken.now }
+        requires gives { All (CanGive self.old.shape) (map (group_of self.old.groups) taken.now) }
+        ensures frame { IfOk result (λ f.
+            IsFrameOfGroups self.old.shape (map (group_of self.old.groups) taken.now) f) }
+        ensures emptied { OnOk result (HasGroups self.old self.new []) }
+        ensures err { OnErr result (HasGroups self.old self.new self.old.groups) }
+    {
+        let alloc = *self.entries.allocator();
+        let keys = self.key_columns(taken)?;
+        let mut given = self.given_columns(taken.len())?;
+        let mut columns = Vec::with_capacity(alloc, keys.len() + given.len())?;
+        self.give_all(taken, &mut given);
+        finish_all(keys, &mut columns);
+        finish_all(given, &mut columns);
+        Ok(DataFrame::new(taken.len(), columns).unwrap())
     }
 }
