@@ -1,3 +1,4 @@
+pub mod After
 pub mod BufferLayout
 pub mod LendsTable
 pub mod LocalTable

@@ -8,6 +8,7 @@ mod insert_end;
 mod keyed_feed;
 mod keyed_finish;
 mod keyed_groups;
+mod laws;
 mod local_end;
 mod local_finish;
 mod local_rests;
