@@ -1,5 +1,5 @@
 -- The rows of a chunk that are taken one by one, and of chunks.
-use Rattle.std.proofs.Common.{◌≡◌, ◌∙◌, ℕ, ◌+◌, ◌<◌, ◌^◌, suc, List, [], ◌∷◌, ◌++◌, length, map, get_or, refl, sym, ap, subst, arith, ◌≤◌}
+use Rattle.std.proofs.Common.{Option, Some, true, false, ◌≡◌, ◌∙◌, ℕ, ◌+◌, ◌<◌, ◌^◌, suc, List, [], ◌∷◌, ◌++◌, length, map, get_or, refl, sym, ap, subst, arith, ◌≤◌}
 use Rattle.std.specs.List.{All, range_with_len}
 use Rattle.std.proofs.lemmas.List.{append_assoc, append-nil, length-append, length-map, map-append}
 use Rattle.std.proofs.lemmas.List.Elements.{All-append, All-cons, All-map, All-nil}
@@ -7,21 +7,34 @@ use Rattle.std.proofs.lemmas.List.FromFn.{get_or-range_with_len, length-map-rang
 use Rattle.std.proofs.lemmas.List.Sums.{sum_by-cons, sum_by_push}
 use Rattle.std.proofs.lemmas.Option.{unwrap_or-slice_get}
 use Rattle.pipe_columns.specs.declared.data_chunk.DataChunk.{DataChunk}
-use Rattle.pipe_columns.specs.Frame.{FitsSchema, FrameData, HoldsTypes}
+use Rattle.pipe_columns.specs.declared.place.Place.{Place}
+use Rattle.pipe_columns.specs.Frame.{fields_of, FitsSchema, frame_of, FrameData, HoldsTypes}
+use Rattle.pipe_columns.specs.Slice.{sliced}
 use Rattle.pipe_columns.specs.Row.{Row}
 use Rattle.pipe_model.specs.Output.{key_types}
 use Rattle.pipe_model.specs.Query.{QueryTree}
+use Rattle.pipe_model.specs.Answer.{answer}
+use Rattle.pipe_model.specs.Groupable.{IsGroupable}
+use Rattle.pipe_model.proofs.RowPlaces.{rows-distinct}
 use Rattle.pipe_model.specs.Rows.{AreChunksOf, chunk_rows, row_of, rows, rows_from, total_height}
-use Rattle.pipe_aggs.specs.CheckedQuery.{input_types}
+use Rattle.pipe_aggs.specs.CheckedQuery.{input_types, IsSound}
+use Rattle.pipe_aggs.specs.QueryTrees.{query_tree}
+use Rattle.pipe_aggs.specs.declared.query.Query.{Query}
 use Rattle.pipe_inputs.specs.ChunkRows.{no_row}
 use Rattle.pipe_inputs.specs.RowTypes.{IsRowOf}
 use Rattle.pipe_inputs.proofs.CellFacts.{row_at-chunk}
+use Rattle.pipe_inputs.proofs.TypeFacts as TypeFacts
 use Rattle.pipe_spill.specs.SpillRow.{AreRows, IsRow, spilled}
 use Rattle.pipe_spill.specs.declared.spill_row.SpillRow.{SpillRow}
 use Rattle.pipe_spill.proofs.SpilledRows.{spilled_is_row}
+use Rattle.pipe_groups.specs.Given.{in_order, IsFrameOfGroups}
+use Rattle.pipe_groups.specs.Placed.{rows_by_place}
+use Rattle.pipe_groups.specs.QueryRows.{ArePlaced, HoldRowsOf}
+use Rattle.pipe_groups.proofs.AnswerFacts.{held-whole}
+use Rattle.pipe_groups.proofs.ByPlaceFacts.{held-by_place}
 use Rattle.pipe_groups.specs.Holds.{HoldFewer, Holds}
 use Rattle.pipe_groups.specs.Shape.{Shape, shape_of}
-use Rattle.pipe_tables.specs.Tables.{Table}
+use Rattle.pipe_tables.specs.Tables.{IsTable, Table}
 use Rattle.pipe_tables.specs.Taken.{HasTaken, spilled_rows}
 
 -- the first rows of a chunk
@@ -177,3 +190,40 @@ taken-more q taken c i old new h at fits types few number shape limit holds type
       typed = subst (λ (s : Shape). R s (spilled_rows q (taken ++ (c ∷ [])))) (sym shape)
           (subst (R old.shape) all (All-append (IsRow old.shape.key_types old.shape.input_types) (spilled_rows q taken) own h.typed typed));
     }
+
+-- ---- what is given
+
+-- a table that has taken chunks holds their rows, with the types of the query
+pub taken-holds : (x : Query) (taken : List DataChunk) (t : Table) → IsSound x → IsGroupable (query_tree x) → HasTaken (query_tree x) taken t → IsTable t
+    → HoldRowsOf (query_tree x) t.groups (rows taken (query_tree x))
+taken-holds x taken t sound groupable h is = record {
+  groupable = groupable;
+  typed = TypeFacts.rows-typed x 0 taken sound h.chunks.columns h.chunks.typed;
+  apart = is.apart;
+  holds = subst (λ (s : Shape). Holds s.prototypes t.groups (spilled_rows (query_tree x) taken)) h.shape h.holds;
+}
+
+-- where no order is kept, its frame under the slice is the answer
+pub taken-by_key : (q : QueryTree) (taken : List DataChunk) (t : Table) (slice : Option (ℕ × ℕ)) (f : FrameData) → HoldRowsOf q t.groups (rows taken q)
+    → t.shape ≡ shape_of q → slice ≡ q.slice → q.keeps_order ≡ false → IsFrameOfGroups t.shape (sliced slice (in_order t.groups)) f → f ≡ answer taken q 1
+taken-by_key q taken t slice f h shape is unordered frame =
+    let own : IsFrameOfGroups (shape_of q) (sliced q.slice (in_order t.groups)) f =
+    subst (λ (s : Shape). IsFrameOfGroups s (sliced q.slice (in_order t.groups)) f) shape
+    (subst (λ (s : Option (ℕ × ℕ)). IsFrameOfGroups t.shape (sliced s (in_order t.groups)) f) is frame) in
+    held-whole q (rows taken q) t.groups f h (rows-distinct taken q) unordered own
+
+-- its placed groups
+pub taken-placed : (q : QueryTree) (t : Table) (frame : FrameData) (firsts : List Place) → t.shape ≡ shape_of q → IsFrameOfGroups t.shape (in_order t.groups) frame
+    → map Some firsts ≡ map (λ g. g.first) (in_order t.groups) → ArePlaced (shape_of q) t.groups frame firsts
+taken-placed q t frame firsts shape is places = record {
+  frame_is = subst (λ (s : Shape). IsFrameOfGroups s (in_order t.groups) frame) shape is;
+  firsts_are = places;
+}
+
+-- in the order of their places they give the answer where order is kept
+pub taken-by_place : (q : QueryTree) (taken : List DataChunk) (t : Table) (frame : FrameData) (firsts : List Place) (slice : Option (ℕ × ℕ)) → HoldRowsOf q t.groups (rows taken q)
+    → ArePlaced (shape_of q) t.groups frame firsts → slice ≡ q.slice → q.keeps_order ≡ true
+    → (f : FrameData) → f ≡ frame_of (fields_of frame.columns) (sliced slice (rows_by_place firsts frame)) → f ≡ answer taken q 1
+taken-by_place q taken t frame firsts slice h placed is ordered f e =
+    held-by_place q (rows taken q) t.groups frame firsts h (rows-distinct taken q) placed ordered f
+    (e ∙ ap (λ (s : Option (ℕ × ℕ)). frame_of (fields_of frame.columns) (sliced s (rows_by_place firsts frame))) is)

@@ -4,7 +4,7 @@ ghost use Rattle.std.specs.Prelude.{◌≡◌, [], IfOk, map, OnErr, OnOk, Some}
 ghost use Rattle.pipe_columns.specs.Slice.{sliced};
 ghost use Rattle.pipe_groups.specs.Given.{in_order, IsFrameOfGroups, slice_after};
 ghost use Rattle.pipe_groups.specs.Groups.{count_held};
-ghost use Rattle.pipe_tables.specs.Tables.{HasGroups};
+ghost use Rattle.pipe_tables.specs.Tables.{HasGroups, IsTable};
 
 use crate::hash_table::AggHashTable;
 use pipe_columns::DataFrame;
@@ -22,6 +22,7 @@ impl AggHashTable {
         ensures emptied { OnOk result (HasGroups self.old self.new []) }
         ensures err { OnErr result (HasGroups self.old self.new self.old.groups) }
         ensures slice_err { OnErr result (slice.new ≡ slice.old) }
+        ensures table { IsTable self.old }
     {
         let frame = self.keyed.finalize(slice)?;
         self.parts = None;
@@ -37,6 +38,7 @@ impl AggHashTable {
             map Some p.firsts ≡ map (λ g. g.first) (in_order self.old.groups)) }
         ensures emptied { OnOk result (HasGroups self.old self.new []) }
         ensures err { OnErr result (HasGroups self.old self.new self.old.groups) }
+        ensures table { IsTable self.old }
     {
         let placed = self.keyed.finalize_placed()?;
         self.parts = None;

@@ -121,4 +121,22 @@ impl<'a> QueryGroups<'a> {
             taken,
         })
     }
+
+    /// The answer over the chunks taken.
+    pub fn finish(self, alloc: Global) -> Result<DataFrame, AllocError>
+        ensures { IfOk result (λ f. f
+            ≡ answer self.entry.taken (query_tree self.entry.query) 1) }
+    {
+        let QueryGroups {
+            query,
+            mut table,
+            ..
+        } = self;
+        let mut slice = query.slice();
+        if query.query().maintain_order {
+            let placed = table.finalize_placed()?;
+            return placed.in_order_of_rows(alloc, &mut slice);
+        }
+        table.finalize(&mut slice)
+    }
 }
