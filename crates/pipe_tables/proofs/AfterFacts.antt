@@ -1,14 +1,15 @@
 -- One row more comes to a local table.
-use Rattle.std.proofs.Common.{◌≡◌, ◌≢◌, ◌∙◌, ◌+◌, ◌≤◌, ◌<◌, ◌==◌, ◌&&◌, ◌||◌, ◌%◌, ℕ, Bool, true, false, not, List, [], ◌∷◌, ◌++◌, Option, Some, None, length, map, set, get_or, zero, suc, refl, ap, sym, subst, arith, ⊎_elim}
+use Rattle.std.proofs.Common.{◌≡◌, ◌≢◌, ◌∙◌, ◌+◌, ◌≤◌, ◌<◌, ◌==◌, ◌&&◌, ◌||◌, ◌%◌, ◌^◌, ℕ, Bool, true, false, not, List, [], ◌∷◌, ◌++◌, Option, Some, None, length, map, set, get_or, zero, suc, refl, ap, sym, subst, arith, ⊎_elim}
 use Rattle.std.specs.Prelude.{All, if◌then◌else◌, nat_le}
 use Rattle.std.specs.List.{list_any, range_with_len}
 use Rattle.std.specs.Set.{is_member}
 use Rattle.std.specs.Str.{bytes_eq}
 use Rattle.std.proofs.lemmas.Bool.{cases_eq, false≢true}
 use Rattle.std.proofs.lemmas.Bool.Decides.{nat_tests}
-use Rattle.std.proofs.lemmas.List.{append-nil, append_assoc, length-append, map-append}
-use Rattle.std.proofs.lemmas.List.Elements.{All-append, All-cons, All-head, All-nil, All-tail}
+use Rattle.std.proofs.lemmas.List.{append-nil, append_assoc, length-append, length-map, map-append}
+use Rattle.std.proofs.lemmas.List.Elements.{All-append, All-cons, All-filter, All-head, All-nil, All-tail}
 use Rattle.std.proofs.lemmas.List.FromFn.{get_or-map-range_with_len, length-map-range_with_len}
+use Rattle.std.proofs.lemmas.List.Sums.{count_by-le-length, length-filter}
 use Rattle.std.proofs.Math.Nat.{mod-lt}
 use Rattle.pipe_columns.specs.declared.any_value.AnyValue.{AnyValue}
 use Rattle.pipe_columns.specs.declared.data_type.DataType.{DataType}
@@ -23,16 +24,17 @@ use Rattle.pipe_plan.specs.Run.{AreLimits, is_generic}
 use Rattle.pipe_plan.proofs.Cutting.{full-filled, full-short, full-unfilled, rest-filled, rest-short, rest-unfilled}
 use Rattle.pipe_plan.proofs.KeptKeys.{kept-full, kept-known, kept-new}
 use Rattle.pipe_spill.specs.SpillRow.{HasValues, spilled}
+use Rattle.pipe_spill.proofs.SpilledRows.{spilled_are_rows}
 use Rattle.pipe_spill.specs.declared.spill_row.SpillRow.{SpillRow}
 use Rattle.pipe_groups.specs.Groups.{count_held, Group, has_rows, held_groups, is_held, new_group, put, RowlessAreFresh, with_row as with_a_row}
-use Rattle.pipe_groups.specs.Holds.{Holds}
+use Rattle.pipe_groups.specs.Holds.{HoldFewer, Holds}
 use Rattle.pipe_groups.specs.Shape.{IsShape, Shape}
 use Rattle.pipe_groups.proofs.HoldFacts.{holds-none, holds-row}
 use Rattle.pipe_groups.proofs.ShapeFacts.{shape-takes}
 use Rattle.pipe_tables.specs.After.{IsAfter, is_kept_of, kept_of, left_of, piece_for, pieces_for, spilled_to, waiting_of, with_all}
 use Rattle.pipe_tables.specs.Buffers.{buffer_of, buffered, Buffers, fills, leaving, no_rows, rows_with}
 use Rattle.pipe_tables.specs.LocalTable.{holding, keeps, let_go, Local, overflowing, with_row}
-use Rattle.pipe_tables.specs.Tables.{put_row, Table}
+use Rattle.pipe_tables.specs.Tables.{put_row, Table, TakesOne}
 use Rattle.pipe_tables.proofs.CountFacts.{count-put, gain}
 use Rattle.pipe_tables.proofs.HeldKeys.{held-kept, keeps-stays}
 use Rattle.pipe_tables.proofs.KeptRows.{kept-first, kept_of-more, one_if, sent-more, spilled_to-more, stays}
@@ -321,20 +323,18 @@ module _ (l : Limits) (s : Shape) (generic : is_generic l.sink ≡ true) (limits
 -- ---- no row
 
 -- a local table that is new
-pub after-none : (l : Limits) (s : Shape) (t : Local) → is_generic l.sink ≡ true → 0 < l.buffer_size → t.table ≡ record { shape = s; limit = Some l.spill_size; groups = [] }
-    → t.buffers ≡ record { size = l.buffer_size; rows = no_rows l.partitions } → t.overflowed ≡ false → IsAfter l s [] t
-after-none l s t generic some table buffers overflowed =
-    let groups : t.table.groups ≡ [] = ap (λ (a : Table). a.groups) table in
-    record {
-      shape = ap (λ (a : Table). a.shape) table;
-      limit = ap (λ (a : Table). a.limit) table;
-      size = ap (λ (b : Buffers). b.size) buffers;
-      holds = rw groups (holds-none s.prototypes);
-      counted = ap (λ (gs : List Group). count_held gs) groups ∙ sym (ap (λ (ks : List (List AnyValue)). length ks) (kept-first l [] generic) ∙ none (l.spill_size + 1));
-      fresh = rw groups (All-nil (λ (g : Group). has_rows g ≡ false → g.states ≡ fresh_states s.prototypes));
-      waits = ap (λ (b : Buffers). b.rows) buffers ∙ empty (waiting_of l s.key_types []) (λ p. rest-short l.buffer_size [] some) 0 l.partitions;
-      overflowed = overflowed;
-    }
+pub after-none : (l : Limits) (s : Shape) (t : Local) → is_generic l.sink ≡ true → 0 < l.buffer_size → t.table.shape ≡ s → t.table.limit ≡ Some l.spill_size → t.table.groups ≡ []
+    → t.buffers.size ≡ l.buffer_size → t.buffers.rows ≡ no_rows l.partitions → t.overflowed ≡ false → IsAfter l s [] t
+after-none l s t generic some shape limit groups size rows overflowed = record {
+  shape = shape;
+  limit = limit;
+  size = size;
+  holds = rw groups (holds-none s.prototypes);
+  counted = ap (λ (gs : List Group). count_held gs) groups ∙ sym (ap (λ (ks : List (List AnyValue)). length ks) (kept-first l [] generic) ∙ none (l.spill_size + 1));
+  fresh = rw groups (All-nil (λ (g : Group). has_rows g ≡ false → g.states ≡ fresh_states s.prototypes));
+  waits = rows ∙ empty (waiting_of l s.key_types []) (λ p. rest-short l.buffer_size [] some) 0 l.partitions;
+  overflowed = overflowed;
+}
   where
     none : (n : ℕ) → length (first_distinct same_key n []) ≡ 0
     none zero = refl
@@ -343,3 +343,14 @@ after-none l s t generic some table buffers overflowed =
     empty : (f : ℕ → List SpillRow) → ((p : ℕ) → f p ≡ []) → (a n : ℕ) → no_rows n ≡ map f (range_with_len a n)
     empty f none a zero = refl
     empty f none a (suc n) = ap (λ (b : List SpillRow). b ∷ no_rows n) (sym (none a)) ∙ ap (λ l. f a ∷ l) (empty f none (a + 1) n)
+
+-- ---- few rows
+
+-- a local table after few rows has room for one more
+pub after-room : (l : Limits) (s : Shape) (taken : List Row) (t : Local) → All (HasValues s.key_types s.input_types) taken → length taken + 1 < 2 ^ 32 → IsAfter l s taken t → TakesOne t.table
+after-room l s taken t all few after = subst (λ (h : Shape). HoldFewer h t.table.groups 1) (sym after.shape) (record {
+  rows = map (spilled s.key_types) (kept_of l taken);
+  holds = after.holds;
+  typed = spilled_are_rows s.key_types s.input_types (kept_of l taken) (All-filter (is_kept_of l taken) (HasValues s.key_types s.input_types) taken all);
+  few = omega (arith, few, length-map (kept_of l taken) (spilled s.key_types), length-filter (is_kept_of l taken) taken, count_by-le-length (is_kept_of l taken) taken);
+})

@@ -1,6 +1,6 @@
 //! Laws of the local table: what it holds, what waits and what has left after the rows of a worker.
 
-ghost use Rattle.std.specs.Prelude.{◌≡◌, ◌<◌, ◌∷◌, ◌++◌, [], All, List, Some, false, length, map, true, ℕ};
+ghost use Rattle.std.specs.Prelude.{◌≡◌, ◌+◌, ◌<◌, ◌^◌, ◌∷◌, ◌++◌, [], All, List, Some, false, length, map, true, ℕ};
 ghost use Rattle.std.specs.List.{filter};
 ghost use Rattle.pipe_columns.specs.Row.{Row};
 ghost use Rattle.pipe_model.specs.Output.{key_types};
@@ -13,14 +13,19 @@ ghost use Rattle.pipe_groups.specs.Shape.{IsShape, Shape};
 ghost use Rattle.pipe_tables.specs.After.{IsAfter, kept_of, left_of, piece_for, pieces_for, spilled_to, with_all};
 ghost use Rattle.pipe_tables.specs.Buffers.{no_rows};
 ghost use Rattle.pipe_tables.specs.LocalTable.{let_go, Local, with_row};
+ghost use Rattle.pipe_tables.specs.Tables.{TakesOne};
 
-/// A local table that is new is one after no row. With one row more it is one after that row too, and
-/// what leaves is the next piece of the row's partition; so it is with all rows of a worker.
+/// A local table that is new is one after no row, and one after few rows has room for another. With
+/// one row more it is one after that row too, and what leaves is the next piece of the row's
+/// partition. So it is with all rows of a worker.
 pub fn rows_come_to_a_local_table()
     ensures none { (l : Limits) (s : Shape) (t : Local) → is_generic l.sink ≡ true
-        → 0 < l.buffer_size → t.table ≡ record { shape = s; limit = Some l.spill_size; groups = [] }
-        → t.buffers ≡ record { size = l.buffer_size; rows = no_rows l.partitions }
-        → t.overflowed ≡ false → IsAfter l s [] t }
+        → 0 < l.buffer_size → t.table.shape ≡ s → t.table.limit ≡ Some l.spill_size
+        → t.table.groups ≡ [] → t.buffers.size ≡ l.buffer_size
+        → t.buffers.rows ≡ no_rows l.partitions → t.overflowed ≡ false → IsAfter l s [] t }
+    ensures room { (l : Limits) (s : Shape) (taken : List Row) (t : Local)
+        → All (HasValues s.key_types s.input_types) taken → length taken + 1 < 2 ^ 32
+        → IsAfter l s taken t → TakesOne t.table }
     ensures row { (l : Limits) (s : Shape) (taken : List Row) (x : Row) (t : Local)
         → is_generic l.sink ≡ true → AreLimits l → IsShape s
         → All (HasValues s.key_types s.input_types) taken

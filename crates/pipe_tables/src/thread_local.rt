@@ -123,7 +123,7 @@ impl ThreadLocalTable {
     /// only where it overflows.
     pub fn insert_lent(&mut self, key: &[u8], rows: &ChunkRows<'_>, row: usize) -> LentLocalEnd
         requires there { row < length rows.now }
-        requires number { row < 2 ^ 32 }
+        requires placed { row < 2 ^ 32 }
         requires code { key.now
             ≡ code self.old.table.shape.key_types (row_at rows.now row).key }
         requires typed { IsRow self.old.table.shape.key_types self.old.table.shape.input_types
@@ -179,7 +179,7 @@ fn own_row(
     row: usize,
 ) -> Result<SpillRow, AllocError>
     requires there { row < length rows.now }
-    requires number { row < 2 ^ 32 }
+    requires placed { row < 2 ^ 32 }
     ensures place { IfOk result (λ r. r.place ≡ (row_at rows.now row).place) }
     ensures key { IfOk result (λ r. r.key ≡ key.now) }
     ensures values { IfOk result (λ r. r.values ≡ (row_at rows.now row).inputs) }
