@@ -31,3 +31,4 @@ pub mod FrameFacts
 pub mod SliceFacts
 pub mod TakenFacts
 pub mod ReadFacts
+pub mod PlaceOrder

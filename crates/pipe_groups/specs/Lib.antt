@@ -4,6 +4,7 @@ pub mod Groups
 pub mod Holds
 pub mod Layout
 pub mod Placed
+pub mod PlacedRanks
 pub mod QueryRows
 pub mod Ranks
 pub mod Reading

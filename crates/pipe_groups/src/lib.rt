@@ -14,6 +14,8 @@ mod laws;
 mod lent_states;
 mod order;
 mod part_laws;
+mod picked;
+mod place_order;
 mod placed_groups;
 mod places;
 mod room;

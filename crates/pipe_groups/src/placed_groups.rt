@@ -9,7 +9,10 @@ ghost use Rattle.pipe_columns.specs.Slice.{sliced};
 ghost use Rattle.pipe_groups.specs.Given.{slice_after};
 ghost use Rattle.pipe_groups.specs.Placed.{rows_by_place};
 
+use crate::picked::picked;
+use crate::place_order::order_of_places;
 use crate::places::Places;
+use crate::slices::{left_of, taken_by};
 use pipe_columns::DataFrame;
 use std::alloc::{AllocError, Global};
 
@@ -24,7 +27,7 @@ impl PlacedGroups {
     /// The frame's rows in the order of their places, under a slice, of which less is then left.
     pub fn in_order_of_rows(
         &self,
-        _alloc: Global,
+        alloc: Global,
         slice: &mut Option<(usize, usize)>,
     ) -> Result<DataFrame, AllocError>
         requires height { length self.now.firsts ≡ self.now.frame.height }
@@ -35,7 +38,9 @@ impl PlacedGroups {
             (slice.new ≡ slice_after (length self.now.firsts) slice.old) }
         ensures err { OnErr result (slice.new ≡ slice.old) }
     {
-        let _ = slice.is_some();
-        Err(AllocError)
+        let order = order_of_places(alloc, self.firsts.as_slice())?;
+        let frame = picked(alloc, &self.frame, taken_by(&order, *slice))?;
+        *slice = left_of(*slice, order.len());
+        Ok(frame)
     }
 }
