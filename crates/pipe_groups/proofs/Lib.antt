@@ -32,3 +32,4 @@ pub mod SliceFacts
 pub mod TakenFacts
 pub mod ReadFacts
 pub mod PlaceOrder
+pub mod FrontFacts

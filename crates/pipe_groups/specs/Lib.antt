@@ -1,4 +1,5 @@
 pub mod Columns
+pub mod Fronts
 pub mod Given
 pub mod Groups
 pub mod Holds

@@ -18,6 +18,7 @@ mod picked;
 mod place_order;
 mod placed_groups;
 mod places;
+mod prefix;
 mod room;
 mod row_code;
 mod slices;
