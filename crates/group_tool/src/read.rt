@@ -14,7 +14,7 @@ use crate::status::DONE;
 use pipe_aggs::CheckedQuery;
 use pipe_columns::{DataChunk, Text};
 use pipe_ends::{ChunkSink, CsvError, FileEnd, InputFiles, read_file, read_into};
-use pipe_plain::PlainGroups;
+use pipe_tables::QueryGroups;
 use std::alloc::{AllocError, Global};
 
 /// The most rows of a chunk.
@@ -39,7 +39,7 @@ fn fault_of(error: CsvError) -> ToolFault
 #[derive(Drop)]
 struct GroupSink<'a> {
     alloc: Global,
-    groups: PlainGroups<'a>,
+    groups: QueryGroups<'a>,
 }
 
 impl<'a> ChunkSink for GroupSink<'a> {
@@ -64,7 +64,7 @@ pub fn read_groups<'a, I: InputFiles>(
     alloc: Global,
     input: &mut I,
     query: &'a CheckedQuery<'a>,
-) -> Result<PlainGroups<'a>, ToolFault>
+) -> Result<QueryGroups<'a>, ToolFault>
     ensures query { IfOk result (λ g. g.query ≡ query.now) }
     ensures read { IfOk result (λ g. AreInput query.now.schema (I.told input.old) g.taken) }
     ensures fits { OnOk result (IsDue DONE (asks (query_tree query.now)) (I.told input.old)) }
@@ -84,7 +84,7 @@ pub fn read_groups<'a, I: InputFiles>(
         Err(FileEnd::TooLarge) => return Err(ToolFault::TooLarge),
         Err(FileEnd::Memory) => return Err(ToolFault::Memory),
     };
-    let Ok(groups) = PlainGroups::new(alloc, query) else {
+    let Ok(groups) = QueryGroups::new(alloc, query) else {
         return Err(ToolFault::Memory);
     };
     let schema = &query.query().schema;

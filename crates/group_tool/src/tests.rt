@@ -6,7 +6,9 @@ mod expressions;
 mod failing_calls;
 mod order;
 mod refusals;
+mod twins;
 
+use crate::tests::twins::plain_text;
 use crate::tool::run_tool;
 use pipe_columns::Text;
 use pipe_ends::{MemoryFiles, MemoryOutput};
@@ -77,11 +79,13 @@ fn drive(rt: &(impl Abort + Alloc<A = Global>), run: &Run<'_>) -> Result<(), Fai
 /// A query, standard input, and the answer.
 type Answer = (&'static str, &'static str, &'static str);
 
-/// Asks each query over its text for its answer.
+/// Asks each query over its text for its answer, and the plain program too.
 fn answer_all(rt: &(impl Abort + Alloc<A = Global>), answers: &[Answer]) -> Result<(), Fail> {
     for answer in answers {
         let words = [answer.0];
         drive(rt, &plain_run(&words, answer.1, 0, answer.2, ""))?;
+        let plain = plain_text(rt.alloc(), answer.0, answer.1.as_bytes())?;
+        assert!(rt; plain == answer.2.as_bytes());
     }
     Ok(())
 }

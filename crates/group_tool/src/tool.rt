@@ -40,7 +40,7 @@ fn query_text<I: InputFiles>(
 {
     let checked = checked_query(alloc, query)?;
     let groups = read_groups(alloc, input, &checked)?;
-    let Ok(frame) = groups.finish(alloc, 1) else {
+    let Ok(frame) = groups.finish(alloc) else {
         return Err(ToolFault::Memory);
     };
     match frame_text(alloc, &frame) {
