@@ -33,3 +33,6 @@ pub use part_laws::{how_placed_rows_join, what_a_partition_gives};
 pub use placed_groups::PlacedGroups;
 pub use places::Places;
 pub use row_code::encode_row;
+
+#[cfg(test)]
+mod tests;
