@@ -18,7 +18,7 @@ use Rattle.pipe_groups.specs.Shape.{IsShape, Shape}
 use Rattle.pipe_groups.proofs.HoldFacts.{holds-covered, holds-none, holds-row}
 use Rattle.pipe_groups.proofs.PutFacts.{cover-new, cover-there, put-new}
 use Rattle.pipe_groups.proofs.ShapeFacts.{shape-takes}
-use Rattle.pipe_tables.specs.Tables.{HasGroups, IsTable, put_row, Table, TakesOne}
+use Rattle.pipe_tables.specs.Tables.{cover_rows, HasGroups, IsTable, put_row, Table, TakesOne}
 
 module _ (ps : List AggregateFunction) where
   -- what is fresh where a group has no rows
@@ -39,7 +39,7 @@ module _ (ps : List AggregateFunction) where
       by true e = rw (cover-there k ps gs e) apart
       by false e = rw (cover-new k ps gs e) (apart-pushed gs (new_group ps k) apart e)
 
-    fresh-covered : (gs : List Group) → RowlessAreFresh ps gs → RowlessAreFresh ps (cover ps k gs)
+    pub fresh-covered : (gs : List Group) → RowlessAreFresh ps gs → RowlessAreFresh ps (cover ps k gs)
     fresh-covered gs fresh = by (is_covered k gs) refl where
       by : (b : Bool) → is_covered k gs ≡ b → RowlessAreFresh ps (cover ps k gs)
       by true e = rw (cover-there k ps gs e) fresh
@@ -124,3 +124,10 @@ table-same t u is new = record {
   fresh = rw (new.0, new.1) is.fresh;
   rows = rw (new.0, new.1) is.rows;
 }
+
+-- with room for the key of each row it is one
+pub table-rows : (rows : List SpillRow) (t u : Table) → IsTable t → HasGroups t u (cover_rows t.shape.prototypes rows t.groups) → IsTable u
+table-rows [] t u is new = table-same t u is new
+table-rows (r ∷ rs) t u is new =
+    let next : Table = record { shape = t.shape; limit = t.limit; groups = cover t.shape.prototypes r.key t.groups } in
+    table-rows rs next u (table-covered t next r.key is (refl, refl, refl)) new

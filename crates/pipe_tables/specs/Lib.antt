@@ -10,3 +10,4 @@ pub mod Keyed
 pub mod KeyedLayout
 pub mod TableLayout
 pub mod Parts
+pub mod Merges

@@ -97,49 +97,4 @@ impl AggHashTable {
     {
         self.keyed.key_bytes()
     }
-
-    /// Takes memory for the key of each row, so that no insert of one of these rows wants any.
-    pub fn reserve(&mut self, rows: &[SpillRow]) -> Result<(), AllocError>
-        ensures ok { OnOk result (HasGroups self.old self.new
-            (cover_rows self.old.shape.prototypes rows.now self.old.groups)) }
-        ensures err { OnErr result (HasGroups self.old self.new self.old.groups) }
-    {
-        Err(AllocError)
-    }
-
-    /// Takes the rows of another table in, which is then empty. The limit is lifted meanwhile.
-    pub fn combine(&mut self, other: &mut AggHashTable) -> Result<(), AllocError>
-        requires shape { other.old.shape ≡ self.old.shape }
-        requires few { HoldFewTogether self.old other.old }
-        ensures joined { OnOk result (AreJoined self.old.shape.prototypes
-            self.old.groups other.old.groups self.new.groups) }
-        ensures shape { KeepsShape self.old self.new }
-        ensures emptied { OnOk result (HasGroups other.old other.new []) }
-        ensures err { OnErr result (HasGroups self.old self.new self.old.groups) }
-        ensures other_err { OnErr result (HasGroups other.old other.new other.old.groups) }
-    {
-        Err(AllocError)
-    }
-
-    /// Takes the rows in whose keys lie in a partition of another table, which keeps the rest.
-    pub fn combine_on_partition(
-        &mut self,
-        partition: usize,
-        partitions: usize,
-        other: &mut AggHashTable,
-    ) -> Result<(), AllocError>
-        requires some { 0 < partitions }
-        requires shape { other.old.shape ≡ self.old.shape }
-        requires few { HoldFewTogether self.old other.old }
-        ensures joined { OnOk result (AreJoined self.old.shape.prototypes self.old.groups
-            (groups_in partitions partition other.old.groups) self.new.groups) }
-        ensures shape { KeepsShape self.old self.new }
-        ensures rest { OnOk result ((k : List ℕ) → held_at k other.new.groups
-            ≡ (if lies_in partitions partition k then None else held_at k other.old.groups)) }
-        ensures other_shape { KeepsShape other.old other.new }
-        ensures err { OnErr result (HasGroups self.old self.new self.old.groups) }
-        ensures other_err { OnErr result (HasGroups other.old other.new other.old.groups) }
-    {
-        Err(AllocError)
-    }
 }

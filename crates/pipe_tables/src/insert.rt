@@ -1,6 +1,6 @@
 //! Rows that a table takes in.
 
-ghost use Rattle.std.specs.Prelude.{◌≡◌, ◌≢◌, ◌↔◌, ◌<◌, ◌∷◌, ◌++◌, [], List, false, length, true};
+ghost use Rattle.std.specs.Prelude.{◌≡◌, ◌≢◌, ◌↔◌, ◌<◌, ◌^◌, ◌∷◌, ◌++◌, [], List, false, length, true};
 ghost use Rattle.pipe_columns.specs.Key.{code};
 ghost use Rattle.pipe_inputs.specs.ChunkRows.{row_at};
 ghost use Rattle.pipe_spill.specs.SpillRow.{IsRow, spilled};
@@ -54,6 +54,7 @@ impl AggHashTable {
     /// only where it is new, and a text only where a first or a last keeps it.
     pub fn insert_lent(&mut self, key: &[u8], rows: &ChunkRows<'_>, row: usize) -> LentEnd
         requires there { row < length rows.now }
+        requires number { row < 2 ^ 32 }
         requires code { key.now ≡ code self.old.shape.key_types (row_at rows.now row).key }
         requires typed { IsRow self.old.shape.key_types self.old.shape.input_types
             (spilled self.old.shape.key_types (row_at rows.now row)) }

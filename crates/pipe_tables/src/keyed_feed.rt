@@ -33,6 +33,7 @@ impl KeyedGroups {
     ) -> Result<(), AllocError>
         requires within { index < length self.old.groups }
         requires there { row < length rows.now }
+        requires number { row < 2 ^ 32 }
         requires few { StatesSeen (2 ^ 32 - 2) (group_of self.old.groups index).states }
         requires taken { TakesFrom 0 (group_of self.old.groups index).states
             (row_at rows.now row).inputs }
@@ -41,8 +42,7 @@ impl KeyedGroups {
             (group_of self.old.groups index)))) }
         ensures err { OnErr result (HasGroups self.old self.new self.old.groups) }
     {
-        let _ = &mut self.groups;
-        Err(AllocError)
+        self.groups.feed_lent(index, rows, row)
     }
 
     /// Appends a group for a key that has none, with row `row` of a chunk.
@@ -55,6 +55,7 @@ impl KeyedGroups {
     ) -> Result<(), AllocError>
         requires hash { hash ≡ hash_of key.now }
         requires there { row < length rows.now }
+        requires number { row < 2 ^ 32 }
         requires taken { TakesFrom 0 (fresh_states self.old.shape.prototypes)
             (row_at rows.now row).inputs }
         ensures ok { OnOk result (HasGroups self.old self.new (self.old.groups

@@ -3,7 +3,7 @@
 ghost use Rattle.std.specs.Prelude.{◌≡◌, ◌+◌, ◌<◌, ◌∷◌, ◌++◌, [], ℕ, IfOk, IsOk, length, OnErr, OnOk, Some};
 ghost use Rattle.pipe_aggs.specs.QueryTrees.{query_tree};
 ghost use Rattle.pipe_chains.specs.Hash.{hash_of};
-ghost use Rattle.pipe_groups.specs.Groups.{count_held, Covers, group_of, has_rows, HasGroups, held_bytes, KeepsRoom, new_group};
+ghost use Rattle.pipe_groups.specs.Groups.{count_held, cover, Covers, group_of, has_rows, HasGroups, held_bytes, KeepsRoom, new_group};
 ghost use Rattle.pipe_groups.specs.Shape.{IsShape, shape_of};
 ghost use Rattle.pipe_tables.specs.Keyed.{IsAt, IsFound};
 
@@ -133,6 +133,26 @@ impl KeyedGroups {
         let index = self.groups.push(key)?;
         self.chains.push(hash).unwrap();
         Ok(index)
+    }
+
+    /// The index of the group of a key. Where there is none it is made, for which there is room.
+    pub(crate) fn cover(&mut self, hash: u64, key: &[u8]) -> usize
+        requires hash { hash ≡ hash_of key.now }
+        requires room { Covers self.old 1 (length key.now) }
+        ensures groups { HasGroups self.old self.new
+            (cover self.old.shape.prototypes key.now self.old.groups) }
+        ensures at { IsAt self.new.groups key.now result }
+        ensures room { (g b : ℕ)
+            → Covers self.old (g + 1) (b + length key.now) → Covers self.new g b }
+    {
+        match self.find(hash, key) {
+            Some(index) => {
+                return index;
+            }
+            None => {
+                return self.push(hash, key).unwrap();
+            }
+        }
     }
 
     /// Lets all groups go. The room stays.

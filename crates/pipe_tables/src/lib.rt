@@ -1,6 +1,7 @@
 //! Tables of groups, the local table of a worker, and what overflows from it.
 #![tactic(auto)]
 
+mod combine;
 mod finish;
 mod hash_table;
 mod insert;
@@ -12,11 +13,14 @@ mod laws;
 mod local_end;
 mod local_finish;
 mod local_rests;
+mod merge;
 mod ooc_state;
 mod parts;
 mod query_groups;
+mod reserve;
 mod spill_partitions;
 mod spot;
+mod take;
 mod thread_local;
 
 pub use hash_table::AggHashTable;
