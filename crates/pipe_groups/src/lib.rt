@@ -35,4 +35,6 @@ pub use places::Places;
 pub use row_code::encode_row;
 
 #[cfg(test)]
+mod slice_tests;
+#[cfg(test)]
 mod tests;
