@@ -44,11 +44,16 @@ impl Chains {
         }
     }
 
+    /// Where the memory comes from.
+    pub fn allocator(&self) -> Global {
+        *self.links.allocator()
+    }
+
     /// Chains of no entries, whose memory comes from where that of these does.
     pub fn split(&self) -> Chains
         ensures { result.marks ≡ [] }
     {
-        Chains::new(*self.links.allocator())
+        Chains::new(self.allocator())
     }
 
     /// How many entries there are.

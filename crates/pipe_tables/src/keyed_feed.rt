@@ -45,7 +45,8 @@ impl KeyedGroups {
         self.groups.feed_lent(index, rows, row)
     }
 
-    /// Appends a group for a key that has none, with row `row` of a chunk.
+    /// Appends a group for a key that has none, with row `row` of a chunk, whose inputs are owned first,
+    /// so that nothing can fail once there is the group.
     pub(crate) fn push_lent(
         &mut self,
         hash: u64,
@@ -63,7 +64,9 @@ impl KeyedGroups {
             (new_group self.old.shape.prototypes key.now) ∷ [])) }
         ensures err { OnErr result (HasGroups self.old self.new self.old.groups) }
     {
-        let _ = &mut self.groups;
-        Err(AllocError)
+        let values = rows.own_inputs(self.chains.allocator(), row)?;
+        let index = self.push(hash, key)?;
+        self.feed(index, rows.place(row), Values::new(values));
+        Ok(())
     }
 }
