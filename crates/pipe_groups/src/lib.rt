@@ -23,6 +23,7 @@ mod room;
 mod row_code;
 mod slices;
 mod states;
+mod types;
 mod unfinished;
 
 pub use answer_laws::{what_groups_give, what_placed_groups_give, what_placed_rows_give};

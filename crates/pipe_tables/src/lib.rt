@@ -22,6 +22,7 @@ mod spill_partitions;
 mod spot;
 mod take;
 mod thread_local;
+mod types;
 
 pub use hash_table::AggHashTable;
 pub use insert_end::{InsertEnd, LentEnd};
