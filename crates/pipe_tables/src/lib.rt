@@ -14,6 +14,7 @@ mod local_end;
 mod local_finish;
 mod local_rests;
 mod merge;
+mod merge_part;
 mod ooc_state;
 mod parts;
 mod query_groups;
