@@ -1,0 +1,6 @@
+pub mod Shares
+pub mod Partition
+pub mod Next
+pub mod Moving
+pub mod Steps
+pub mod Closed

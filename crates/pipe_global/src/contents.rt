@@ -1,0 +1,227 @@
+//! What a partition holds, as a plain value of no run.
+
+ghost use Rattle.std.specs.Prelude.{◌≡◌, ◌+◌, ◌-◌, ◌<◌, ◌^◌, All, IfErr, None, OnErr, OnOk, length, slice_index_or, true};
+ghost use Rattle.pipe_columns.specs.Causes.{Rose};
+ghost use Rattle.pipe_spill.specs.SpillRow.{HaveInputs, joined_rows};
+ghost use Rattle.pipe_global.specs.Partition.{PartitionSeen};
+ghost use Rattle.pipe_global.specs.Moving.{CanMerge};
+ghost use Rattle.pipe_global.specs.Steps.{IsDumped, IsKept, IsMerged, with_payload};
+ghost use Rattle.pipe_global.specs.declared.dump_error.DumpError.TheVariants as dump_error;
+
+use crate::dump_error::DumpError;
+use crate::journal::Journal;
+use crate::mark::Mark;
+use crate::merge::{put_payloads, reserve_payloads};
+use crate::put::put_waiting;
+use pipe_plan::PartitionEvent;
+use pipe_spill::{SpillPayload, SpillStore};
+use pipe_tables::AggHashTable;
+use std::alloc::{AllocError, Global};
+use std::marker::Model;
+
+/// What a partition holds. Its store is seen as a run finds one.
+#[derive(Drop)]
+pub(crate) struct Contents<S: SpillStore + Drop> {
+    number: usize,
+    table: AggHashTable,
+    waiting: Vec<SpillPayload>,
+    store: S,
+    marks: Vec<Mark>,
+    journal: Journal,
+    book: Vec<u64>,
+    arrived: u64,
+    failed: bool,
+}
+
+impl<S: SpillStore + Drop> Model for Contents<S> {
+    ghost use Rattle.pipe_global.specs.Partition.{PartitionSeen};
+
+    ghost Value = { PartitionSeen };
+
+    ghost view = { λ c. record {
+      number = c.number;
+      table = c.table;
+      waiting = c.waiting.items;
+      store = record {
+        held = S.held c.store;
+        told = S.told c.store;
+        faults = S.faults c.store;
+        sure = S.sure c.store;
+      };
+      marks = c.marks.items;
+      journal = c.journal;
+      book = c.book.items;
+      arrived = c.arrived;
+      failed = c.failed;
+    } };
+}
+
+impl<S: SpillStore + Drop> Contents<S> {
+    /// The partition's number.
+    pub(crate) fn number(&self) -> usize
+        ensures { result ≡ self.now.number }
+    {
+        self.number
+    }
+
+    /// How many events are a worker's.
+    pub(crate) fn book(&self, worker: usize) -> u64
+        requires { worker < length self.now.book }
+        ensures { result ≡ slice_index_or self.now.book worker 0 }
+    {
+        self.book[worker]
+    }
+
+    /// The events so far.
+    pub(crate) fn journal(&self) -> &Journal
+        ensures { result.now ≡ self.now.journal }
+    {
+        &self.journal
+    }
+
+    /// How many events there are: far fewer than a count can hold.
+    pub(crate) fn events(&self) -> u64
+        ensures is { result ≡ length self.now.journal }
+        ensures small { result < 2 ^ 63 }
+    {
+        self.journal.events.len() as u64
+    }
+
+    /// How many payloads wait.
+    pub(crate) fn waiting(&self) -> usize
+        ensures { result ≡ length self.now.waiting }
+    {
+        self.waiting.len()
+    }
+
+    /// How many rows arrived.
+    pub(crate) fn arrived(&self) -> u64
+        ensures { result ≡ self.now.arrived }
+    {
+        self.arrived
+    }
+
+    /// Whether the store refused a put.
+    pub(crate) fn failed(&self) -> bool
+        ensures { result ≡ self.now.failed }
+    {
+        self.failed
+    }
+
+    /// The journal and the store.
+    pub(crate) fn into_parts(self) -> (Journal, S)
+        ensures journal { result.0 ≡ self.journal }
+        ensures told { S.told result.1 ≡ self.store.told }
+        ensures held { S.held result.1 ≡ self.store.held }
+        ensures faults { S.faults result.1 ≡ self.store.faults }
+        ensures sure { S.sure result.1 ≡ self.store.sure }
+    {
+        let Contents { journal, store, .. } = self;
+        (journal, store)
+    }
+
+    /// A worker's payload comes to wait.
+    pub(crate) fn arrive(
+        &mut self,
+        worker: usize,
+        payload: SpillPayload,
+    ) -> Result<(), (AllocError, SpillPayload)>
+        requires exists { worker < length self.old.book }
+        requires room { slice_index_or self.old.book worker 0 + 1 < 2 ^ 64 }
+        requires few { self.old.arrived + length payload.rows < 2 ^ 64 }
+        ensures ok { OnOk result (self.new ≡ with_payload self.old worker payload) }
+        ensures err { OnErr result (self.new ≡ self.old) }
+        ensures back { IfErr result (λ e. e.1 ≡ payload) }
+    {
+        let Contents {
+            waiting,
+            journal,
+            book,
+            arrived,
+            ..
+        } = self;
+        let events = &mut journal.events;
+        if events.reserve(1).is_err() || waiting.reserve(1).is_err() {
+            return Err((AllocError, payload));
+        }
+        *arrived += payload.rows.len() as u64;
+        waiting.push_reserved(payload);
+        events.push_reserved(PartitionEvent::Arrive { worker });
+        book[worker] += 1;
+        Ok(())
+    }
+
+    /// What waits is moved into the table, where there is room for all of it.
+    pub(crate) fn merge(&mut self, alloc: Global, worker: usize) -> Result<(), AllocError>
+        requires exists { worker < length self.old.book }
+        requires room { slice_index_or self.old.book worker 0 + 1 < 2 ^ 64 }
+        requires rows { CanMerge self.old.table (joined_rows self.old.waiting) }
+        ensures ok { OnOk result (IsMerged self.old worker self.new) }
+        ensures err { OnErr result (IsKept self.old self.new self.old.failed) }
+    {
+        let Contents {
+            table,
+            waiting,
+            journal,
+            book,
+            ..
+        } = self;
+        let events = &mut journal.events;
+        events.reserve(1)?;
+        reserve_payloads(table, waiting)?;
+        let payloads = std::mem::replace(waiting, Vec::new(alloc));
+        put_payloads(table, payloads);
+        events.push_reserved(PartitionEvent::Merge { worker });
+        book[worker] += 1;
+        Ok(())
+    }
+
+    /// What waits is put as one frame, where more payloads wait than the limit.
+    pub(crate) fn dump(
+        &mut self,
+        alloc: Global,
+        worker: usize,
+        limit: usize,
+    ) -> Result<(), DumpError>
+        requires exists { worker < length self.old.book }
+        requires room { slice_index_or self.old.book worker 0 + 1 < 2 ^ 64 }
+        requires inputs { All (λ p. HaveInputs self.old.table.shape.input_types p.rows)
+            self.old.waiting }
+        requires few { length (joined_rows self.old.waiting) < 2 ^ 32 }
+        requires numbers { self.old.store.held < 2 ^ 64 - 1 }
+        ensures ok { OnOk result (IsDumped limit self.old worker self.new) }
+        ensures store { IfErr result (λ e. e ≡ dump_error.Store
+            → IsKept self.old self.new true
+            × Rose self.old.store.faults self.new.store.faults) }
+        ensures memory { IfErr result (λ e. e ≡ dump_error.Memory
+            → IsKept self.old self.new self.old.failed) }
+    {
+        let Contents {
+            table,
+            waiting,
+            store,
+            marks,
+            journal,
+            book,
+            failed,
+            ..
+        } = self;
+        let events = &mut journal.events;
+        if events.reserve(1).is_err() {
+            return Err(DumpError::Memory);
+        }
+        match put_waiting(alloc, waiting, store, marks, table.input_types(), limit) {
+            Ok(()) => {}
+            Err(DumpError::Store) => {
+                *failed = true;
+                return Err(DumpError::Store);
+            }
+            Err(DumpError::Memory) => {
+                return Err(DumpError::Memory);
+            }
+        }
+        events.push_reserved(PartitionEvent::Dump { worker });
+        book[worker] += 1;
+        Ok(())
+    }
+}

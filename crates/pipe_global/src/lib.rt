@@ -1,0 +1,27 @@
+//! Partitions behind locks, which threads may enter in any order, and which are nevertheless the
+//! replay of their journals whenever a lock is free.
+#![tactic(auto)]
+
+mod closed;
+mod contents;
+mod dump_error;
+mod gate;
+mod global_table;
+mod journal;
+mod mark;
+mod merge;
+mod naming;
+mod partition;
+mod put;
+mod shares;
+mod tally;
+
+pub use closed::ClosedPartition;
+pub use dump_error::DumpError;
+pub use gate::{Gate, OpenGate};
+pub use global_table::GlobalTable;
+pub use journal::{Journal, Journals};
+pub use naming::{Blanks, Naming, OfFaults, OfPartitions, OfRefusals, OfWorkers};
+pub use partition::Partition;
+pub use shares::Shares;
+pub use tally::{Parts, Tally};

@@ -1,0 +1,57 @@
+//! What waits is moved into a table.
+
+ghost use Rattle.std.specs.Prelude.{◌∷◌, [], OnOk};
+ghost use Rattle.pipe_spill.specs.SpillRow.{joined_rows};
+ghost use Rattle.pipe_global.specs.Moving.{AreCovered, CanTake, HoldsSame, KeepsCovered, TookRows};
+
+use pipe_spill::{SpillPayload, SpillRow};
+use pipe_tables::{AggHashTable, InsertEnd};
+use std::alloc::AllocError;
+
+/// Takes room for the keys of payloads. A refusal leaves the room of some of them.
+pub(crate) fn reserve_payloads(
+    table: &mut AggHashTable,
+    waiting: &[SpillPayload],
+) -> Result<(), AllocError>
+    ensures same { HoldsSame table.old table.new }
+    ensures covered { OnOk result (AreCovered table.new.groups (joined_rows waiting.now)) }
+{
+    for payload in waiting {
+        table.reserve(&payload.rows)?;
+    }
+    Ok(())
+}
+
+/// Moves a row in, for whose key there is room.
+fn put_row(table: &mut AggHashTable, row: SpillRow)
+    requires { CanTake table.old (row ∷ []) }
+    ensures taken { TookRows table.old table.new (row ∷ []) }
+    ensures covered { KeepsCovered table.old.groups table.new.groups }
+{
+    match table.insert(row) {
+        InsertEnd::Done => {}
+        InsertEnd::Overflow(_) => unreachable!(),
+        InsertEnd::Memory(_) => unreachable!(),
+    }
+}
+
+/// Moves rows in, for whose keys there is room.
+fn put_rows(table: &mut AggHashTable, rows: Vec<SpillRow>)
+    requires { CanTake table.old rows.items }
+    ensures taken { TookRows table.old table.new rows.items }
+    ensures covered { KeepsCovered table.old.groups table.new.groups }
+{
+    for row in rows {
+        put_row(table, row);
+    }
+}
+
+/// Moves the rows of payloads in, for whose keys there is room.
+pub(crate) fn put_payloads(table: &mut AggHashTable, waiting: Vec<SpillPayload>)
+    requires { CanTake table.old (joined_rows waiting.items) }
+    ensures { TookRows table.old table.new (joined_rows waiting.items) }
+{
+    for payload in waiting {
+        put_rows(table, payload.rows);
+    }
+}
