@@ -1,15 +1,16 @@
 -- One row more comes to a local table.
-use Rattle.std.proofs.Common.{◌≡◌, ◌≢◌, ◌∙◌, ◌+◌, ◌≤◌, ◌<◌, ◌==◌, ◌&&◌, ◌||◌, ◌%◌, ◌^◌, ℕ, Bool, true, false, not, List, [], ◌∷◌, ◌++◌, Option, Some, None, length, map, set, get_or, zero, suc, refl, ap, sym, subst, arith, ⊎_elim}
+use Rattle.std.proofs.Common.{◌≡◌, ◌≢◌, ◌∙◌, ◌+◌, ◌≤◌, ◌<◌, ◌==◌, ◌&&◌, ◌||◌, ◌%◌, ◌^◌, ℕ, Bool, true, false, not, List, [], ◌∷◌, ◌++◌, Option, Some, None, length, map, set, take, get_or, zero, suc, refl, ap, sym, subst, arith, ⊎_elim}
 use Rattle.std.specs.Prelude.{All, if◌then◌else◌, nat_le}
 use Rattle.std.specs.List.{list_any, range_with_len}
 use Rattle.std.specs.Set.{is_member}
 use Rattle.std.specs.Str.{bytes_eq}
-use Rattle.std.proofs.lemmas.Bool.{cases_eq, false≢true}
+use Rattle.std.proofs.lemmas.Bool.{false≢true}
 use Rattle.std.proofs.lemmas.Bool.Decides.{nat_tests}
-use Rattle.std.proofs.lemmas.List.{append-nil, append_assoc, length-append, length-map, map-append}
-use Rattle.std.proofs.lemmas.List.Elements.{All-append, All-cons, All-filter, All-head, All-nil, All-tail}
+use Rattle.std.proofs.lemmas.List.{append-nil, append_assoc, length-append, length-map, map-append, take_more}
+use Rattle.std.proofs.lemmas.List.Elements.{All-append, All-cons, All-filter, All-head, All-nil, All-tail, All-take}
 use Rattle.std.proofs.lemmas.List.FromFn.{get_or-map-range_with_len, length-map-range_with_len}
 use Rattle.std.proofs.lemmas.List.Sums.{count_by-le-length, length-filter}
+use Rattle.std.proofs.lemmas.Option.{unwrap_or-slice_get}
 use Rattle.std.proofs.Math.Nat.{mod-lt}
 use Rattle.pipe_columns.specs.declared.any_value.AnyValue.{AnyValue}
 use Rattle.pipe_columns.specs.declared.data_type.DataType.{DataType}
@@ -23,6 +24,7 @@ use Rattle.pipe_plan.specs.Payloads.{full_pieces, rest_of}
 use Rattle.pipe_plan.specs.Run.{AreLimits, is_generic}
 use Rattle.pipe_plan.proofs.Cutting.{full-filled, full-short, full-unfilled, rest-filled, rest-short, rest-unfilled}
 use Rattle.pipe_plan.proofs.KeptKeys.{kept-full, kept-known, kept-new}
+use Rattle.pipe_inputs.specs.ChunkRows.{no_row, row_at}
 use Rattle.pipe_spill.specs.SpillRow.{HasValues, spilled}
 use Rattle.pipe_spill.proofs.SpilledRows.{spilled_are_rows}
 use Rattle.pipe_spill.specs.declared.spill_row.SpillRow.{SpillRow}
@@ -354,3 +356,11 @@ after-room l s taken t all few after = subst (λ (h : Shape). HoldFewer h t.tabl
   typed = spilled_are_rows s.key_types s.input_types (kept_of l taken) (All-filter (is_kept_of l taken) (HasValues s.key_types s.input_types) taken all);
   few = omega (arith, few, length-map (kept_of l taken) (spilled s.key_types), length-filter (is_kept_of l taken) taken, count_by-le-length (is_kept_of l taken) taken);
 })
+
+-- a local table after the rows before a number takes the one there
+pub after-next : (l : Limits) (s : Shape) (rows : List Row) (n : ℕ) (t : Local) → is_generic l.sink ≡ true → AreLimits l → IsShape s → All (HasValues s.key_types s.input_types) rows → n < length rows
+    → IsAfter l s (take n rows) t → IsAfter l s (take (n + 1) rows) (with_row (spilled s.key_types (row_at rows n)) t)
+after-next l s rows n t generic limits shape all lt after =
+    let at : row_at rows n ≡ get_or rows n no_row = unwrap_or-slice_get rows n no_row in
+    let typed : HasValues s.key_types s.input_types (row_at rows n) = rw at (all n no_row lt) in
+    rw (take_more rows n no_row lt, ← at) (after-row l s (take n rows) (row_at rows n) t generic limits (All-take (HasValues s.key_types s.input_types) n rows all) typed after shape)

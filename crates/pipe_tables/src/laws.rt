@@ -3,7 +3,12 @@
 ghost use Rattle.std.specs.Prelude.{◌≡◌, ◌+◌, ◌<◌, ◌^◌, ◌∷◌, ◌++◌, [], All, List, Some, false, length, map, true, ℕ};
 ghost use Rattle.std.specs.List.{filter};
 ghost use Rattle.pipe_columns.specs.Row.{Row};
+ghost use Rattle.pipe_columns.specs.Frame.{FrameData};
 ghost use Rattle.pipe_model.specs.Output.{key_types};
+ghost use Rattle.pipe_model.specs.Query.{QueryTree};
+ghost use Rattle.pipe_model.specs.Rows.{chunk_rows};
+ghost use Rattle.pipe_aggs.specs.CheckedQuery.{input_types};
+ghost use Rattle.pipe_inputs.specs.RowTypes.{IsRowOf};
 ghost use Rattle.pipe_plan.specs.declared.limits.Limits.{Limits};
 ghost use Rattle.pipe_plan.specs.Kept.{is_kept};
 ghost use Rattle.pipe_plan.specs.Progress.{sent_of};
@@ -54,4 +59,11 @@ pub fn rows_taken_are_kept_for_good()
     ensures sent { (r : Run) (w p : ℕ) (taken rest : List Row) → of_worker r w ≡ taken ++ rest
         → spilled_to r.limits (key_types r.query) p taken
         ≡ map (spilled (key_types r.query)) (sent_of r w p taken) }
+{}
+
+/// The rows of a chunk of a query have values of its types.
+pub fn rows_of_a_chunk()
+    ensures { (q : QueryTree) (i : ℕ) (frame : FrameData) → All (IsRowOf q) (chunk_rows q i frame)
+        → i < 2 ^ 32 → frame.height < 2 ^ 32
+        → All (HasValues (key_types q) (input_types q)) (chunk_rows q i frame) }
 {}

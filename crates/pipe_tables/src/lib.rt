@@ -33,3 +33,6 @@ pub use pipe_plan::SpillAction;
 pub use query_groups::QueryGroups;
 pub use spill_partitions::SpillPartitions;
 pub use thread_local::ThreadLocalTable;
+
+#[cfg(test)]
+mod local_tests;
