@@ -1,5 +1,5 @@
 -- How much the groups of a partition hold, along their chain.
-use Rattle.std.proofs.Common.{◌≡◌, ◌∙◌, ℕ, suc, Bool, true, false, if◌then◌else◌, List, [], ◌∷◌, ◌++◌, length, take, map, get_or, Option, Some, None, refl, sym, ap}
+use Rattle.std.proofs.Common.{◌≡◌, ◌∙◌, ℕ, suc, Bool, true, false, if◌then◌else◌, List, [], ◌∷◌, ◌++◌, take, map, get_or, Option, Some, None, refl, sym, ap}
 use Rattle.std.specs.List.{filter}
 use Rattle.pipe_chains.specs.Chains.{last_index, later}
 
