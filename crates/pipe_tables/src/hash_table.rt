@@ -14,6 +14,7 @@ ghost use Rattle.pipe_groups.specs.Shape.{shape_of};
 ghost use Rattle.pipe_tables.specs.Tables.{cover_rows, groups_in, HasGroups, HoldFewTogether, is_full, IsTable, KeepsShape, lies_in, put_row, TakesOne};
 ghost use Rattle.pipe_tables.specs.declared.insert_end.InsertEnd.TheVariants as end;
 
+use crate::hints::Hints;
 use crate::insert_end::LentEnd;
 use crate::keyed_groups::KeyedGroups;
 use crate::parts::Parts;
@@ -31,6 +32,7 @@ pub struct AggHashTable {
     pub(crate) keyed: KeyedGroups,
     pub(crate) limit: Option<usize>,
     pub(crate) parts: Option<Parts>,
+    pub(crate) hints: Hints,
 }
 
 impl Model for AggHashTable {
@@ -60,6 +62,7 @@ impl AggHashTable {
             keyed: KeyedGroups::new(alloc, query)?,
             limit,
             parts: None,
+            hints: Hints::new(alloc),
         })
     }
 
@@ -73,6 +76,7 @@ impl AggHashTable {
             keyed: self.keyed.split()?,
             limit: self.limit,
             parts: None,
+            hints: self.hints.split(),
         })
     }
 

@@ -4,6 +4,7 @@
 mod combine;
 mod finish;
 mod hash_table;
+mod hints;
 mod insert;
 mod insert_end;
 mod keyed_feed;

@@ -4,9 +4,11 @@ ghost use Rattle.std.specs.Prelude.{◌≡◌};
 ghost use Rattle.std.specs.List.{IsDistinct};
 ghost use Rattle.std.specs.Str.{bytes_eq};
 ghost use Rattle.pipe_groups.specs.Groups.{count_held, keys_of};
-ghost use Rattle.pipe_tables.specs.Keyed.{IsSpot};
+ghost use Rattle.pipe_chains.specs.Hash.{hash_of};
+ghost use Rattle.pipe_tables.specs.Keyed.{IsFound, IsSpot};
 ghost use Rattle.pipe_tables.specs.Tables.{passes};
 
+use crate::hints::Hints;
 use crate::keyed_groups::KeyedGroups;
 use pipe_chains::hash_bytes;
 
@@ -31,14 +33,40 @@ fn passes(held: usize, limit: Option<usize>) -> bool
     }
 }
 
-/// What there is for a new row of a key. It takes no memory.
-pub(crate) fn spot_for(keyed: &KeyedGroups, limit: Option<usize>, key: &[u8]) -> Spot
+/// The index of the group of a key, which has a hash. It is looked for where the hint says, and then
+/// along the chain.
+#[inline(always)]
+fn find_near(keyed: &KeyedGroups, hints: &mut Hints, hash: u64, key: &[u8]) -> Option<usize>
+    requires { hash ≡ hash_of key.now }
+    ensures { IsFound keyed.now.groups key.now result }
+{
+    let hint = hints.get(hash);
+    if hint < keyed.len() {
+        if keyed.key(hint) == key {
+            return Some(hint);
+        }
+    }
+    let found = keyed.find(hash, key);
+    match found {
+        Some(index) => hints.set(hash, index),
+        None => hints.widen(keyed.len()),
+    }
+    found
+}
+
+/// What there is for a new row of a key. It takes no memory but for hints, which may be had or not.
+pub(crate) fn spot_for(
+    keyed: &KeyedGroups,
+    hints: &mut Hints,
+    limit: Option<usize>,
+    key: &[u8],
+) -> Spot
     requires { IsDistinct bytes_eq (keys_of keyed.now.groups) }
     ensures { IsSpot limit keyed.now.groups key.now result }
 {
     let hash = hash_bytes(key);
     let full = passes(keyed.held(), limit);
-    match keyed.find(hash, key) {
+    match find_near(keyed, hints, hash, key) {
         Some(index) => {
             if full && !keyed.has_rows(index) {
                 Spot::Full
