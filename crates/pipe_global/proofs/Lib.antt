@@ -5,3 +5,4 @@ pub mod StandFacts
 pub mod ReplayFacts
 pub mod Keeping
 pub mod Beginning
+pub mod Closing

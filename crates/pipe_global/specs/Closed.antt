@@ -1,5 +1,5 @@
 -- Partitions out of their locks, and what all shares say of them.
-use Rattle.std.specs.Prelude.{◌≡◌, ◌≤◌, ℕ, Bool, true, List, length, nat_lt, sum, sum_by}
+use Rattle.std.specs.Prelude.{◌≡◌, ◌<◌, ◌≤◌, ◌↔◌, ℕ, Bool, true, List, length, slice_index_or, sum, sum_by}
 use Rattle.std.specs.List.{list_any}
 use Rattle.pipe_columns.specs.Causes.{Rose}
 use Rattle.pipe_plan.specs.Run.{Run}
@@ -25,10 +25,15 @@ all_shares shares = sum_by (λ s. sum s.events) shares
 abbrev pub has_failed : List PartitionSeen → Bool
 has_failed partitions = list_any (λ s. s.failed) partitions
 
--- whether a worker had a put refused
-abbrev pub has_fault : SharesSeen → Bool
-has_fault s = list_any (λ n. nat_lt 0 n) s.faults
+-- how many puts of workers were refused
+abbrev pub all_faults : List SharesSeen → ℕ
+all_faults shares = sum_by (λ s. sum s.faults) shares
 
--- whether some worker had
-abbrev pub have_faults : List SharesSeen → Bool
-have_faults shares = list_any has_fault shares
+-- these are all partitions of a run, or the first of them
+abbrev pub AreClosed : Run → List PartitionSeen → Type 0
+AreClosed r partitions =
+    (p : ℕ) (d : PartitionSeen) → p < length partitions → IsClosed r p (slice_index_or partitions p d)
+
+-- a put was refused in some partition exactly where so many puts are more than none
+abbrev pub AreFailed : List PartitionSeen → ℕ → Type 0
+AreFailed partitions refused = (has_failed partitions ≡ true) ↔ (0 < refused)

@@ -4,3 +4,4 @@ pub mod Next
 pub mod Moving
 pub mod Steps
 pub mod Closed
+pub mod Opening

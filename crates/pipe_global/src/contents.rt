@@ -3,7 +3,7 @@
 ghost use Rattle.std.specs.Prelude.{◌≡◌, ◌+◌, ◌-◌, ◌<◌, ◌^◌, All, IfErr, None, OnErr, OnOk, length, slice_index_or, true};
 ghost use Rattle.pipe_columns.specs.Causes.{Rose};
 ghost use Rattle.pipe_spill.specs.SpillRow.{HaveInputs, joined_rows};
-ghost use Rattle.pipe_global.specs.Partition.{PartitionSeen};
+ghost use Rattle.pipe_global.specs.Partition.{new_partition};
 ghost use Rattle.pipe_global.specs.Moving.{CanMerge};
 ghost use Rattle.pipe_global.specs.Steps.{IsDumped, IsKept, IsMerged, with_payload};
 ghost use Rattle.pipe_global.specs.declared.dump_error.DumpError.TheVariants as dump_error;
@@ -57,6 +57,34 @@ impl<S: SpillStore + Drop> Model for Contents<S> {
 }
 
 impl<S: SpillStore + Drop> Contents<S> {
+    /// What a partition holds before its first event.
+    pub(crate) fn new(
+        alloc: Global,
+        number: usize,
+        table: AggHashTable,
+        book: Vec<u64>,
+        store: S,
+    ) -> Contents<S>
+        ensures { result ≡ new_partition number table book.items (record {
+          held = S.held store;
+          told = S.told store;
+          faults = S.faults store;
+          sure = S.sure store;
+        }) }
+    {
+        Contents {
+            number,
+            table,
+            waiting: Vec::new(alloc),
+            store,
+            marks: Vec::new(alloc),
+            journal: Journal::new(alloc),
+            book,
+            arrived: 0,
+            failed: false,
+        }
+    }
+
     /// The partition's number.
     pub(crate) fn number(&self) -> usize
         ensures { result ≡ self.now.number }

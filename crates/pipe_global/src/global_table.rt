@@ -1,12 +1,13 @@
 //! The partitions of a run, each behind a lock.
 
-ghost use Rattle.std.specs.Prelude.{◌≡◌, ◌-◌, ◌<◌, ◌^◌, IfErr, OnErr, OnOk, Some, slice_index_or};
+ghost use Rattle.std.specs.Prelude.{◌≡◌, ◌-◌, ◌<◌, ◌≤◌, ◌^◌, IfErr, OnErr, OnOk, Some, slice_index_or, vec_capacity, vec_len};
 ghost use Rattle.std.specs.Sync.Mutex.{mutex_guard_value};
 ghost use Rattle.pipe_plan.specs.declared.event.PartitionEvent.TheVariants as event;
 ghost use Rattle.pipe_global.specs.Next.{next_event, next_payload};
 ghost use Rattle.pipe_global.specs.Shares.{fault_of, next_pick, picked, raised, refused_one};
 ghost use Rattle.pipe_global.specs.declared.dump_error.DumpError.TheVariants as dump_error;
 
+use crate::closed::ClosedPartition;
 use crate::dump_error::DumpError;
 use crate::gate::Gate;
 use crate::naming::Naming;
@@ -15,7 +16,7 @@ use crate::shares::Shares;
 use crate::tally::Tally;
 use pipe_spill::{SpillPayload, SpillStore};
 use std::alloc::{AllocError, Global};
-use std::marker::Model;
+use std::marker::{Model, PhantomData};
 use std::sync::{Mutex, MutexGuard, Wait};
 
 /// The partitions of a run, which workers enter in any order, and the tally of their events.
@@ -24,6 +25,48 @@ use std::sync::{Mutex, MutexGuard, Wait};
 pub struct GlobalTable<S: SpillStore + Drop, R: Naming> {
     pub(crate) partitions: Vec<Mutex<Partition<S, R>>>,
     pub(crate) tally: Mutex<Tally<R>>,
+    pub(crate) room: Mutex<Room<S, R>>,
+}
+
+/// Room for all partitions of a run, once they are closed.
+#[derive(Drop)]
+pub(crate) struct Room<S: SpillStore + Drop, R: Naming> {
+    list: Vec<ClosedPartition<S>>,
+    of: PhantomData<R>,
+}
+
+impl<S: SpillStore + Drop, R: Naming> Model for Room<S, R> {
+    ghost use Rattle.std.specs.Prelude.{◌≡◌, ◌≤◌, ℕ, vec_capacity, vec_len};
+
+    ghost Value = { ℕ };
+
+    ghost view = { λ r. vec_capacity r.list };
+
+    ghost invariant = { λ r. (vec_len r.list ≡ 0)
+        × (R.run.limits.partitions ≤ vec_capacity r.list) };
+}
+
+impl<S: SpillStore + Drop, R: Naming> Room<S, R> {
+    /// Takes the room for all partitions.
+    pub(crate) fn new(alloc: Global, partitions: usize) -> Result<Room<S, R>, AllocError>
+        requires { partitions ≡ R.run.limits.partitions }
+    {
+        let mut list = Vec::new(alloc);
+        list.reserve(partitions)?;
+        Ok(Room {
+            list,
+            of: PhantomData,
+        })
+    }
+
+    /// The empty list with the room.
+    pub(crate) fn into_list(self) -> Vec<ClosedPartition<S>>
+        ensures none { vec_len result ≡ 0 }
+        ensures room { R.run.limits.partitions ≤ vec_capacity result }
+    {
+        let Room { list, of: _ } = self;
+        list
+    }
 }
 
 impl<S: SpillStore + Drop, R: Naming> Model for GlobalTable<S, R> {

@@ -2,6 +2,7 @@
 //! replay of their journals whenever a lock is free.
 #![tactic(auto)]
 
+mod close_table;
 mod closed;
 mod contents;
 mod dump_error;
@@ -11,7 +12,10 @@ mod journal;
 mod mark;
 mod merge;
 mod naming;
+mod open_table;
 mod partition;
+mod partition_ends;
+mod place;
 mod put;
 mod shares;
 mod tally;

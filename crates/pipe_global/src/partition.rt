@@ -25,10 +25,10 @@ use std::sync::{Mutex, Wait};
 /// holds a front of each worker's plan.
 #[derive(Drop)]
 pub struct Partition<S: SpillStore + Drop, R: Naming> {
-    contents: Contents<S>,
-    limit: usize,
-    event_part: Share<OfPartitions<R>>,
-    fault_part: Share<OfRefusals<R>>,
+    pub(crate) contents: Contents<S>,
+    pub(crate) limit: usize,
+    pub(crate) event_part: Share<OfPartitions<R>>,
+    pub(crate) fault_part: Share<OfRefusals<R>>,
 }
 
 impl<S: SpillStore + Drop, R: Naming> Model for Partition<S, R> {

@@ -162,4 +162,20 @@ impl<R: Naming> Shares<R> {
     {
         self.picks += 1;
     }
+
+    /// Adds the worker's parts to the others.
+    pub(crate) fn hand_back(self, events: &mut Share<OfWorkers<R>>, faults: &mut Share<OfFaults<R>>)
+        ensures parts { (events.new.parts ≡ events.old.parts + 1)
+            × (faults.new.parts ≡ faults.old.parts + 1) }
+        ensures events { events.new.amount ≡ events.old.amount + sum self.events }
+        ensures faults { faults.new.amount ≡ faults.old.amount + sum self.faults }
+    {
+        let Shares {
+            event_part,
+            fault_part,
+            ..
+        } = self;
+        events.merge(event_part);
+        faults.merge(fault_part);
+    }
 }
