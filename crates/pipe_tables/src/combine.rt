@@ -6,6 +6,9 @@ ghost use Rattle.pipe_tables.specs.Tables.{groups_in, HasGroups, HoldFewTogether
 
 use crate::hash_table::AggHashTable;
 use crate::merge::take_all;
+use crate::merge_part::take_part;
+use crate::part_size::size_of_part;
+use crate::parts::parts_for;
 use std::alloc::AllocError;
 
 impl AggHashTable {
@@ -30,6 +33,11 @@ impl AggHashTable {
     }
 
     /// Takes the rows in whose keys lie in a partition of another table, which keeps the rest.
+    ///
+    /// The first call looks at all groups of the other table, to chain them by partition, and the
+    /// chains are kept until a new key comes. Each call then goes along its own partition's chain, so
+    /// calls for all partitions in turn cost time linear in the groups in all. Room is made for the
+    /// groups of the partition alone.
     pub fn combine_on_partition(
         &mut self,
         partition: usize,
@@ -48,6 +56,12 @@ impl AggHashTable {
         ensures err { OnErr result (HasGroups self.old self.new self.old.groups) }
         ensures other_err { OnErr result (HasGroups other.old other.new other.old.groups) }
     {
-        Err(AllocError)
+        let parts = parts_for(other.parts.take(), &other.keyed, partitions)?;
+        let size = size_of_part(&other.keyed, &parts, partition)?;
+        self.keyed.make_room(size.groups, size.key_bytes)?;
+        self.parts = None;
+        take_part(&mut self.keyed, &mut other.keyed, &parts, partition);
+        other.parts = Some(parts);
+        Ok(())
     }
 }

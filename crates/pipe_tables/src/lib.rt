@@ -17,6 +17,7 @@ mod local_rests;
 mod merge;
 mod merge_part;
 mod ooc_state;
+mod part_size;
 mod parts;
 mod query_groups;
 mod reserve;

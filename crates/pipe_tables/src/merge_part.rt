@@ -1,46 +1,44 @@
 //! The groups of a partition that are merged into others.
 
-ghost use Rattle.std.specs.Prelude.{◌≡◌, List, None, if◌then◌else◌, ℕ};
+ghost use Rattle.std.specs.Prelude.{◌≡◌, List, None, Some, if◌then◌else◌, ℕ};
 ghost use Rattle.std.specs.List.{IsDistinct};
 ghost use Rattle.std.specs.Str.{bytes_eq};
 ghost use Rattle.pipe_groups.specs.Groups.{AreJoined, count_held, Covers, held_at, held_bytes, keys_of, RowlessAreFresh};
 ghost use Rattle.pipe_tables.specs.Merges.{MayMerge};
-ghost use Rattle.pipe_tables.specs.Parts.{marks_in};
+ghost use Rattle.pipe_tables.specs.Parts.{ArePartsOf};
 ghost use Rattle.pipe_tables.specs.Tables.{groups_in, lies_in};
 
 use crate::keyed_groups::KeyedGroups;
-use pipe_chains::Chains;
+use crate::parts::Parts;
 
-/// Takes the rows of the groups of a partition of others in, which are in chains by partition, out of
-/// so many. It takes no memory.
+/// Takes the rows of the groups of a partition of others in, along its chain. It takes no memory.
 pub(crate) fn take_part(
     own: &mut KeyedGroups,
     other: &mut KeyedGroups,
-    chains: &Chains,
-    partition: u64,
+    parts: &Parts,
+    partition: usize,
 )
-    ghost partitions: { ℕ }
     requires may { MayMerge own.old other.old }
-    requires marks { chains.now.marks ≡ marks_in partitions (keys_of other.old.groups) }
+    requires parts { ArePartsOf other.old.groups (Some parts.now) }
     requires room { Covers own.old
-        (count_held (groups_in partitions partition other.old.groups))
-        (held_bytes (groups_in partitions partition other.old.groups)) }
+        (count_held (groups_in parts.now.partitions partition other.old.groups))
+        (held_bytes (groups_in parts.now.partitions partition other.old.groups)) }
     ensures joined { AreJoined own.old.shape.prototypes own.old.groups
-        (groups_in partitions partition other.old.groups) own.new.groups }
+        (groups_in parts.now.partitions partition other.old.groups) own.new.groups }
     ensures shape { own.new.shape ≡ own.old.shape }
     ensures apart { IsDistinct bytes_eq (keys_of own.new.groups) }
     ensures fresh { RowlessAreFresh own.old.shape.prototypes own.new.groups }
     ensures rest { (k : List ℕ) → held_at k other.new.groups
-        ≡ (if lies_in partitions partition k then None else held_at k other.old.groups) }
+        ≡ (if lies_in parts.now.partitions partition k then None else held_at k other.old.groups) }
     ensures other_shape { other.new.shape ≡ other.old.shape }
     ensures keys { keys_of other.new.groups ≡ keys_of other.old.groups }
     ensures other_fresh { RowlessAreFresh own.old.shape.prototypes other.new.groups }
 {
-    let mut at = chains.last(partition);
+    let mut at = parts.chains.last(partition as u64);
     while let Some(index) = at {
         if other.has_rows(index) {
             own.take(other, index);
         }
-        at = chains.before(index);
+        at = parts.chains.before(index);
     }
 }

@@ -1,8 +1,7 @@
 //! Which groups lie in which partition.
 
-ghost use Rattle.std.specs.Prelude.{◌≡◌, ◌<◌, IfOk};
-ghost use Rattle.pipe_groups.specs.Groups.{keys_of};
-ghost use Rattle.pipe_tables.specs.Parts.{marks_in};
+ghost use Rattle.std.specs.Prelude.{◌≡◌, ◌<◌, IfOk, Some};
+ghost use Rattle.pipe_tables.specs.Parts.{ArePartsOf};
 
 use crate::keyed_groups::KeyedGroups;
 use pipe_chains::Chains;
@@ -21,8 +20,7 @@ impl Parts {
     pub(crate) fn of(keyed: &KeyedGroups, partitions: usize) -> Result<Parts, AllocError>
         requires { 0 < partitions }
         ensures partitions { IfOk result (λ p. p.partitions ≡ partitions) }
-        ensures marks { IfOk result
-            (λ p. p.chains.marks ≡ marks_in partitions (keys_of keyed.now.groups)) }
+        ensures parts { IfOk result (λ p. ArePartsOf keyed.now.groups (Some p)) }
     {
         let mut chains = keyed.chains.split();
         chains.reserve(keyed.len())?;
@@ -30,5 +28,22 @@ impl Parts {
             chains.push(partition_of(keyed.key(index), partitions) as u64)?;
         }
         Ok(Parts { partitions, chains })
+    }
+}
+
+/// What was kept of the partitions of groups, where it is of so many, and else made anew.
+pub(crate) fn parts_for(
+    kept: Option<Parts>,
+    keyed: &KeyedGroups,
+    partitions: usize,
+) -> Result<Parts, AllocError>
+    requires some { 0 < partitions }
+    requires kept { ArePartsOf keyed.now.groups kept }
+    ensures partitions { IfOk result (λ p. p.partitions ≡ partitions) }
+    ensures parts { IfOk result (λ p. ArePartsOf keyed.now.groups (Some p)) }
+{
+    match kept {
+        Some(parts) if parts.partitions == partitions => Ok(parts),
+        _ => Parts::of(keyed, partitions),
     }
 }

@@ -1,0 +1,58 @@
+//! How much the groups of a partition hold.
+
+ghost use Rattle.std.specs.Prelude.{◌≡◌, ◌+◌, IfOk, length, Some};
+ghost use Rattle.pipe_groups.specs.Groups.{count_held, held_bytes};
+ghost use Rattle.pipe_tables.specs.Parts.{ArePartsOf};
+ghost use Rattle.pipe_tables.specs.Tables.{groups_in};
+
+use crate::keyed_groups::KeyedGroups;
+use crate::parts::Parts;
+use std::alloc::AllocError;
+
+/// How many groups hold a row, and how many bytes their keys have.
+#[derive(Clone, Copy)]
+pub(crate) struct PartSize {
+    pub(crate) groups: usize,
+    pub(crate) key_bytes: usize,
+}
+
+impl PartSize {
+    /// The size with one group more, where the numbers fit.
+    fn with_key(self, key: &[u8]) -> Result<PartSize, AllocError>
+        ensures groups { IfOk result (λ s. s.groups ≡ self.groups + 1) }
+        ensures key_bytes { IfOk result (λ s. s.key_bytes ≡ self.key_bytes + length key.now) }
+    {
+        let groups = self.groups.checked_add(1);
+        let key_bytes = self.key_bytes.checked_add(key.len());
+        match (groups, key_bytes) {
+            (Some(groups), Some(key_bytes)) => Ok(PartSize { groups, key_bytes }),
+            _ => Err(AllocError),
+        }
+    }
+}
+
+/// The size of a partition of groups. It looks at the groups of this partition alone.
+pub(crate) fn size_of_part(
+    keyed: &KeyedGroups,
+    parts: &Parts,
+    partition: usize,
+) -> Result<PartSize, AllocError>
+    requires { ArePartsOf keyed.now.groups (Some parts.now) }
+    ensures groups { IfOk result (λ s. s.groups
+        ≡ count_held (groups_in parts.now.partitions partition keyed.now.groups)) }
+    ensures key_bytes { IfOk result (λ s. s.key_bytes
+        ≡ held_bytes (groups_in parts.now.partitions partition keyed.now.groups)) }
+{
+    let mut size = PartSize {
+        groups: 0,
+        key_bytes: 0,
+    };
+    let mut at = parts.chains.last(partition as u64);
+    while let Some(index) = at {
+        if keyed.has_rows(index) {
+            size = size.with_key(keyed.key(index))?;
+        }
+        at = parts.chains.before(index);
+    }
+    Ok(size)
+}
