@@ -11,7 +11,7 @@ python3 scripts/prove_below.py group_tool "$logs"
 cd crates/group_tool
 rm -f out/group_tool
 # `rt run` runs the program too, here without a query, which it refuses.
-rt run >"$logs/group_tool" 2>&1 </dev/null || true
+rt run --jobs "$(nproc)" >"$logs/group_tool" 2>&1 </dev/null || true
 if [ ! -x out/group_tool ]; then
     tail -n 20 "$logs/group_tool" >&2
     echo "build.sh: group_tool was not built" >&2

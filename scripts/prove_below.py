@@ -1,7 +1,7 @@
 """Proves the crates below one, side by side where processors and memory allow.
 
 usage: scripts/prove_below.py CRATE [LOGS], where LOGS is a folder for what each crate's proof prints.
-A crate is begun as soon as all that it stands on is proved. The one with the most above it goes first; the others run beside it at a lower priority, so they take what it leaves.
+A crate is begun as soon as all that it stands on is proved. The one with the most above it goes first, with a job for each processor; the others run beside it at a lower priority, so they take what it leaves.
 AT_ONCE in the environment is how many crates are proved at once: 1 is one after another.
 """
 
@@ -76,10 +76,12 @@ def at_once():
 
 
 def start(crate, beside, logs):
+    """Begins a proof in a process group of its own. All are of one session, in which priorities count."""
     log = open(os.path.join(logs, crate), "w", encoding="utf-8")
-    command = (["nice", "-n", "10"] if beside else []) + ["rt", "lib"]
+    jobs = 1 if beside else os.cpu_count() or 1
+    command = (["nice", "-n", "15"] if beside else []) + ["rt", "lib", "--jobs", str(jobs)]
     at = os.path.join(ROOT, "crates", crate)
-    return subprocess.Popen(command, cwd=at, stdin=subprocess.DEVNULL, stdout=log, stderr=log, start_new_session=True)
+    return subprocess.Popen(command, cwd=at, stdin=subprocess.DEVNULL, stdout=log, stderr=log, process_group=0)
 
 
 def prove(wanted, known, height, logs):
