@@ -8,7 +8,7 @@ mod order;
 mod refusals;
 mod twins;
 
-use crate::tests::twins::plain_text;
+use crate::tests::twins::ask_plain;
 use crate::tool::run_tool;
 use pipe_columns::Text;
 use pipe_ends::{MemoryFiles, MemoryOutput};
@@ -84,8 +84,7 @@ fn answer_all(rt: &(impl Abort + Alloc<A = Global>), answers: &[Answer]) -> Resu
     for answer in answers {
         let words = [answer.0];
         drive(rt, &plain_run(&words, answer.1, 0, answer.2, ""))?;
-        let plain = plain_text(rt.alloc(), answer.0, answer.1.as_bytes())?;
-        assert!(rt; plain == answer.2.as_bytes());
+        ask_plain(rt, answer.0, answer.1, answer.2)?;
     }
     Ok(())
 }

@@ -15,7 +15,7 @@ use std::test::Fail;
 const MOST: usize = 1 << 20;
 
 /// What the plain program answers to a query over a text.
-pub fn plain_text(alloc: Global, word: &str, text: &[u8]) -> Result<Vec<u8>, Fail> {
+fn plain_text(alloc: Global, word: &str, text: &[u8]) -> Result<Vec<u8>, Fail> {
     let words = vec![in alloc; Text::new(alloc, word)?]?;
     let Ok(query) = words_query(alloc, &words) else {
         return Err("no query".into());
@@ -34,6 +34,18 @@ pub fn plain_text(alloc: Global, word: &str, text: &[u8]) -> Result<Vec<u8>, Fai
     }
     let frame = plain_answer(alloc, &chunks, &checked, 1)?;
     Ok(frame_text(alloc, &frame)?)
+}
+
+/// Asks the plain program for an answer.
+pub fn ask_plain(
+    rt: &(impl Abort + Alloc<A = Global>),
+    word: &str,
+    text: &str,
+    answer: &str,
+) -> Result<(), Fail> {
+    let plain = plain_text(rt.alloc(), word, text.as_bytes())?;
+    assert!(rt; plain.as_slice() == answer.as_bytes());
+    Ok(())
 }
 
 /// What the tool answers.
@@ -114,7 +126,7 @@ fn ask_both(rt: &(impl Abort + Alloc<A = Global>), text: &str) -> Result<(), Fai
                 )?;
                 let plain = plain_text(alloc, &word, text.as_bytes())?;
                 let own = tool_text(alloc, &word, text.as_bytes())?;
-                assert!(rt; own == plain);
+                assert!(rt; own.as_slice() == plain.as_slice());
             }
         }
     }
