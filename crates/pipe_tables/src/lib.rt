@@ -38,3 +38,7 @@ pub use thread_local::ThreadLocalTable;
 
 #[cfg(test)]
 mod local_tests;
+#[cfg(test)]
+mod table_tests;
+#[cfg(test)]
+mod test_rows;
