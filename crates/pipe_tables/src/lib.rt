@@ -37,6 +37,8 @@ pub use spill_partitions::SpillPartitions;
 pub use thread_local::ThreadLocalTable;
 
 #[cfg(test)]
+mod key_tests;
+#[cfg(test)]
 mod local_tests;
 #[cfg(test)]
 mod table_tests;

@@ -11,7 +11,7 @@ use std::test::Fail;
 const NUMBERS: [DataType; 2] = [DataType::Int64, DataType::Int64];
 
 /// Whether a frame has these columns of values.
-fn assert_columns(rt: &impl Abort, frame: &DataFrame, due: &[Vec<AnyValue>]) {
+pub(crate) fn assert_columns(rt: &impl Abort, frame: &DataFrame, due: &[Vec<AnyValue>]) {
     let columns = frame.columns();
     assert!(rt; columns.len() == due.len());
     for i in 0..due.len() {
@@ -21,7 +21,7 @@ fn assert_columns(rt: &impl Abort, frame: &DataFrame, due: &[Vec<AnyValue>]) {
 
 /// The frame of a table of all rows of a chunk, in an order.
 #[tactic(auto, using(crate::proofs::FewerFacts::fewer_none))]
-fn frame_of(
+pub(crate) fn frame_of(
     alloc: Global,
     query: &CheckedQuery<'_>,
     chunk: &DataChunk,
