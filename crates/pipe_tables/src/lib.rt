@@ -41,6 +41,8 @@ mod key_tests;
 #[cfg(test)]
 mod local_tests;
 #[cfg(test)]
+mod slice_tests;
+#[cfg(test)]
 mod table_tests;
 #[cfg(test)]
 mod test_rows;
