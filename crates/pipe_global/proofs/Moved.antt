@@ -13,7 +13,8 @@ use Rattle.pipe_groups.specs.Holds.{HoldFewer, Holds}
 use Rattle.pipe_groups.specs.Shape.{Shape}
 use Rattle.pipe_groups.proofs.HoldFacts.{holds-same}
 use Rattle.pipe_tables.specs.Tables.{cover_rows, HasGroups, is_full, passes, put_row, Table}
-use Rattle.pipe_global.specs.Moving.{AreCovered, CanMerge, CanTake, HasMoved, HoldsSame, KeepsCovered, TookRows}
+use Rattle.pipe_global.specs.Moving.{AreCovered, CanMerge, CanTake, HasMoved, KeepsCovered, TookRows}
+use Rattle.pipe_global.specs.Refused.{HoldsSame}
 use Rattle.pipe_global.proofs.Covering.{all-left, all-right, covered-keep, put-keys, rows-covered, rows-held, rows-keep}
 
 -- no row yet

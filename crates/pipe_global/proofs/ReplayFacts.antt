@@ -13,7 +13,7 @@ use Rattle.pipe_plan.proofs.Filtering.{filter-no, filter-yes}
 use Rattle.pipe_plan.proofs.Replaying.{events_by-push, replay-push}
 use Rattle.pipe_global.specs.Partition.{IsReplayed, PartitionSeen, StandsFor}
 use Rattle.pipe_global.specs.Shares.{one_more_at}
-use Rattle.pipe_global.specs.Steps.{IsKept}
+use Rattle.pipe_global.specs.Refused.{IsKept}
 use Rattle.pipe_global.proofs.StandFacts.{stands-kept}
 
 -- ---- books

@@ -1,5 +1,6 @@
 pub mod Shares
 pub mod Partition
+pub mod Refused
 pub mod Next
 pub mod Moving
 pub mod Steps

@@ -2,7 +2,7 @@
 use Rattle.std.specs.Prelude.{◌≡◌, ℕ, true, List, ◌++◌, All, length, None}
 use Rattle.pipe_spill.specs.SpillRow.{AreRows}
 use Rattle.pipe_spill.specs.declared.spill_row.SpillRow.{SpillRow}
-use Rattle.pipe_groups.specs.Groups.{Group, held_at, is_covered}
+use Rattle.pipe_groups.specs.Groups.{Group, is_covered}
 use Rattle.pipe_groups.specs.Holds.{HoldFewer, Holds}
 use Rattle.pipe_tables.specs.Tables.{KeepsShape, Table}
 
@@ -12,11 +12,6 @@ pub record TookRows (t new : Table) (rows : List SpillRow) : Type 0 where
   pub holds :
       (held : List SpillRow) → Holds t.shape.prototypes t.groups held
       → Holds t.shape.prototypes new.groups (held ++ rows)
-
--- a table of the same shape and limit, which holds the same; its room may be another
-pub record HoldsSame (t new : Table) : Type 0 where
-  pub shape : KeepsShape t new
-  pub held : (k : List ℕ) → held_at k new.groups ≡ held_at k t.groups
 
 -- there is room for the key of each row
 abbrev pub AreCovered : List Group → List SpillRow → Type 0

@@ -1,4 +1,4 @@
--- Of the proofs alone: what a partition is after an event, or after one that was refused.
+-- Of the proofs alone: what a partition is after an event.
 use Rattle.std.specs.Prelude.{◌≡◌, ◌+◌, ◌≤◌, ℕ, Bool, nat_lt, List, [], ◌∷◌, ◌++◌, length, if◌then◌else◌}
 use Rattle.pipe_plan.specs.declared.event.PartitionEvent.{PartitionEvent}
 use Rattle.pipe_plan.specs.declared.event.PartitionEvent.TheVariants as event
@@ -8,7 +8,7 @@ use Rattle.pipe_spill.specs.FrameBytes.{frame_bytes}
 use Rattle.pipe_spill.specs.SpillRow.{joined_rows, Payload}
 use Rattle.pipe_spill.specs.Store.{with_frame}
 use Rattle.pipe_global.specs.declared.mark.Mark.{Mark}
-use Rattle.pipe_global.specs.Moving.{HoldsSame, TookRows}
+use Rattle.pipe_global.specs.Moving.{TookRows}
 use Rattle.pipe_global.specs.Partition.{PartitionSeen}
 use Rattle.pipe_global.specs.Shares.{one_more_at}
 
@@ -57,16 +57,3 @@ pub record IsDumped (limit : ℕ) (s : PartitionSeen) (w : ℕ) (new : Partition
         waiting = if puts limit s.waiting then [] else s.waiting;
         marks = if puts limit s.waiting then s.marks ++ next_mark s.store s.waiting ∷ [] else s.marks;
       }
-
--- a store that is as before, but for its faults
-pub record IsStoreKept (s new : StoreSeen) : Type 0 where
-  pub told : new.told ≡ s.told
-  pub held : new.held ≡ s.held
-  pub sure : new.sure ≡ s.sure
-  pub faults : s.faults ≤ new.faults
-
--- where an event was refused: all is as before, but for room, faults, and whether a put was refused
-pub record IsKept (s new : PartitionSeen) (failed : Bool) : Type 0 where
-  pub table : HoldsSame s.table new.table
-  pub store : IsStoreKept s.store new.store
-  pub others : new ≡ record s { table = new.table; store = new.store; failed = failed }

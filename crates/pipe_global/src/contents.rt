@@ -5,7 +5,8 @@ ghost use Rattle.pipe_columns.specs.Causes.{Rose};
 ghost use Rattle.pipe_spill.specs.SpillRow.{HaveInputs, joined_rows};
 ghost use Rattle.pipe_global.specs.Partition.{new_partition};
 ghost use Rattle.pipe_global.specs.Moving.{CanMerge};
-ghost use Rattle.pipe_global.specs.Steps.{IsDumped, IsKept, IsMerged, with_payload};
+ghost use Rattle.pipe_global.specs.Steps.{IsDumped, IsMerged, with_payload};
+ghost use Rattle.pipe_global.specs.Refused.{IsKept};
 ghost use Rattle.pipe_global.specs.declared.dump_error.DumpError.TheVariants as dump_error;
 
 use crate::dump_error::DumpError;

@@ -161,7 +161,8 @@ impl<S: SpillStore + Drop, R: Naming> GlobalTable<S, R> {
     ) -> Result<(), DumpError>
         requires next { next_event R.run shares.old (next_pick R.run.limits.partitions shares.old)
             ≡ Some (event.Dump shares.old.worker) }
-        requires room { fault_of shares.old (next_pick R.run.limits.partitions shares.old) < 2 ^ 64 - 1 }
+        requires room { fault_of shares.old (next_pick R.run.limits.partitions shares.old)
+            < 2 ^ 64 - 1 }
         ensures ok { OnOk result (shares.new
             ≡ picked (raised shares.old (next_pick R.run.limits.partitions shares.old))) }
         ensures store { IfErr result (λ e. e ≡ dump_error.Store → shares.new

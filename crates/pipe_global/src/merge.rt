@@ -2,7 +2,8 @@
 
 ghost use Rattle.std.specs.Prelude.{◌∷◌, [], OnOk};
 ghost use Rattle.pipe_spill.specs.SpillRow.{joined_rows};
-ghost use Rattle.pipe_global.specs.Moving.{AreCovered, CanTake, HoldsSame, KeepsCovered, TookRows};
+ghost use Rattle.pipe_global.specs.Moving.{AreCovered, CanTake, KeepsCovered, TookRows};
+ghost use Rattle.pipe_global.specs.Refused.{HoldsSame};
 
 use pipe_spill::{SpillPayload, SpillRow};
 use pipe_tables::{AggHashTable, InsertEnd};

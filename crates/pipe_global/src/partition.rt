@@ -6,7 +6,7 @@ ghost use Rattle.pipe_plan.specs.declared.event.PartitionEvent.TheVariants as ev
 ghost use Rattle.pipe_global.specs.Next.{next_event, next_payload};
 ghost use Rattle.pipe_global.specs.Partition.{IsReplayed, store_of};
 ghost use Rattle.pipe_global.specs.Shares.{fault_of, one_more_at, raised, refused_one, share_of};
-ghost use Rattle.pipe_global.specs.Steps.{IsKept};
+ghost use Rattle.pipe_global.specs.Refused.{IsKept};
 ghost use Rattle.pipe_global.specs.declared.dump_error.DumpError.TheVariants as dump_error;
 
 use crate::contents::Contents;
@@ -113,6 +113,8 @@ impl<S: SpillStore + Drop, R: Naming> Partition<S, R> {
         ensures book { OnOk result
             (self.new.book ≡ one_more_at self.old.book shares.old.worker) }
         ensures waiting { OnOk result (self.new.waiting ≡ self.old.waiting ++ payload ∷ []) }
+        ensures number { self.new.number ≡ self.old.number }
+        ensures failed { self.new.failed ≡ self.old.failed }
         ensures shares { OnOk result (shares.new ≡ raised shares.old self.old.number) }
         ensures err { OnErr result (self.new ≡ self.old) }
         ensures shares_err { OnErr result (shares.new ≡ shares.old) }
@@ -143,6 +145,8 @@ impl<S: SpillStore + Drop, R: Naming> Partition<S, R> {
         ensures book { OnOk result
             (self.new.book ≡ one_more_at self.old.book shares.old.worker) }
         ensures waiting { OnOk result (self.new.waiting ≡ []) }
+        ensures number { self.new.number ≡ self.old.number }
+        ensures failed { self.new.failed ≡ self.old.failed }
         ensures shares { OnOk result (shares.new ≡ raised shares.old self.old.number) }
         ensures err { OnErr result (IsKept self.old self.new self.old.failed) }
         ensures shares_err { OnErr result (shares.new ≡ shares.old) }
@@ -173,6 +177,7 @@ impl<S: SpillStore + Drop, R: Naming> Partition<S, R> {
             ≡ self.old.journal ++ event.Dump shares.old.worker ∷ []) }
         ensures book { OnOk result
             (self.new.book ≡ one_more_at self.old.book shares.old.worker) }
+        ensures number { self.new.number ≡ self.old.number }
         ensures failed { OnOk result (self.new.failed ≡ self.old.failed) }
         ensures shares { OnOk result (shares.new ≡ raised shares.old self.old.number) }
         ensures store { IfErr result (λ e. e ≡ dump_error.Store

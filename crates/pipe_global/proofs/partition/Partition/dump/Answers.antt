@@ -2,7 +2,8 @@ use Rattle.std.proofs.Common.{◌≡◌, ◌+◌, ◌∙◌, arith, sym, subst, 
 use Rattle.pipe_plan.specs.declared.event.PartitionEvent.TheVariants as event
 use Rattle.pipe_global.specs.declared.dump_error.DumpError.TheVariants as dump_error
 use Rattle.pipe_global.specs.Partition.{IsReplayed, PartitionSeen}
-use Rattle.pipe_global.specs.Steps.{IsDumped, IsKept}
+use Rattle.pipe_global.specs.Steps.{IsDumped}
+use Rattle.pipe_global.specs.Refused.{IsKept}
 use Rattle.pipe_global.proofs.Keeping.{book-few, can-write, counted-refused, counted-same, dump-next, share-few, waiting-few}
 use Rattle.pipe_global.proofs.ReplayFacts.{replayed-kept}
 use Rattle.pipe_global.proofs.partition.Partition.dump.Goals as goal

@@ -1,7 +1,8 @@
 use Rattle.std.proofs.Common.{◌≡◌, ◌+◌, ◌∙◌, arith, sym, subst, length, length-append, [], ◌∷◌, ap}
 use Rattle.pipe_plan.specs.declared.event.PartitionEvent.TheVariants as event
 use Rattle.pipe_global.specs.Partition.{IsReplayed, PartitionSeen}
-use Rattle.pipe_global.specs.Steps.{IsKept, IsMerged}
+use Rattle.pipe_global.specs.Steps.{IsMerged}
+use Rattle.pipe_global.specs.Refused.{IsKept}
 use Rattle.pipe_global.proofs.Keeping.{book-few, can-merge, counted-same, merge-next, share-few}
 use Rattle.pipe_global.proofs.ReplayFacts.{replayed-kept}
 use Rattle.pipe_global.proofs.partition.Partition.merge.Goals as goal
