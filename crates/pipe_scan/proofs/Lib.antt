@@ -1,0 +1,17 @@
+pub mod Between
+pub mod ByteKinds
+pub mod RecordList
+pub mod FirstLine
+pub mod NextPlain
+pub mod OnePass
+pub mod Cuts
+pub mod Lines
+pub mod ScanFacts
+pub mod PieceEnds
+pub mod ModeFacts
+pub mod StopFacts
+pub mod NumberFacts
+pub mod TextStarts
+pub mod PieceLists
+pub mod EightFacts
+pub mod SkipFacts

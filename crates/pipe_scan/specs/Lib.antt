@@ -1,0 +1,13 @@
+pub mod Records
+pub mod Lines
+pub mod Row
+pub mod Scan
+pub mod Stops
+pub mod Skipped
+pub mod Pieces
+pub mod Numbers
+pub mod NextRecord
+pub mod NextStop
+pub mod Modes
+pub mod StepOver
+pub mod Eight
