@@ -17,14 +17,15 @@ told-none None = refl
 told-none (Some frames) = ap (λ (l : List (List ℕ)). Some l) (sym (append-nil frames))
 
 -- it stands for the replay of no event
-pub replayed-none : (r : Run) (p : ℕ) (table : Table) (book : List ℕ) (store : StoreSeen) → IsRunnable r → p < r.limits.partitions → book ≡ replicate r.limits.workers 0 → table.shape ≡ shape_of r.query → table.limit ≡ None → table.groups ≡ []
-    → store ≡ store_of r p → IsReplayed r p (new_partition p table book store)
-replayed-none r p table book store run lt zeros shape limit none is =
+pub replayed-none : (r : Run) (p partitions : ℕ) (table : Table) (book : List ℕ) (store : StoreSeen) → IsRunnable r → p < r.limits.partitions → partitions ≡ r.limits.partitions → book ≡ replicate r.limits.workers 0 → table.shape ≡ shape_of r.query → table.limit ≡ None → table.groups ≡ []
+    → store ≡ store_of r p → IsReplayed r p (new_partition p partitions table book store)
+replayed-none r p partitions table book store run lt all zeros shape limit none is =
     let former : (store_of r p).held < 2 ^ 63 = run.former p no_store (omega (arith, run.stores, lt)) in
     let held : store.held ≡ (store_of r p).held = ap (λ (x : StoreSeen). x.held) is in
     record {
       number = refl;
       in_run = lt;
+      partitions = all;
       shape = shape;
       limit = limit;
       replayed = record {
@@ -43,8 +44,8 @@ replayed-none r p table book store run lt zeros shape limit none is =
     }
 
 -- and no put was refused
-pub counted-none : (r : Run) (n p : ℕ) (table : Table) (book : List ℕ) (store : StoreSeen) → n ≡ 0 → store ≡ store_of r p → IsCounted r n (new_partition p table book store)
-counted-none r n p table book store zero is = record {
+pub counted-none : (r : Run) (n p partitions : ℕ) (table : Table) (book : List ℕ) (store : StoreSeen) → n ≡ 0 → store ≡ store_of r p → IsCounted r n (new_partition p partitions table book store)
+counted-none r n p partitions table book store zero is = record {
   failed = ((λ f. absurd (false≢true f)), (λ some. absurd (omega (arith, zero))));
   rose = λ f. absurd (false≢true f);
   count = let same : store.faults ≡ (store_of r p).faults = ap (λ (x : StoreSeen). x.faults) is in omega (arith, same);

@@ -47,6 +47,7 @@ book-more book journal e workers long lt is w below = ⊎_elim
 -- what an event leaves as it was, and what it adds
 pub record GoesOn (s : PartitionSeen) (e : PartitionEvent) (new : PartitionSeen) : Type 0 where
   pub number : new.number ≡ s.number
+  pub partitions : new.partitions ≡ s.partitions
   pub shape : new.table.shape ≡ s.table.shape
   pub limit : new.table.limit ≡ s.table.limit
   pub sure : new.store.sure ≡ s.store.sure
@@ -59,6 +60,7 @@ pub replayed-more : (r : Run) (p : ℕ) (s new : PartitionSeen) (e : PartitionEv
 replayed-more r p s new e at on lt next stands room = record {
   number = on.number ∙ at.number;
   in_run = at.in_run;
+  partitions = on.partitions ∙ at.partitions;
   shape = on.shape ∙ at.shape;
   limit = on.limit ∙ at.limit;
   replayed = subst (λ (l : List PartitionEvent). StandsFor r p (replay r p l) new) (sym on.journal) (subst (λ (m : Replayed). StandsFor r p m new) (sym (replay-push r p s.journal e)) stands);
@@ -80,6 +82,7 @@ replayed-kept r p s new failed at k =
     record {
       number = ap (λ (x : PartitionSeen). x.number) k.others ∙ at.number;
       in_run = at.in_run;
+      partitions = ap (λ (x : PartitionSeen). x.partitions) k.others ∙ at.partitions;
       shape = k.table.shape.0 ∙ at.shape;
       limit = k.table.shape.1 ∙ at.limit;
       replayed = subst (λ (l : List PartitionEvent). StandsFor r p (replay r p l) new) (sym journal) (stands-kept r p (replay r p s.journal) s at.replayed failed new k);

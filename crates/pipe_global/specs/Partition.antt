@@ -19,10 +19,12 @@ use Rattle.pipe_groups.specs.Shape.{shape_of}
 use Rattle.pipe_tables.specs.Tables.{Table}
 use Rattle.pipe_global.specs.declared.mark.Mark.{Mark}
 
--- its number, table, waiting payloads and store, a mark for each frame that it put, its journal, how
--- many events of it are each worker's, how many rows arrived, and whether a put was refused
+-- its number of how many partitions, its table, waiting payloads and store, a mark for each frame that
+-- it put, its journal, how many events of it are each worker's, how many rows arrived, and whether a
+-- put was refused
 pub record PartitionSeen : Type 0 where
   pub number : ℕ
+  pub partitions : ℕ
   pub table : Table
   pub waiting : List Payload
   pub store : StoreSeen
@@ -94,6 +96,7 @@ pub record StandsFor (r : Run) (p : ℕ) (made : Replayed) (s : PartitionSeen) :
 pub record IsReplayed (r : Run) (p : ℕ) (s : PartitionSeen) : Type 0 where
   pub number : s.number ≡ p
   pub in_run : p < r.limits.partitions
+  pub partitions : s.partitions ≡ r.limits.partitions
   pub shape : s.table.shape ≡ shape_of r.query
   pub limit : s.table.limit ≡ None
   pub replayed : StandsFor r p (replay r p s.journal) s
@@ -112,10 +115,11 @@ pub record IsCounted (r : Run) (refused : ℕ) (s : PartitionSeen) : Type 0 wher
 
 -- ---- before the first event
 
--- a partition before its first event, of a table, a book and a store
-abbrev pub new_partition : ℕ → Table → List ℕ → StoreSeen → PartitionSeen
-new_partition number table book store = record {
+-- a partition before its first event, one of so many, of a table, a book and a store
+abbrev pub new_partition : ℕ → ℕ → Table → List ℕ → StoreSeen → PartitionSeen
+new_partition number partitions table book store = record {
   number = number;
+  partitions = partitions;
   table = table;
   waiting = [];
   store = store;

@@ -24,6 +24,7 @@ use std::marker::Model;
 #[derive(Drop)]
 pub(crate) struct Contents<S: SpillStore + Drop> {
     number: usize,
+    partitions: usize,
     table: AggHashTable,
     waiting: Vec<SpillPayload>,
     store: S,
@@ -41,6 +42,7 @@ impl<S: SpillStore + Drop> Model for Contents<S> {
 
     ghost view = { λ c. record {
       number = c.number;
+      partitions = c.partitions;
       table = c.table;
       waiting = c.waiting.items;
       store = record {
@@ -62,11 +64,12 @@ impl<S: SpillStore + Drop> Contents<S> {
     pub(crate) fn new(
         alloc: Global,
         number: usize,
+        partitions: usize,
         table: AggHashTable,
         book: Vec<u64>,
         store: S,
     ) -> Contents<S>
-        ensures { result ≡ new_partition number table book.items (record {
+        ensures { result ≡ new_partition number partitions table book.items (record {
           held = S.held store;
           told = S.told store;
           faults = S.faults store;
@@ -75,6 +78,7 @@ impl<S: SpillStore + Drop> Contents<S> {
     {
         Contents {
             number,
+            partitions,
             table,
             waiting: Vec::new(alloc),
             store,

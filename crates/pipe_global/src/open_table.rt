@@ -100,6 +100,7 @@ fn locks_of<S: SpillStore + Drop, R: Naming>(
     requires refusals { (refusals.parts ≡ vec_len stores) × (refusals.amount ≡ 0) }
     ensures { vec_len result ≡ vec_len stores }
 {
+    let partitions = stores.len();
     for store in stores {
         let Some(place) = places.pop() else {
             unreachable!()
@@ -110,6 +111,7 @@ fn locks_of<S: SpillStore + Drop, R: Naming>(
         locks.push_reserved(Mutex::new(Partition::new(
             alloc,
             number,
+            partitions,
             place,
             store,
             payload_limit,

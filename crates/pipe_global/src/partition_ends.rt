@@ -19,6 +19,7 @@ impl<S: SpillStore + Drop, R: Naming> Partition<S, R> {
     pub(crate) fn new(
         alloc: Global,
         number: usize,
+        partitions: usize,
         place: Place,
         store: S,
         limit: usize,
@@ -27,6 +28,7 @@ impl<S: SpillStore + Drop, R: Naming> Partition<S, R> {
     ) -> Partition<S, R>
         requires run { IsRunnable R.run }
         requires exists { number < R.run.limits.partitions }
+        requires partitions { partitions ≡ R.run.limits.partitions }
         requires shape { place.table.shape ≡ shape_of R.run.query }
         requires table { (place.table.limit ≡ None) × (place.table.groups ≡ []) }
         requires book { place.book.items ≡ replicate R.run.limits.workers 0 }
@@ -42,7 +44,7 @@ impl<S: SpillStore + Drop, R: Naming> Partition<S, R> {
     {
         let Place { table, book } = place;
         Partition {
-            contents: Contents::new(alloc, number, table, book, store),
+            contents: Contents::new(alloc, number, partitions, table, book, store),
             limit,
             event_part,
             fault_part,
