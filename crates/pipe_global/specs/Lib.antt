@@ -6,3 +6,4 @@ pub mod Moving
 pub mod Steps
 pub mod Closed
 pub mod Opening
+pub mod Finishing

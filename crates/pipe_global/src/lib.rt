@@ -2,10 +2,12 @@
 //! replay of their journals whenever a lock is free.
 #![tactic(auto)]
 
+mod batch_error;
 mod close_table;
 mod closed;
 mod contents;
 mod dump_error;
+mod finish;
 mod gate;
 mod global_table;
 mod journal;
@@ -20,6 +22,7 @@ mod put;
 mod shares;
 mod tally;
 
+pub use batch_error::BatchError;
 pub use closed::ClosedPartition;
 pub use dump_error::DumpError;
 pub use gate::{Gate, OpenGate};

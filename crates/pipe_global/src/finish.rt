@@ -1,0 +1,64 @@
+//! Closed partitions give their groups.
+
+ghost use Rattle.std.specs.Prelude.{◌≡◌, ◌++◌, IfErr, IfOk, List, OnErr, OnOk};
+ghost use Rattle.pipe_spill.specs.declared.spill_row.SpillRow.{SpillRow};
+ghost use Rattle.pipe_global.specs.Finishing.{CanFinish, GivesGroups, GivesOwn, GivesOwnPlaced, GivesPlaced, IsCause, IsEmptied, IsRestOf, KeepsRest, own_rows, StandFor, StandTogether};
+
+use crate::batch_error::BatchError;
+use crate::closed::ClosedPartition;
+use pipe_columns::DataFrame;
+use pipe_groups::PlacedGroups;
+use pipe_spill::SpillStore;
+use pipe_tables::AggHashTable;
+use std::alloc::Global;
+
+impl<S: SpillStore + Drop> ClosedPartition<S> {
+    /// Gives the groups of its rows and of the rows of a local table whose keys lie in it, in the
+    /// order of their keys, under a slice, of which less is then left.
+    ///
+    /// Its own frames are read back one by one, and each goes into its table whole or not at all, as
+    /// do what waits and the local groups. A refused call keeps what went in, and the next one goes
+    /// on from there.
+    pub fn finish(
+        &mut self,
+        alloc: Global,
+        local: &mut AggHashTable,
+        slice: &mut Option<(usize, usize)>,
+    ) -> Result<DataFrame, BatchError>
+        requires { CanFinish self.old local.old }
+        ensures frame { IfOk result (λ f. (rows locals : List SpillRow)
+            → StandFor self.old local.old rows locals → GivesGroups self.old.table.shape
+            slice.old slice.new (rows ++ own_rows self.old locals) f) }
+        ensures partition { IfOk result (λ f. GivesOwn self.old slice.old slice.new f) }
+        ensures emptied { OnOk result (IsEmptied self.new) }
+        ensures rest { OnOk result (IsRestOf self.old local.old local.new) }
+        ensures kept { KeepsRest self.old self.new }
+        ensures again { OnErr result (CanFinish self.new local.new) }
+        ensures together { OnErr result (StandTogether self.old self.new local.old local.new) }
+        ensures slice_err { OnErr result (slice.new ≡ slice.old) }
+        ensures cause { IfErr result (λ e. IsCause self.old self.new e) }
+    {
+        Err(BatchError::Memory)
+    }
+
+    /// The same of all groups, each with the least place of its rows.
+    pub fn finish_placed(
+        &mut self,
+        alloc: Global,
+        local: &mut AggHashTable,
+    ) -> Result<PlacedGroups, BatchError>
+        requires { CanFinish self.old local.old }
+        ensures placed { IfOk result (λ g. (rows locals : List SpillRow)
+            → StandFor self.old local.old rows locals → GivesPlaced self.old.table.shape
+            (rows ++ own_rows self.old locals) g.frame g.firsts) }
+        ensures partition { IfOk result (λ g. GivesOwnPlaced self.old g.frame g.firsts) }
+        ensures emptied { OnOk result (IsEmptied self.new) }
+        ensures rest { OnOk result (IsRestOf self.old local.old local.new) }
+        ensures kept { KeepsRest self.old self.new }
+        ensures again { OnErr result (CanFinish self.new local.new) }
+        ensures together { OnErr result (StandTogether self.old self.new local.old local.new) }
+        ensures cause { IfErr result (λ e. IsCause self.old self.new e) }
+    {
+        Err(BatchError::Memory)
+    }
+}
