@@ -1,7 +1,6 @@
 //! Records of CSV where they stand in a text: found 32 bytes at a time, and cut into pieces.
 #![tactic(auto)]
 
-mod by_stops;
 mod eight_digits;
 mod laws;
 mod numbers;
@@ -13,13 +12,12 @@ mod skip;
 mod stops;
 mod text_head;
 
-pub use by_stops::scan_next;
 pub use laws::{records_are_lines, records_of_parts, short_numbers_are_numbers};
 pub use numbers::field_number;
 pub use pieces::{piece_end, piece_ends};
 pub use quoted::read_record;
 pub use row::{Row, next_row};
-pub use scan::Scan;
+pub use scan::{Scan, scan_next};
 pub use skip::{Skip, skip_rows};
 pub use stops::Stops;
 pub use text_head::{has_quote, text_start};

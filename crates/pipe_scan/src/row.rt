@@ -5,9 +5,8 @@ ghost use Rattle.csv.specs.Records.{fields_of};
 ghost use Rattle.pipe_scan.specs.Row.{IsRowAt};
 ghost use Rattle.pipe_scan.specs.Stops.{AreMarked};
 
-use crate::by_stops::scan_next;
 use crate::quoted::read_record;
-use crate::scan::Scan;
+use crate::scan::{Scan, scan_next};
 use crate::stops::Stops;
 use csv::ByteRecord;
 use std::alloc::AllocError;

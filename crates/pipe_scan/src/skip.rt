@@ -11,7 +11,7 @@ use csv::ByteRecord;
 use std::alloc::AllocError;
 
 /// How far records were gone over.
-#[derive(Clone, Copy, Drop)]
+#[derive(Clone, Copy, Debug, Drop)]
 pub enum Skip {
     /// Over as many as were asked for.
     Done,

@@ -76,6 +76,18 @@ fn first_mark(text: &[u8], stops: &mut Stops) -> usize
     stop
 }
 
+/// The next stop near the end of the text, behind which none is known.
+fn last_stop(text: &[u8], stops: &mut Stops) -> usize
+    requires { AreMarked text.now stops.old }
+    ensures stop { IsNextStop text.now stops.old.cursor result }
+    ensures marked { AreMarked text.now stops.new }
+    ensures cursor { stops.new.cursor ≡ min (result + 1) (length text.now) }
+{
+    let stop = near_stop(text, stops.cursor);
+    *stops = Stops::new(text.len().min(stop + 1));
+    stop
+}
+
 /// The next stop of a text.
 #[inline(always)]
 pub(crate) fn next_stop(text: &[u8], stops: &mut Stops) -> usize
@@ -84,21 +96,14 @@ pub(crate) fn next_stop(text: &[u8], stops: &mut Stops) -> usize
     ensures marked { AreMarked text.now stops.new }
     ensures cursor { stops.new.cursor ≡ min (result + 1) (length text.now) }
 {
-    for _ in 0..u64::MAX {
-        if stops.found != 0 {
-            return first_mark(text, stops);
-        }
+    while stops.found == 0 {
         let next = stops.cursor + stops.left;
         if text.len() - next < 32 {
-            break;
+            return last_stop(text, stops);
         }
         stops.cursor = next;
         stops.left = 32;
         stops.found = marks_at(text, next);
     }
-    let stop = near_stop(text, stops.cursor);
-    stops.cursor = text.len().min(stop + 1);
-    stops.left = 0;
-    stops.found = 0;
-    stop
+    first_mark(text, stops)
 }
