@@ -22,7 +22,7 @@ use Rattle.pipe_global.specs.declared.batch_error.BatchError.{BatchError}
 use Rattle.pipe_global.specs.declared.batch_error.BatchError.TheVariants as batch_error
 use Rattle.pipe_global.specs.declared.mark.Mark.{Mark}
 use Rattle.pipe_global.specs.Partition.{PartitionSeen}
-use Rattle.pipe_global.specs.Refused.{IsStoreKept}
+use Rattle.pipe_global.specs.Refused.{HoldsSame, IsStoreKept}
 
 -- ---- rows of a partition
 
@@ -151,6 +151,10 @@ pub record IsRestOf (s : PartitionSeen) (local new : Table) : Type 0 where
   pub shape : KeepsShape local new
   pub held : (k : List ℕ) → held_at k new.groups
       ≡ (if lies_in s.partitions s.number k then None else held_at k local.groups)
+
+-- a local table where nothing was given: it holds the same, or no more what it held of the partition
+abbrev pub IsLeftOf : PartitionSeen → Table → Table → Type 0
+IsLeftOf s local new = HoldsSame local new ⊎ IsRestOf s local new
 
 -- the partition and the local table stand for what they stood for
 abbrev pub StandAsBefore : PartitionSeen → PartitionSeen → Table → Table → Type 0
