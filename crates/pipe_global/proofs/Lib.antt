@@ -6,3 +6,4 @@ pub mod ReplayFacts
 pub mod Keeping
 pub mod Beginning
 pub mod Closing
+pub mod ResumeFacts

@@ -7,3 +7,4 @@ pub mod Steps
 pub mod Closed
 pub mod Opening
 pub mod Finishing
+pub mod Resuming

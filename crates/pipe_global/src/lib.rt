@@ -3,6 +3,7 @@
 #![tactic(auto)]
 
 mod batch_error;
+mod books;
 mod close_table;
 mod closed;
 mod contents;
@@ -19,6 +20,7 @@ mod partition;
 mod partition_ends;
 mod place;
 mod put;
+mod resume;
 mod shares;
 mod tally;
 

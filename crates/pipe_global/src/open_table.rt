@@ -62,7 +62,7 @@ fn shares_of<R: Naming>(
 }
 
 /// Room for the locks of so many partitions.
-fn room_for<S: SpillStore + Drop, R: Naming>(
+pub(crate) fn room_for<S: SpillStore + Drop, R: Naming>(
     alloc: Global,
     partitions: usize,
 ) -> Result<Vec<Mutex<Partition<S, R>>>, AllocError>

@@ -73,6 +73,37 @@ impl<R: Naming> Shares<R> {
         })
     }
 
+    /// The shares of a worker that made events before, and whose part counts them.
+    pub(crate) fn resumed(
+        worker: usize,
+        picks: usize,
+        events: Vec<u64>,
+        faults: Vec<u64>,
+        event_part: Share<OfWorkers<R>>,
+        fault_part: Share<OfFaults<R>>,
+    ) -> Shares<R>
+        requires exists { worker < R.run.limits.workers }
+        requires events { length events.items ≡ R.run.limits.partitions }
+        requires faults { faults.items ≡ replicate R.run.limits.partitions 0 }
+        requires event_part { (event_part.parts ≡ 1) × (event_part.amount ≡ sum events.items) }
+        requires fault_part { (fault_part.parts ≡ 1) × (fault_part.amount ≡ 0) }
+        ensures { result ≡ record {
+          worker = worker;
+          picks = picks;
+          events = events.items;
+          faults = faults.items;
+        } }
+    {
+        Shares {
+            worker,
+            picks,
+            events,
+            faults,
+            event_part,
+            fault_part,
+        }
+    }
+
     /// The worker's number.
     pub fn worker(&self) -> usize
         ensures is { result ≡ self.now.worker }

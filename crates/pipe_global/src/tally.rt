@@ -2,6 +2,7 @@
 
 ghost use Rattle.std.specs.Prelude.{◌≡◌, ◌+◌};
 
+use crate::books::Books;
 use crate::naming::{Blanks, Naming, OfFaults, OfPartitions, OfRefusals, OfWorkers};
 use std::sync::ledger::{Book, Share};
 
@@ -46,30 +47,29 @@ impl<R: Naming> Tally<R> {
         ensures faults { (result.1.faults.parts ≡ R.run.limits.workers)
             × (result.1.faults.amount ≡ 0) }
     {
-        let (partitions, mut all_partitions) = blanks.partitions.open::<OfPartitions<R>>();
-        let (workers, mut all_workers) = blanks.workers.open::<OfWorkers<R>>();
-        let (refusals, mut all_refusals) = blanks.refusals.open::<OfRefusals<R>>();
-        let (faults, mut all_faults) = blanks.faults.open::<OfFaults<R>>();
-        let none = Parts {
-            partitions: all_partitions.empty(),
-            workers: all_workers.empty(),
-            refusals: all_refusals.empty(),
-            faults: all_faults.empty(),
-        };
-        let tally = Tally {
+        let (books, parts) = Books::open(blanks);
+        (Tally::of(books), parts)
+    }
+
+    /// The totals of books that are equal two by two.
+    pub(crate) fn of(books: Books<R>) -> Tally<R>
+        requires events { books.partitions.total ≡ books.workers.total }
+        requires refused { books.refusals.total ≡ books.faults.total }
+    {
+        let Books {
             partitions,
             workers,
             refusals,
             faults,
             none,
-        };
-        let parts = Parts {
-            partitions: all_partitions,
-            workers: all_workers,
-            refusals: all_refusals,
-            faults: all_faults,
-        };
-        (tally, parts)
+        } = books;
+        Tally {
+            partitions,
+            workers,
+            refusals,
+            faults,
+            none,
+        }
     }
 
     /// No part of any ledger.
