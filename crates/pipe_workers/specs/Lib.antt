@@ -1,0 +1,4 @@
+pub mod Workers
+pub mod Turns
+pub mod Steps
+pub mod Rounds

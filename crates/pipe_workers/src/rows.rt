@@ -1,0 +1,71 @@
+//! The rows of a turn.
+
+ghost use Rattle.std.specs.Prelude.{◌≡◌, ◌+◌, ◌<◌, length, OnErr, OnOk};
+ghost use Rattle.pipe_workers.specs.Steps.{AreRowsOfTurn, IsInTurn, taken_with};
+ghost use Rattle.pipe_workers.specs.Turns.{AreSharesAtStop};
+ghost use Rattle.pipe_workers.specs.declared.stop.WorkerStop.TheVariants as stop;
+
+use crate::shared::Shared;
+use pipe_global::{Gate, Naming, Shares};
+use pipe_groups::encode_row;
+use pipe_inputs::ChunkRows;
+use pipe_spill::{SpillPayload, SpillStore};
+use pipe_tables::{LentLocalEnd, ThreadLocalTable};
+use std::alloc::AllocError;
+use std::marker::Model;
+use std::sync::Wait;
+
+/// The rows of a turn, and the position of its chunk.
+#[derive(Drop)]
+pub(crate) struct TurnRows<'a> {
+    pub(crate) position: usize,
+    pub(crate) rows: ChunkRows<'a>,
+}
+
+impl<'a> Model for TurnRows<'a> {
+    ghost use Rattle.pipe_workers.specs.Steps.{TurnSeen};
+
+    ghost Value = { TurnSeen };
+
+    ghost view = { λ t. record { position = t.position; rows = t.rows } };
+}
+
+/// Takes a row of a turn: it is held, or waits, or leaves with those that waited before it.
+pub(crate) fn take_row<S: SpillStore + Drop, R: Naming, G: Gate, H: Wait>(
+    rt: &H,
+    shared: &Shared<'_, S, R, G>,
+    table: &mut ThreadLocalTable,
+    shares: &mut Shares<R>,
+    key: &mut Vec<u8>,
+    turn: &TurnRows<'_>,
+    row: usize,
+) -> Result<(), AllocError>
+    requires turn { AreRowsOfTurn R.run shares.old.worker turn.now.position turn.now.rows }
+    requires there { row < length turn.now.rows }
+    requires within { IsInTurn R.run shares.old.worker turn.now.position
+        (taken_with R.run shares.old.worker turn.now.position turn.now.rows row)
+        table.old shares.old }
+    ensures ok { OnOk result (IsInTurn R.run shares.old.worker turn.now.position
+        (taken_with R.run shares.old.worker turn.now.position turn.now.rows (row + 1))
+        table.new shares.new) }
+    ensures err { OnErr result
+        (AreSharesAtStop R.run shares.old.worker stop.Memory shares.new) }
+{
+    let types = shared.query().key_types();
+    let _worker = shares.worker();
+    let rows = &turn.rows;
+    if encode_row(key, rows, row, types).is_err() {
+        return Err(AllocError);
+    }
+    match table.insert_lent(key, rows, row) {
+        LentLocalEnd::Done => Ok(()),
+        LentLocalEnd::Memory => Err(AllocError),
+        LentLocalEnd::Payload(partition, payload) => {
+            let global = shared.global;
+            match global.spill(rt, shared.gate, shares, partition, payload) {
+                Ok(()) => Ok(()),
+                Err(_) => Err(AllocError),
+            }
+        }
+    }
+}

@@ -1,0 +1,75 @@
+//! A turn.
+
+ghost use Rattle.std.specs.Prelude.{◌≡◌, ◌+◌, length, IfErr, OnErr, OnOk};
+ghost use Rattle.pipe_plan.specs.Plan.{action_at};
+ghost use Rattle.pipe_plan.specs.Progress.{rows_before};
+ghost use Rattle.pipe_workers.specs.Steps.{IsAtTurn, IsInTurn};
+ghost use Rattle.pipe_workers.specs.Turns.{AreSharesAtStop, IsAfterTurns};
+ghost use Rattle.pipe_workers.specs.declared.stop.WorkerStop.TheVariants as stop;
+
+use crate::pick::pick;
+use crate::rows::{TurnRows, take_row};
+use crate::shared::Shared;
+use crate::stop::WorkerStop;
+use pipe_columns::DataChunk;
+use pipe_global::{Gate, Naming, Shares};
+use pipe_inputs::ChunkRows;
+use pipe_plan::SpillAction;
+use pipe_spill::SpillStore;
+use pipe_tables::ThreadLocalTable;
+use std::alloc::AllocError;
+use std::sync::Wait;
+
+/// Takes the rows of the chunk at a position, in order.
+fn take_rows<S: SpillStore + Drop, R: Naming, G: Gate, H: Wait>(
+    rt: &H,
+    shared: &Shared<'_, S, R, G>,
+    table: &mut ThreadLocalTable,
+    shares: &mut Shares<R>,
+    key: &mut Vec<u8>,
+    position: usize,
+    chunk: &DataChunk,
+) -> Result<(), AllocError>
+    requires turn { IsAtTurn R.run shares.old.worker position chunk.now table.old shares.old }
+    ensures ok { OnOk result (IsInTurn R.run shares.old.worker position
+        (rows_before R.run shares.old.worker (position + 1)) table.new shares.new) }
+    ensures err { OnErr result
+        (AreSharesAtStop R.run shares.old.worker stop.Memory shares.new) }
+{
+    let query = shared.query();
+    let rows = ChunkRows::new(shared.alloc, query, position as u32, chunk)?;
+    let turn = TurnRows { position, rows };
+    for row in 0..turn.rows.len() {
+        take_row(rt, shared, table, shares, key, &turn, row)?;
+    }
+    Ok(())
+}
+
+/// Takes the chunk at a position, and then, where it has rows, the turn's action.
+pub(crate) fn take_turn<S: SpillStore + Drop, R: Naming, G: Gate, H: Wait>(
+    rt: &H,
+    shared: &Shared<'_, S, R, G>,
+    table: &mut ThreadLocalTable,
+    shares: &mut Shares<R>,
+    key: &mut Vec<u8>,
+    position: usize,
+    chunk: &DataChunk,
+    action: SpillAction,
+) -> Result<(), WorkerStop>
+    requires turn { IsAtTurn R.run shares.old.worker position chunk.now table.old shares.old }
+    requires action { action ≡ action_at R.run position }
+    ensures ok { OnOk result (IsAfterTurns R.run shares.old.worker (position + 1)
+        table.new shares.new) }
+    ensures err { IfErr result
+        (λ end. AreSharesAtStop R.run shares.old.worker end shares.new) }
+{
+    let _query = shared.query();
+    if chunk.frame.height() == 0 {
+        return Ok(());
+    }
+    let Ok(()) = take_rows(rt, shared, table, shares, key, position, chunk) else {
+        return Err(WorkerStop::Memory);
+    };
+    pick(rt, shared, shares, action)?;
+    Ok(())
+}
