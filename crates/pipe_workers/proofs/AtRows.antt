@@ -1,7 +1,7 @@
 -- A worker takes one row more.
 use Rattle.std.proofs.Common.{◌≡◌, ◌≢◌, ◌∙◌, ◌+◌, ◌-◌, ◌/◌, ◌*◌, ◌%◌, ◌≤◌, ◌<◌, ◌==◌, ◌&&◌, ◌||◌, ◌^◌, ℕ, Bool, true, false, not, List, [], ◌∷◌, ◌++◌, Option, Some, None, length, map, set, get_or, take, drop, slice_get, refl, sym, ap, subst, arith, length-append, append_assoc}
 use Rattle.std.specs.Prelude.{if◌then◌else◌, nat_le, nat_lt}
-use Rattle.std.specs.List.{All, filter, range_with_len, slice_index_or}
+use Rattle.std.specs.List.{All}
 use Rattle.std.specs.Set.{is_member}
 use Rattle.std.proofs.lemmas.Bool.{false≢true}
 use Rattle.std.proofs.lemmas.Bool.Decides.{nat_tests}
@@ -9,12 +9,11 @@ use Rattle.std.proofs.lemmas.List.{get_or-set_other, get_or-set_same, length-map
 use Rattle.std.proofs.lemmas.List.Elements.{All-head}
 use Rattle.std.proofs.lemmas.List.FromFn.{get_or-map-range_with_len, length-map-range_with_len}
 use Rattle.std.proofs.Math.Nat.{mod-lt}
-use Rattle.pipe_columns.specs.Key.{code, fold_bytes, partition}
+use Rattle.pipe_columns.specs.Key.{fold_bytes}
 use Rattle.pipe_columns.specs.Row.{Row}
 use Rattle.pipe_aggs.specs.CheckedQuery.{input_types}
 use Rattle.pipe_model.specs.Output.{key_types}
 use Rattle.pipe_model.specs.Rows.{keys_of}
-use Rattle.pipe_plan.specs.declared.event.PartitionEvent.{PartitionEvent}
 use Rattle.pipe_plan.specs.declared.event.PartitionEvent.TheVariants as event
 use Rattle.pipe_plan.specs.Kept.{is_kept, kept_keys, same_key}
 use Rattle.pipe_plan.specs.Overflow.{overflows, partition_of}
@@ -29,16 +28,15 @@ use Rattle.pipe_plan.proofs.Filtering.{filter-within}
 use Rattle.pipe_plan.proofs.Longer.{kept-decided, keys-has}
 use Rattle.pipe_spill.specs.SpillRow.{HasValues, Payload, payload_of, spilled}
 use Rattle.pipe_spill.specs.declared.spill_row.SpillRow.{SpillRow}
-use Rattle.pipe_groups.specs.Shape.{Shape, shape_of}
+use Rattle.pipe_groups.specs.Shape.{shape_of}
 use Rattle.pipe_tables.specs.After.{goes_to, IsAfter, is_kept_of, spilled_to, waiting_of}
-use Rattle.pipe_tables.specs.Buffers.{buffer_of, Buffers, fills, leaving, rows_with, waiting_in}
+use Rattle.pipe_tables.specs.Buffers.{buffer_of, fills, leaving, rows_with, waiting_in}
 use Rattle.pipe_tables.specs.LocalTable.{keeps, let_go, Local, with_row}
 use Rattle.pipe_tables.proofs.AfterFacts.{after-row}
 use Rattle.pipe_tables.proofs.HeldKeys.{keeps-stays}
-use Rattle.pipe_tables.proofs.KeptRows.{stays}
 use Rattle.pipe_global.specs.Next.{next_event, next_payload}
 use Rattle.pipe_global.specs.Partition.{spilled_all}
-use Rattle.pipe_global.specs.Shares.{one_more_at, raised, share_of, SharesSeen}
+use Rattle.pipe_global.specs.Shares.{raised, share_of, SharesSeen}
 use Rattle.pipe_global.proofs.Covering.{all-left, all-right}
 use Rattle.pipe_global.proofs.RunFacts.{length-kept}
 use Rattle.pipe_workers.specs.Steps.{IsInTurn}

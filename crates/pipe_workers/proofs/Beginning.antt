@@ -1,7 +1,6 @@
 -- A worker before its first turn.
-use Rattle.std.proofs.Common.{◌≡◌, ◌∙◌, ◌<◌, ℕ, false, List, [], length, map, Some, refl, sym, ap, arith, get_or}
+use Rattle.std.proofs.Common.{◌≡◌, ◌∙◌, false, [], Some, refl, ap}
 use Rattle.std.proofs.lemmas.List.{get_or-replicate}
-use Rattle.std.specs.Prelude.{replicate}
 use Rattle.pipe_plan.specs.Run.{Run}
 use Rattle.pipe_groups.specs.Shape.{shape_of}
 use Rattle.pipe_tables.specs.Buffers.{no_rows}
@@ -10,7 +9,7 @@ use Rattle.pipe_tables.proofs.AfterFacts.{after-none}
 use Rattle.pipe_global.specs.Opening.{no_shares}
 use Rattle.pipe_global.specs.Shares.{share_of, SharesSeen}
 use Rattle.pipe_workers.specs.Turns.{IsReady}
-use Rattle.pipe_workers.specs.Workers.{TakesTurns, WorkerSeen}
+use Rattle.pipe_workers.specs.Workers.{TakesTurns}
 
 -- a local table of no rows
 pub record IsNew (r : Run) (t : Local) : Type 0 where

@@ -1,7 +1,6 @@
 -- A worker closes, partition by partition.
-use Rattle.std.proofs.Common.{◌≡◌, ◌≢◌, ◌∙◌, ◌+◌, ◌*◌, ◌/◌, ◌≤◌, ◌<◌, ◌==◌, ℕ, Bool, true, false, List, [], ◌∷◌, ◌++◌, length, map, set, get_or, take, drop, Some, slice_get, refl, sym, ap, subst, arith, zero, suc, length-append}
-use Rattle.std.specs.Prelude.{All, nat_lt, if◌then◌else◌}
-use Rattle.std.specs.List.{range_with_len}
+use Rattle.std.proofs.Common.{◌≡◌, ◌≢◌, ◌∙◌, ◌+◌, ◌*◌, ◌/◌, ◌≤◌, ◌<◌, ◌==◌, ℕ, Bool, true, false, List, [], ◌∷◌, length, map, get_or, take, drop, Some, slice_get, refl, sym, ap, subst, arith, zero, suc, length-append}
+use Rattle.std.specs.Prelude.{nat_lt}
 use Rattle.std.proofs.lemmas.Bool.Decides.{nat_tests}
 use Rattle.std.proofs.lemmas.List.{get_or-set_other, get_or-set_same, length-map}
 use Rattle.std.proofs.lemmas.List.FromFn.{get_or-map-range_with_len, length-map-range_with_len}
@@ -22,17 +21,17 @@ use Rattle.pipe_plan.proofs.Reaching.{worker-all}
 use Rattle.pipe_spill.specs.SpillRow.{Payload, payload_of, spilled}
 use Rattle.pipe_spill.specs.declared.spill_row.SpillRow.{SpillRow}
 use Rattle.pipe_groups.specs.Holds.{Holds}
-use Rattle.pipe_groups.specs.Shape.{Shape, shape_of}
+use Rattle.pipe_groups.specs.Shape.{shape_of}
 use Rattle.pipe_tables.specs.After.{IsAfter, waiting_of}
-use Rattle.pipe_tables.specs.Buffers.{Buffers, waiting_in, with_rows}
-use Rattle.pipe_tables.specs.LocalTable.{Local, NoneWaits, with_buffers}
+use Rattle.pipe_tables.specs.Buffers.{waiting_in, with_rows}
+use Rattle.pipe_tables.specs.LocalTable.{Local, with_buffers}
 use Rattle.pipe_tables.specs.Tables.{Table}
 use Rattle.pipe_global.specs.Next.{next_event, next_payload}
 use Rattle.pipe_global.specs.Partition.{spilled_all}
 use Rattle.pipe_global.specs.Shares.{raised, share_of, SharesSeen}
 use Rattle.pipe_workers.specs.declared.stop.WorkerStop.TheVariants as stop
 use Rattle.pipe_workers.specs.Steps.{IsClosing}
-use Rattle.pipe_workers.specs.Turns.{AreSharesAtStop, HasClosed, IsAfterTurns, IsReady}
+use Rattle.pipe_workers.specs.Turns.{AreSharesAtStop, HasClosed, IsReady}
 use Rattle.pipe_workers.specs.Workers.{TakesTurns, WorkerSeen}
 use Rattle.pipe_workers.proofs.AtRows.{raised-other, raised-own}
 use Rattle.pipe_workers.proofs.Standing.{events-few}
@@ -167,6 +166,17 @@ module _ (r : Run) (w p : ℕ) (t : Local) (s : SharesSeen) (takes : TakesTurns 
         closing-next (raised s p) refl refl
         (raised-own s p (omega (arith, lt, count)) ∙ ap (λ n. n + 1) (at.unsent p (omega arith) lt) ∙ sym whole)
         (λ q other. raised-other s p q other)
+
+-- and so it is as the calls tell it
+pub closing-none-at : (r : Run) (w p : ℕ) (t u : Local) (s : SharesSeen) → TakesTurns r → r.is_open ≡ false → p < r.limits.partitions → IsClosing r w p t s
+    → waiting_in p t.buffers ≡ [] → u ≡ emptied p t → IsClosing r w (p + 1) u s
+closing-none-at r w p t u s takes shut lt at none new = subst (λ (v : Local). IsClosing r w (p + 1) v s) (sym new) (closing-none r w p t s takes shut lt at none)
+
+pub closing-sent-at : (r : Run) (w p : ℕ) (t u : Local) (s h : SharesSeen) → TakesTurns r → r.is_open ≡ false → p < r.limits.partitions → IsClosing r w p t s
+    → (payload : Payload) → payload.rows ≡ waiting_in p t.buffers → waiting_in p t.buffers ≢ [] → length s.events ≡ r.limits.partitions → u ≡ emptied p t → h ≡ raised s p → IsClosing r w (p + 1) u h
+closing-sent-at r w p t u s h takes shut lt at payload rows some count new sent =
+    subst (λ (v : SharesSeen). IsClosing r w (p + 1) u v) (sym sent)
+    (subst (λ (v : Local). IsClosing r w (p + 1) v (raised s p)) (sym new) (closing-sent r w p t s takes shut lt at payload rows some count))
 
 -- all rests are sent: the worker has closed
 pub closed-worker : (r : Run) (w : ℕ) (x y : WorkerSeen) → IsReady r w (length r.chunks) x → y.table.table ≡ x.table.table → y.closed ≡ true → y.stopped ≡ x.stopped

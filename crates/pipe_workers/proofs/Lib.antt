@@ -6,3 +6,6 @@ pub mod Closings
 pub mod TurnEnds
 pub mod Positions
 pub mod Bounds
+pub mod RowEnds
+pub mod Answering
+pub mod Sinking

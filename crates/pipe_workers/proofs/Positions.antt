@@ -1,18 +1,16 @@
 -- The positions of a worker's turns, and turns in longer runs.
-use Rattle.std.proofs.Common.{◌≡◌, ◌∙◌, ◌+◌, ◌*◌, ◌/◌, ◌%◌, ◌≤◌, ◌<◌, ◌==◌, ℕ, Bool, zero, suc, true, false, List, [], ◌∷◌, ◌++◌, length, map, take, drop, Some, slice_get, refl, sym, ap, subst, arith, length-append}
-use Rattle.std.specs.Prelude.{All}
-use Rattle.std.specs.List.{range_with_len, slice_index_or}
+use Rattle.std.proofs.Common.{◌≡◌, ◌∙◌, ◌+◌, ◌*◌, ◌/◌, ◌%◌, ◌≤◌, ◌<◌, ◌^◌, ℕ, Bool, zero, suc, true, false, List, [], ◌∷◌, ◌++◌, length, Some, slice_get, refl, sym, ap, subst, arith, length-append}
 use Rattle.std.proofs.lemmas.Bool.{eqb-true}
 use Rattle.std.proofs.lemmas.List.{take-append-le}
 use Rattle.std.proofs.lemmas.Nat.{div-add-mod'}
-use Rattle.std.proofs.lemmas.Option.{slice_get-get_or}
-use Rattle.std.proofs.Math.Nat.{mod-lt}
+use Rattle.std.proofs.lemmas.Option.{slice_get_within}
+use Rattle.std.proofs.Math.Nat.{mod-lt, mul-le-mul_left}
 use Rattle.pipe_columns.specs.declared.data_chunk.DataChunk.{DataChunk}
 use Rattle.pipe_columns.specs.Row.{Row}
 use Rattle.pipe_plan.specs.declared.event.PartitionEvent.{PartitionEvent}
-use Rattle.pipe_plan.specs.Plan.{events_before, picks_before, turns_before}
+use Rattle.pipe_plan.specs.Plan.{turns_before}
 use Rattle.pipe_plan.specs.Progress.{rows_before}
-use Rattle.pipe_plan.specs.Rounds.{GoesOn, run_until}
+use Rattle.pipe_plan.specs.Rounds.{GoesOn}
 use Rattle.pipe_plan.specs.Run.{is_turn_of, of_worker, Run, StoreSeen}
 use Rattle.pipe_plan.proofs.Dealing.{turn-at, turns-after, turns-first}
 use Rattle.pipe_plan.proofs.Longer.{goes-on, longer_run}
@@ -21,9 +19,7 @@ use Rattle.pipe_plan.proofs.Reaching.{worker-no}
 use Rattle.pipe_plan.proofs.Turning.{events-later, picks-later}
 use Rattle.pipe_groups.specs.Shape.{shape_of}
 use Rattle.pipe_tables.specs.After.{IsAfter}
-use Rattle.pipe_tables.specs.LocalTable.{Local}
-use Rattle.pipe_global.specs.Shares.{share_of, SharesSeen}
-use Rattle.pipe_workers.specs.Turns.{AreSharesBefore, IsAfterTurns, IsReady}
+use Rattle.pipe_workers.specs.Turns.{IsAfterTurns, IsReady}
 use Rattle.pipe_workers.specs.Workers.{next_position, TakesTurns, WorkerSeen}
 
 -- ---- positions
@@ -120,3 +116,12 @@ module _ (r : Run) (o : Bool) (chunks : List DataChunk) (stores : List StoreSeen
 -- a worker stands in a longer run where it stood
 pub ready-longer : (r s : Run) (w n : ℕ) (x : WorkerSeen) → GoesOn r s → n ≤ length r.chunks → IsReady r w n x → IsReady s w n x
 ready-longer r s w n x on le ready = subst (λ (q : Run). IsReady q w n x) (goes-on r s on) (ready-later r s.is_open on.more s.stores w n le x ready)
+
+-- ---- few turns
+
+-- turns have numbers
+pub turns-small : (r : Run) (x : WorkerSeen) (c : DataChunk) → TakesTurns r → slice_get r.chunks (next_position r x) ≡ Some c → x.turns + 1 < 2 ^ 64
+turns-small r x c takes at =
+    let lt = slice_get_within r.chunks (next_position r x) c at in
+    let some : x.turns * 1 ≤ x.turns * r.limits.workers = mul-le-mul_left {m = 1} {n = r.limits.workers} x.turns takes.runnable.limits.workers in
+    omega (arith, lt, some, takes.chunks.number)

@@ -1,6 +1,6 @@
 -- Where workers stand: what their run gives, and that the events made are fronts of their plans.
-use Rattle.std.proofs.Common.{◌≡◌, ◌∙◌, ◌+◌, ◌-◌, ◌/◌, ◌*◌, ◌%◌, ◌≤◌, ◌<◌, ◌^◌, ℕ, true, false, List, [], ◌∷◌, ◌++◌, length, take, drop, Some, slice_get, refl, sym, ap, subst, arith, length-append, append_assoc}
-use Rattle.std.specs.List.{All, filter, slice_index_or}
+use Rattle.std.proofs.Common.{◌≡◌, ◌∙◌, ◌+◌, ◌≤◌, ◌<◌, ℕ, true, List, ◌++◌, length, drop, refl, sym, ap, arith, length-append, append_assoc}
+use Rattle.std.specs.List.{All}
 use Rattle.std.proofs.lemmas.List.{take-append-drop}
 use Rattle.std.proofs.lemmas.List.Elements.{All-filter, filter-append}
 use Rattle.std.proofs.lemmas.Option.{slice_get_within}
@@ -8,19 +8,19 @@ use Rattle.pipe_columns.specs.Row.{Row}
 use Rattle.pipe_aggs.specs.CheckedQuery.{input_types}
 use Rattle.pipe_model.specs.Output.{key_types}
 use Rattle.pipe_plan.specs.declared.event.PartitionEvent.{PartitionEvent}
-use Rattle.pipe_plan.specs.Plan.{events_before, full_before, plan}
+use Rattle.pipe_plan.specs.Plan.{events_before, plan}
 use Rattle.pipe_plan.specs.Progress.{events_made, rows_before, sent_of}
 use Rattle.pipe_plan.specs.Overflow.{overflows}
 use Rattle.pipe_plan.specs.Rounds.{GoesOn, IsFront, run_until}
 use Rattle.pipe_plan.specs.Run.{all_rows, is_generic, is_turn_of, of_worker, Run, Spills}
-use Rattle.pipe_plan.proofs.AtEnd.{made-begun, made-turn}
+use Rattle.pipe_plan.proofs.AtEnd.{made-turn}
 use Rattle.pipe_plan.proofs.Cutting.{div-mono}
 use Rattle.pipe_plan.proofs.Fronts.{plan-on, plan-until}
 use Rattle.pipe_plan.proofs.Reaching.{worker-yes}
 use Rattle.pipe_spill.specs.SpillRow.{HasValues}
 use Rattle.pipe_groups.specs.Shape.{IsShape, shape_of}
 use Rattle.pipe_global.specs.Shares.{share_of, SharesSeen}
-use Rattle.pipe_workers.specs.Steps.{AreRowsOfTurn, IsInTurn}
+use Rattle.pipe_workers.specs.Steps.{AreRowsOfTurn}
 use Rattle.pipe_workers.specs.Turns.{AreFronts, AreSharesBefore}
 use Rattle.pipe_workers.specs.Workers.{TakesTurns}
 

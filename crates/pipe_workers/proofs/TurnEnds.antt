@@ -1,9 +1,10 @@
 -- A turn begins, ends with its pick, and leads to the next.
-use Rattle.std.proofs.Common.{◌≡◌, ◌≢◌, ◌∙◌, ◌+◌, ◌*◌, ◌/◌, ◌%◌, ◌≤◌, ◌<◌, ◌==◌, ◌&&◌, ℕ, Bool, true, false, List, [], ◌∷◌, ◌++◌, length, map, take, Some, slice_get, refl, sym, ap, subst, arith, append_assoc}
-use Rattle.std.specs.Prelude.{if◌then◌else◌, nat_lt}
+use Rattle.std.proofs.Common.{◌≡◌, ◌≢◌, ◌∙◌, ◌+◌, ◌%◌, ◌≤◌, ◌<◌, ◌==◌, ◌&&◌, ℕ, Bool, true, false, List, [], ◌∷◌, ◌++◌, length, map, Some, slice_get, refl, sym, ap, subst, arith}
+use Rattle.std.specs.Prelude.{IfErr, if◌then◌else◌, nat_lt}
+use Rattle.std.specs.declared.result.Result.{Result}
+use Rattle.std.specs.declared.result.Result.TheVariants.{Err, Ok}
 use Rattle.std.specs.Option.{option_map}
 use Rattle.std.specs.List.{slice_index_or}
-use Rattle.std.proofs.lemmas.Bool.{false≢true}
 use Rattle.std.proofs.lemmas.Bool.Decides.{nat_tests}
 use Rattle.std.proofs.lemmas.List.{append-nil, take_all}
 use Rattle.std.proofs.lemmas.Option.{get_or_from_slice_get, slice_get-map, slice_get_within}
@@ -20,14 +21,14 @@ use Rattle.pipe_plan.specs.Run.{is_turn_of, Run}
 use Rattle.pipe_plan.proofs.AtEnd.{made-begun, made-turn, pick-next}
 use Rattle.pipe_plan.proofs.Planning.{picks-yes}
 use Rattle.pipe_tables.specs.LocalTable.{Local}
-use Rattle.pipe_global.specs.Next.{next_event}
 use Rattle.pipe_global.specs.Shares.{next_pick, picked, raised, share_of, SharesSeen}
 use Rattle.pipe_workers.specs.declared.stop.WorkerStop.{WorkerStop}
+use Rattle.pipe_workers.specs.declared.stop.WorkerStop.TheVariants as stop
 use Rattle.pipe_workers.specs.Steps.{after_action, AreRowsOfTurn, IsAtTurn, IsInTurn, IsNextPick, taken_with}
-use Rattle.pipe_workers.specs.Turns.{AreFronts, AreSharesAtStop, AreSharesBefore, faults_after, IsAfterTurns, IsPartition}
+use Rattle.pipe_workers.specs.Turns.{AreSharesAtStop, AreSharesBefore, faults_after, IsAfterTurns, IsPartition}
 use Rattle.pipe_workers.specs.Workers.{TakesTurns}
 use Rattle.pipe_workers.proofs.AtRows.{raised-other, raised-own}
-use Rattle.pipe_workers.proofs.Standing.{before-fronts, events-few, made-few, turn-rows}
+use Rattle.pipe_workers.proofs.Standing.{before-fronts, made-few, turn-rows}
 
 -- ---- it begins
 
@@ -172,6 +173,14 @@ turn-ends-empty r w i c t s takes at none count =
 
 -- ---- it stops
 
+-- a worker that stops before its first row
+pub turn-unbegun : (r : Run) (w i : ℕ) (c : DataChunk) (t : Local) (s : SharesSeen) → TakesTurns r → IsAtTurn r w i c t s → AreSharesAtStop r w stop.Memory s
+turn-unbegun r w i c t s takes at = record {
+  fronts = before-fronts r w i s takes (let lt = slice_get_within r.chunks i c at.at in omega arith) at.after.shares;
+  faults = at.after.shares.faults;
+  partition = takes.runnable.limits.partitions;
+}
+
 -- a worker that stops at the pick
 pub pick-stopped : (r : Run) (w i : ℕ) (end : WorkerStop) (t : Local) (s h : SharesSeen) → TakesTurns r → i < length r.chunks → is_turn_of r w i ≡ true → IsInTurn r w i (rows_before r w (i + 1)) t s
     → h.worker ≡ s.worker → h.events ≡ s.events → h.faults ≡ faults_after end s.faults → IsPartition r end → AreSharesAtStop r w end h
@@ -185,3 +194,10 @@ pick-stopped r w i end t s h takes lt turn here worker events faults there = rec
   faults = faults ∙ ap (faults_after end) here.faults;
   partition = there;
 }
+
+-- and as the pick tells it
+pub pick-ends : (r : Run) (w i : ℕ) (t : Local) (s h : SharesSeen) → TakesTurns r → i < length r.chunks → is_turn_of r w i ≡ true → IsInTurn r w i (rows_before r w (i + 1)) t s
+    → h.worker ≡ s.worker → {A : Type 0} (x : Result A WorkerStop) → IfErr x (λ _. h.events ≡ s.events) → IfErr x (λ end. h.faults ≡ faults_after end s.faults) → IfErr x (λ end. IsPartition r end)
+    → IfErr x (λ end. AreSharesAtStop r w end h)
+pick-ends r w i t s h takes lt turn here worker (Ok a) events faults there = tt
+pick-ends r w i t s h takes lt turn here worker (Err end) events faults there = pick-stopped r w i end t s h takes lt turn here worker events faults there

@@ -1,5 +1,5 @@
 -- Of the proofs alone: a worker within a turn, and as it closes.
-use Rattle.std.specs.Prelude.{◌≡◌, ◌<◌, ◌≤◌, ◌++◌, ◌∷◌, [], ℕ, true, false, All, List, length, Some, slice_get, take, if◌then◌else◌}
+use Rattle.std.specs.Prelude.{◌≡◌, ◌<◌, ◌≤◌, ◌++◌, ◌∷◌, [], ℕ, true, List, length, Some, slice_get, take, if◌then◌else◌}
 use Rattle.pipe_columns.specs.declared.data_chunk.DataChunk.{DataChunk}
 use Rattle.pipe_columns.specs.Row.{Row}
 use Rattle.pipe_model.specs.Rows.{chunk_rows}
@@ -53,11 +53,6 @@ pub record IsClosing (r : Run) (w p : ℕ) (t : Local) (s : SharesSeen) : Type 0
       (q : ℕ) → p ≤ q → q < r.limits.partitions
       → waiting_in q t.buffers
       ≡ spilled_all r.query (rest_of r.limits.buffer_size (overflow r w q))
-
--- the position of a turn, and its rows
-pub record TurnSeen : Type 0 where
-  pub position : ℕ
-  pub rows : List Row
 
 -- the event that an action asks for, if any, is next in the partition of the worker's pick
 abbrev pub IsNextPick : Run → SpillAction → SharesSeen → Type 0

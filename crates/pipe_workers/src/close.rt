@@ -36,10 +36,10 @@ fn send_rest<S: SpillStore + Drop, R: Naming, G: Gate, H: Wait>(
         return Ok(());
     };
     let global = shared.global;
-    match global.spill(rt, shared.gate, shares, partition, payload) {
-        Ok(()) => Ok(()),
-        Err(_) => Err(AllocError),
-    }
+    let Ok(()) = global.spill(rt, shared.gate, shares, partition, payload) else {
+        return Err(AllocError);
+    };
+    Ok(())
 }
 
 /// Sends what waits in each partition, in order.

@@ -13,12 +13,12 @@ use pipe_tables::AggHashTable;
 use std::alloc::AllocError;
 
 impl<'a, S: SpillStore + Drop, R: Naming, G: Gate> GenericGroupby2<'a, S, R, G> {
-    /// Why does a worker pause: its run ends here, and a longer one goes on. It takes no memory.
+    /// What the worker keeps until a longer run goes on, and its shares. It takes no memory.
     pub fn pause(self) -> (PausedWorker, Shares<R>)
-        ensures table { result.0.table ≡ self.table }
-        ensures turns { result.0.turns ≡ self.turns }
-        ensures picks { result.0.picks ≡ self.shares.picks }
-        ensures shares { result.1 ≡ self.shares }
+        ensures table { result.0.table ≡ self.entry.table }
+        ensures turns { result.0.turns ≡ self.entry.turns }
+        ensures picks { result.0.picks ≡ self.entry.shares.picks }
+        ensures shares { result.1 ≡ self.entry.shares }
     {
         let GenericGroupby2 {
             table,
@@ -57,8 +57,8 @@ impl<'a, S: SpillStore + Drop, R: Naming, G: Gate> GenericGroupby2<'a, S, R, G> 
 
     /// Gives the table of what is held, and the shares.
     pub fn finalize(self) -> (AggHashTable, Shares<R>)
-        ensures table { result.0 ≡ self.table.table }
-        ensures shares { result.1 ≡ self.shares }
+        ensures table { result.0 ≡ self.entry.table.table }
+        ensures shares { result.1 ≡ self.entry.shares }
     {
         let GenericGroupby2 { table, shares, .. } = self;
         (table.into_inner_map(), shares)

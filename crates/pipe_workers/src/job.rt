@@ -30,7 +30,7 @@ impl<'a, S: SpillStore + Drop, R: Naming, G: Gate> Model for Job<'a, S, R, G> {
 impl<'a, S: SpillStore + Drop, R: Naming, G: Gate> Job<'a, S, R, G> {
     /// A worker that hasn't stopped.
     pub fn new(worker: GenericGroupby2<'a, S, R, G>) -> Job<'a, S, R, G>
-        ensures { result ≡ record { worker = worker; end = None } }
+        ensures { result ≡ record { worker = worker.entry; end = None } }
     {
         Job {
             before: [0; 8],
@@ -42,8 +42,8 @@ impl<'a, S: SpillStore + Drop, R: Naming, G: Gate> Job<'a, S, R, G> {
 
     /// The worker, and why it stopped, if it did.
     pub fn into_parts(self) -> (GenericGroupby2<'a, S, R, G>, Option<WorkerStop>)
-        ensures worker { result.0 ≡ self.worker }
-        ensures end { result.1 ≡ self.end }
+        ensures worker { result.0 ≡ self.entry.worker }
+        ensures end { result.1 ≡ self.entry.end }
     {
         let Job { worker, end, .. } = self;
         (worker, end)

@@ -9,10 +9,9 @@ use crate::shared::Shared;
 use pipe_global::{Gate, Naming, Shares};
 use pipe_groups::encode_row;
 use pipe_inputs::ChunkRows;
-use pipe_spill::{SpillPayload, SpillStore};
+use pipe_spill::SpillStore;
 use pipe_tables::{LentLocalEnd, ThreadLocalTable};
 use std::alloc::AllocError;
-use std::marker::Model;
 use std::sync::Wait;
 
 /// The rows of a turn, and the position of its chunk.
@@ -20,14 +19,6 @@ use std::sync::Wait;
 pub(crate) struct TurnRows<'a> {
     pub(crate) position: usize,
     pub(crate) rows: ChunkRows<'a>,
-}
-
-impl<'a> Model for TurnRows<'a> {
-    ghost use Rattle.pipe_workers.specs.Steps.{TurnSeen};
-
-    ghost Value = { TurnSeen };
-
-    ghost view = { λ t. record { position = t.position; rows = t.rows } };
 }
 
 /// Takes a row of a turn: it is held, or waits, or leaves with those that waited before it.
@@ -62,10 +53,10 @@ pub(crate) fn take_row<S: SpillStore + Drop, R: Naming, G: Gate, H: Wait>(
         LentLocalEnd::Memory => Err(AllocError),
         LentLocalEnd::Payload(partition, payload) => {
             let global = shared.global;
-            match global.spill(rt, shared.gate, shares, partition, payload) {
-                Ok(()) => Ok(()),
-                Err(_) => Err(AllocError),
-            }
+            let Ok(()) = global.spill(rt, shared.gate, shares, partition, payload) else {
+                return Err(AllocError);
+            };
+            Ok(())
         }
     }
 }

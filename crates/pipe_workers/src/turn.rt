@@ -64,12 +64,13 @@ pub(crate) fn take_turn<S: SpillStore + Drop, R: Naming, G: Gate, H: Wait>(
         (λ end. AreSharesAtStop R.run shares.old.worker end shares.new) }
 {
     let _query = shared.query();
+    let _worker = shares.worker();
     if chunk.frame.height() == 0 {
         return Ok(());
     }
     let Ok(()) = take_rows(rt, shared, table, shares, key, position, chunk) else {
         return Err(WorkerStop::Memory);
     };
-    pick(rt, shared, shares, action)?;
-    Ok(())
+    let _worker = shares.worker();
+    pick(rt, shared, shares, action)
 }

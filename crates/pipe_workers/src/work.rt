@@ -96,16 +96,12 @@ pub fn work_round<
     R: Naming + Send + Sync,
     G: Gate + Sync,
     H: Threads + Wait + Sync,
->(
-    rt: &H,
-    mut jobs: Vec<Job<'a, S, R, G>>,
-    round: &Round<'_>,
-) -> Vec<Job<'a, S, R, G>>
+>(rt: &H, mut jobs: Vec<Job<'a, S, R, G>>, round: &Round<'_>) -> Vec<Job<'a, S, R, G>>
     requires some { 0 < vec_len jobs }
     requires round { IsRoundOf R.run round.now }
     requires ready { (k : ℕ) (d : _) → k < vec_len jobs
         → IsReady R.run k round.now.first (slice_index_or jobs.items k d).worker }
-    ensures len { vec_len result ≡ vec_len jobs }
+    ensures len { vec_len result ≡ vec_len jobs.entry }
     ensures ended { (k : ℕ) (d : _) → k < vec_len result
         → HasEnded R.run k (slice_index_or result.items k d) }
 {

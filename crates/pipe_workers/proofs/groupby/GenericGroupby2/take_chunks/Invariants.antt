@@ -1,6 +1,6 @@
 use Rattle.std.proofs.Common.{◌+◌}
 use Rattle.pipe_workers.specs.Turns.{IsReady}
-use Rattle.pipe_workers.proofs.work.GenericGroupby2.take_chunks.Given as goal
+use Rattle.pipe_workers.proofs.groupby.GenericGroupby2.take_chunks.Given as goal
 
 -- the worker has taken its turns before this chunk
 abbrev pub invariant-loop-number : goal.invariant-loop-number
