@@ -7,3 +7,6 @@ pub mod Keeping
 pub mod Beginning
 pub mod Closing
 pub mod ResumeFacts
+pub mod Gathered
+pub mod Finished
+pub mod ClosedFacts

@@ -139,3 +139,13 @@ joined-more payloads i p lt is =
     ap joined_rows (take_more payloads i p lt ∙ ap (λ (x : Payload). take i payloads ++ x ∷ []) (sym is))
     ∙ flat_map-append (λ (x : Payload). x.rows) (take i payloads) (p ∷ [])
     ∙ ap (λ (l : List SpillRow). joined_rows (take i payloads) ++ l) (append-nil p.rows)
+
+-- rows that are moved in behind room for them
+pub took-after : (t now new : Table) (rows : List SpillRow) → HoldsSame t now → TookRows now new rows → TookRows t new rows
+took-after t now new rows same took = record {
+  shape = (took.shape.0 ∙ same.shape.0, took.shape.1 ∙ same.shape.1);
+  holds = λ held h.
+      let P : Shape → Type 0 = λ s. (held : List SpillRow) → Holds s.prototypes now.groups held → Holds s.prototypes new.groups (held ++ rows) in
+      let step : P t.shape = subst P same.shape.0 took.holds in
+      step held (holds-same t.shape.prototypes t.groups now.groups held same.held h);
+}

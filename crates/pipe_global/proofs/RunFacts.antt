@@ -1,9 +1,9 @@
 -- What a run gives the replay of a journal: rows of its types, few of them, and few frames.
-use Rattle.std.proofs.Common.{◌≡◌, ◌∙◌, ◌+◌, ◌≤◌, ◌<◌, ◌%◌, ℕ, zero, suc, Bool, true, false, not, List, [], ◌∷◌, ◌++◌, length, take, refl, sym, ap, subst, arith, length-append}
+use Rattle.std.proofs.Common.{◌≡◌, ◌∙◌, ◌+◌, ◌≤◌, ◌<◌, ◌%◌, ◌==◌, ℕ, zero, suc, Bool, true, false, not, List, [], ◌∷◌, ◌++◌, length, take, refl, sym, ap, subst, arith, length-append}
 use Rattle.std.specs.Prelude.{if◌then◌else◌, nat_lt}
 use Rattle.std.specs.List.{All, count_by, filter, slice_index_or}
 use Rattle.std.proofs.lemmas.List.{append-nil}
-use Rattle.std.proofs.lemmas.List.Elements.{All-append, All-filter, All-nil}
+use Rattle.std.proofs.lemmas.List.Elements.{All-append, All-cons, All-filter, All-nil}
 use Rattle.std.proofs.lemmas.List.Filters.{length-filter_both}
 use Rattle.std.proofs.Math.Nat.{mod-lt}
 use Rattle.pipe_columns.specs.Pieces.{pieces}
@@ -11,7 +11,8 @@ use Rattle.pipe_columns.specs.Row.{Row}
 use Rattle.pipe_plan.specs.declared.event.PartitionEvent.{PartitionEvent}
 use Rattle.pipe_plan.specs.declared.event.PartitionEvent.TheVariants as event
 use Rattle.pipe_plan.specs.Journals.{AreOfWorkers}
-use Rattle.pipe_plan.specs.Overflow.{overflow, overflows}
+use Rattle.pipe_plan.specs.Kept.{is_kept}
+use Rattle.pipe_plan.specs.Overflow.{overflow, overflows, partition_of}
 use Rattle.pipe_plan.specs.Payloads.{full_pieces, payloads, rest_of}
 use Rattle.pipe_plan.specs.Replay.{after_event, arrivals, events_by, joined_lists, next_piece, nothing_yet, replay, replay_from, Replayed}
 use Rattle.pipe_plan.specs.Rounds.{IsFront}
@@ -54,12 +55,11 @@ pub record Each (P : Row → Type 0) (s : Replayed) : Type 0 where
   pub waiting : All P (joined_lists s.waiting)
   pub frames : All P (joined_lists s.frames)
 
-module _ (P : Row → Type 0) (r : Run) (p : ℕ) (some : 0 < r.limits.buffer_size) (all : All P (all_rows r)) where
+module _ (P : Row → Type 0) (r : Run) (p : ℕ) (some : 0 < r.limits.buffer_size) (sent : (w : ℕ) → All P (overflow r w p)) where
   next-each : (w : ℕ) (made : List PartitionEvent) → All P (next_piece r w p made)
   next-each w made =
       let front = payloads-front r w p some in
-      let sent : All P (overflow r w p) = All-filter (overflows r w p) P (of_worker r w) (All-filter (λ x. is_turn_of r w x.place.chunk) P (all_rows r) all) in
-      all-piece P (payloads r w p) (arrivals made) (all-left P (joined_lists (payloads r w p)) front.rest (subst (All P) front.is sent))
+      all-piece P (payloads r w p) (arrivals made) (all-left P (joined_lists (payloads r w p)) front.rest (subst (All P) front.is (sent w)))
 
   dump-each : (s : Replayed) (b : Bool) → Each P s → Each P (if b then record s { frames = s.frames ++ joined_lists s.waiting ∷ []; waiting = [] } else s)
   dump-each s true each = record { merged = each.merged; waiting = All-nil P; frames = all-push P s.frames (joined_lists s.waiting) each.frames each.waiting }
@@ -78,9 +78,28 @@ module _ (P : Row → Type 0) (r : Run) (p : ℕ) (some : 0 < r.limits.buffer_si
   events-each before s [] each = each
   events-each before s (e ∷ events) each = events-each (before ++ e ∷ []) (after_event r p before s e) events (event-each before s e each)
 
-  -- each row of a replay has what each row of the run has
-  pub replay-each : (journal : List PartitionEvent) → Each P (replay r p journal)
-  replay-each journal = events-each [] nothing_yet journal (record { merged = All-nil P; waiting = All-nil P; frames = All-nil P })
+  -- each row of a replay has what each row that workers send has
+  sent-each : (journal : List PartitionEvent) → Each P (replay r p journal)
+  sent-each journal = events-each [] nothing_yet journal (record { merged = All-nil P; waiting = All-nil P; frames = All-nil P })
+
+-- it has what each row of the run has
+pub replay-each : (P : Row → Type 0) (r : Run) (p : ℕ) → 0 < r.limits.buffer_size → All P (all_rows r) → (journal : List PartitionEvent) → Each P (replay r p journal)
+replay-each P r p some all =
+    sent-each P r p some (λ w. All-filter (overflows r w p) P (of_worker r w) (All-filter (λ x. is_turn_of r w x.place.chunk) P (all_rows r) all))
+
+-- and its key lies in the partition
+pub lies-each : (r : Run) (p : ℕ) → 0 < r.limits.buffer_size → (journal : List PartitionEvent) → Each (λ x. (partition_of r x == p) ≡ true) (replay r p journal)
+lies-each r p some = sent-each P r p some (λ w. lie w (of_worker r w)) where
+  P : Row → Type 0
+  P x = (partition_of r x == p) ≡ true
+
+  lie : (w : ℕ) (rows : List Row) → All P (filter (overflows r w p) rows)
+  lie w [] = All-nil P
+  lie w (x ∷ rows) = by (partition_of r x == p) (not (is_kept r w x)) refl refl (lie w rows) where
+    by : (a b : Bool) → (partition_of r x == p) ≡ a → not (is_kept r w x) ≡ b → All P (filter (overflows r w p) rows) → All P (filter (overflows r w p) (x ∷ rows))
+    by true true ea eb rest = rw (ea, eb) (All-cons P x (filter (overflows r w p) rows) ea rest)
+    by true false ea eb rest = rw (ea, eb) rest
+    by false b ea eb rest = rw ea rest
 
 -- ---- few rows
 

@@ -8,3 +8,4 @@ pub mod Closed
 pub mod Opening
 pub mod Finishing
 pub mod Resuming
+pub mod Gathering

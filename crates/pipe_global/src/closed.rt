@@ -1,6 +1,7 @@
 //! Partitions out of their locks.
 
 ghost use Rattle.std.specs.Prelude.{◌≡◌};
+ghost use Rattle.pipe_spill.specs.Store.{HasHeld};
 
 use crate::contents::Contents;
 use crate::journal::Journal;
@@ -24,7 +25,8 @@ impl<S: SpillStore + Drop> Model for ClosedPartition<S> {
 impl<S: SpillStore + Drop> ClosedPartition<S> {
     /// Its events.
     pub fn journal(&self) -> &Journal
-        ensures { result.now ≡ self.now.journal }
+        ensures is { result.now ≡ self.now.journal }
+        ensures tells_all { HasHeld self.now.store.told self.now.store.held }
     {
         self.contents.journal()
     }

@@ -3,6 +3,7 @@
 ghost use Rattle.std.specs.Prelude.{◌≡◌, ◌+◌, ◌-◌, ◌<◌, ◌^◌, All, IfErr, None, OnErr, OnOk, length, slice_index_or, true};
 ghost use Rattle.pipe_columns.specs.Causes.{Rose};
 ghost use Rattle.pipe_spill.specs.SpillRow.{HaveInputs, joined_rows};
+ghost use Rattle.pipe_spill.specs.Store.{HasHeld};
 ghost use Rattle.pipe_global.specs.Partition.{new_partition};
 ghost use Rattle.pipe_global.specs.Moving.{CanMerge};
 ghost use Rattle.pipe_global.specs.Steps.{IsDumped, IsMerged, with_payload};
@@ -23,12 +24,12 @@ use std::marker::Model;
 /// What a partition holds. Its store is seen as a run finds one.
 #[derive(Drop)]
 pub(crate) struct Contents<S: SpillStore + Drop> {
-    number: usize,
-    partitions: usize,
-    table: AggHashTable,
-    waiting: Vec<SpillPayload>,
-    store: S,
-    marks: Vec<Mark>,
+    pub(crate) number: usize,
+    pub(crate) partitions: usize,
+    pub(crate) table: AggHashTable,
+    pub(crate) waiting: Vec<SpillPayload>,
+    pub(crate) store: S,
+    pub(crate) marks: Vec<Mark>,
     journal: Journal,
     book: Vec<u64>,
     arrived: u64,
@@ -107,7 +108,8 @@ impl<S: SpillStore + Drop> Contents<S> {
 
     /// The events so far.
     pub(crate) fn journal(&self) -> &Journal
-        ensures { result.now ≡ self.now.journal }
+        ensures is { result.now ≡ self.now.journal }
+        ensures tells_all { HasHeld self.now.store.told self.now.store.held }
     {
         &self.journal
     }

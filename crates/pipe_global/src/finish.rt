@@ -39,7 +39,14 @@ impl<S: SpillStore + Drop> ClosedPartition<S> {
         ensures slice_err { OnErr result (slice.new ≡ slice.old) }
         ensures cause { IfErr result (λ e. IsCause self.old self.new e) }
     {
-        Err(BatchError::Memory)
+        match self.contents.prepare(alloc, local) {
+            Ok(()) => {}
+            Err(error) => return Err(error),
+        }
+        let Ok(frame) = self.contents.give(slice) else {
+            return Err(BatchError::Memory);
+        };
+        Ok(frame)
     }
 
     /// The same of all groups, each with the least place of its rows.
@@ -61,6 +68,13 @@ impl<S: SpillStore + Drop> ClosedPartition<S> {
         ensures together { OnErr result (StandTogether self.old self.new local.old local.new) }
         ensures cause { IfErr result (λ e. IsCause self.old self.new e) }
     {
-        Err(BatchError::Memory)
+        match self.contents.prepare(alloc, local) {
+            Ok(()) => {}
+            Err(error) => return Err(error),
+        }
+        let Ok(placed) = self.contents.give_placed() else {
+            return Err(BatchError::Memory);
+        };
+        Ok(placed)
     }
 }

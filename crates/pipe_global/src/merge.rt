@@ -36,8 +36,17 @@ fn put_row(table: &mut AggHashTable, row: SpillRow)
     }
 }
 
+/// Takes room for the keys of rows.
+pub(crate) fn reserve_rows(table: &mut AggHashTable, rows: &[SpillRow]) -> Result<(), AllocError>
+    ensures same { HoldsSame table.old table.new }
+    ensures covered { OnOk result (AreCovered table.new.groups rows.now) }
+{
+    table.reserve(rows)?;
+    Ok(())
+}
+
 /// Moves rows in, for whose keys there is room.
-fn put_rows(table: &mut AggHashTable, rows: Vec<SpillRow>)
+pub(crate) fn put_rows(table: &mut AggHashTable, rows: Vec<SpillRow>)
     requires { CanTake table.old rows.items }
     ensures taken { TookRows table.old table.new rows.items }
     ensures covered { KeepsCovered table.old.groups table.new.groups }

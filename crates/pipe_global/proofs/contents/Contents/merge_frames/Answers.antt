@@ -1,0 +1,16 @@
+use Rattle.std.proofs.Common.{◌∙◌, arith}
+use Rattle.pipe_global.proofs.Gathered.{gathered-more}
+use Rattle.pipe_global.proofs.contents.Contents.merge_frames.Goals as goal
+
+pub merge_last-requires-clause-can : goal.merge_last-requires-clause-can
+merge_last-requires-clause-can g c = c.loop-turn.invariant.0.gathers 0 c.requires
+
+pub returns-in-Err-clause-gathered : goal.returns-in-Err-clause-gathered
+returns-in-Err-clause-gathered g c = gathered-more c.args.self.now c.loop-turn.self c.merge_last.new.self c.loop-turn.invariant.0 c.merge_last.ensures.gathered
+
+pub loop-turn-preserved : goal.loop-turn-preserved
+loop-turn-preserved g c = (
+  gathered-more c.args.self.now c.loop-turn.self c.merge_last.new.self c.loop-turn.invariant.0 c.merge_last.ensures.gathered,
+  c.merge_last.ensures.waiting ∙ c.loop-turn.invariant.1,
+  omega (arith, c.in-Ok.ensures.marks, c.loop-turn.invariant.2),
+)
