@@ -1,9 +1,9 @@
 #!/usr/bin/env python3
 """Refuses each allocation of the memory tests in turn, and says what each run ended with.
 
-usage: scripts/refuse_allocations.py [--jobs N] [CRATE..], where the crates are those with a file src/memory_tests.rt if none is named.
+usage: scripts/refuse_allocations.py [--jobs N] [CRATE..], where the crates are those with a file src/memory_tests.rt or src/plan_tests.rt if none is named.
 `rt try --test --fail-alloc N` builds a crate's tests without a proof and refuses the allocation of number N in each of them. A test of memory_tests
-may then end with the right answer, with an error that says that the call `wants memory`, or with one of an allocation that prepared the call; another answer fails the script.
+or plan_tests may then end with the right answer, with an error that says that the call `wants memory`, or with one of an allocation that prepared the call; another answer fails the script.
 A crate is done where every test gave the right answer in so many runs on end as ENOUGH says: the allocations are then behind us.
 """
 
@@ -17,7 +17,7 @@ ROOT = os.path.dirname(os.path.dirname(os.path.abspath(__file__)))
 MOST = 500
 ENOUGH = 6
 RIGHT, WANT, PREPARED = "the right answer", "want of memory", "want of memory before the call"
-TEST = re.compile(r"^test memory_tests::(\w+) \.\.\. (\w+)\n((?:    .*\n)*)", re.M)
+TEST = re.compile(r"^test (?:memory|plan)_tests::(\w+) \.\.\. (\w+)\n((?:    .*\n)*)", re.M)
 
 
 def ended(verdict, told):
@@ -83,7 +83,7 @@ def main():
     if words[:1] == ["--jobs"]:
         jobs, words = int(words[1]), words[2:]
     crates = os.path.join(ROOT, "crates")
-    named = words or sorted(c for c in os.listdir(crates) if os.path.exists(os.path.join(crates, c, "src/memory_tests.rt")))
+    named = words or sorted(c for c in os.listdir(crates) if any(os.path.exists(os.path.join(crates, c, "src", it)) for it in ("memory_tests.rt", "plan_tests.rt")))
     wrong = sum(try_crate(crate, jobs) for crate in named)
     print(f"refuse_allocations: {len(named)} crates, {wrong} answers that are neither right nor want of memory", file=sys.stderr)
     return 1 if wrong else 0

@@ -10,3 +10,4 @@ pub mod ResumeFacts
 pub mod Gathered
 pub mod Finished
 pub mod ClosedFacts
+pub mod WorkedFacts

@@ -40,7 +40,7 @@ length-events r journal ours =
     ∙ count-all (λ e. true) journal (λ front back e is. refl)
 
 -- a journal is as long as the book adds up to
-length-book : (r : Run) (p : ℕ) (s : PartitionSeen) → IsReplayed r p s → sum_to r.limits.workers (λ w. slice_index_or s.book w 0) ≡ length s.journal
+pub length-book : (r : Run) (p : ℕ) (s : PartitionSeen) → IsReplayed r p s → sum_to r.limits.workers (λ w. slice_index_or s.book w 0) ≡ length s.journal
 length-book r p s at = sum_to-same r.limits.workers _ _ (λ w lt. at.book w lt) ∙ length-events r s.journal at.journal.workers
 
 -- by worker there are as many as by partition

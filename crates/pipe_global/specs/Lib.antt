@@ -9,3 +9,4 @@ pub mod Opening
 pub mod Finishing
 pub mod Resuming
 pub mod Gathering
+pub mod WorkedTables

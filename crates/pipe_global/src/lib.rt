@@ -21,10 +21,14 @@ mod open_table;
 mod partition;
 mod partition_ends;
 mod place;
+#[cfg(test)]
+mod plan_tests;
 mod put;
 mod read_own;
 mod ready;
 mod resume;
+#[cfg(test)]
+mod rounds_tests;
 mod shares;
 mod tally;
 
