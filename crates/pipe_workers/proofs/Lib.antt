@@ -9,3 +9,4 @@ pub mod Bounds
 pub mod RowEnds
 pub mod Answering
 pub mod Sinking
+pub mod Runs

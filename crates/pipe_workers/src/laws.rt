@@ -1,14 +1,28 @@
-//! Laws of workers: which chunk is the next turn, what stays in longer runs, and how much a local
-//! table holds.
+//! Laws of workers: in which runs they take turns, which chunk is the next turn, what stays in longer
+//! runs, and how much a local table holds.
 
-ghost use Rattle.std.specs.Prelude.{◌≡◌, ◌+◌, ◌<◌, ◌≤◌, ℕ, false, length, true, All};
+ghost use Rattle.std.specs.Prelude.{◌≡◌, ◌+◌, ◌<◌, ◌≤◌, ◌^◌, ℕ, false, length, true, All};
+ghost use Rattle.pipe_aggs.specs.CheckedQuery.{IsSound};
+ghost use Rattle.pipe_aggs.specs.QueryTrees.{query_tree};
+ghost use Rattle.pipe_aggs.specs.declared.query.Query.{Query};
+ghost use Rattle.pipe_model.specs.Groupable.{IsGroupable};
+ghost use Rattle.pipe_model.specs.Rows.{AreChunksOf};
 ghost use Rattle.pipe_plan.specs.Rounds.{GoesOn};
-ghost use Rattle.pipe_plan.specs.Run.{is_turn_of, Run};
+ghost use Rattle.pipe_plan.specs.Run.{AreLimits, is_generic, is_turn_of, Run};
 ghost use Rattle.pipe_groups.specs.Groups.{count_held};
 ghost use Rattle.pipe_tables.specs.LocalTable.{Local};
 ghost use Rattle.pipe_global.specs.Shares.{SharesSeen};
 ghost use Rattle.pipe_workers.specs.Turns.{IsAfterTurns, IsReady};
 ghost use Rattle.pipe_workers.specs.Workers.{next_position, TakesTurns, WorkerSeen};
+
+/// The workers of a run take turns where its query has no fault and may be asked of its chunks, its
+/// limits are limits, and each partition has a store with numbers left.
+pub fn runs_that_take_turns()
+    ensures { (q : Query) (r : Run) → IsSound q → IsGroupable (query_tree q)
+        → r.query ≡ query_tree q → AreLimits r.limits → is_generic r.limits.sink ≡ true
+        → AreChunksOf r.query r.chunks → length r.stores ≡ r.limits.partitions
+        → All (λ s. s.held < 2 ^ 63) r.stores → TakesTurns r }
+{}
 
 /// A worker that comes to a turn of its own has it as its next; another worker's chunk it passes.
 pub fn turns_of_a_worker()
