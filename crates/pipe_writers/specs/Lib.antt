@@ -1,0 +1,6 @@
+pub mod Rows
+pub mod JsonText
+pub mod CsvLines
+pub mod WriteOrder
+pub mod Kept
+pub mod Worked
