@@ -1,1 +1,2 @@
 pub mod SortFacts
+pub mod KeptFacts

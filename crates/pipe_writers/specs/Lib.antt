@@ -4,3 +4,4 @@ pub mod CsvLines
 pub mod WriteOrder
 pub mod Kept
 pub mod Worked
+pub mod KeptFields

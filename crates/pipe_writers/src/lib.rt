@@ -3,4 +3,7 @@
 #![tactic(auto)]
 
 mod chunk_order;
+mod kept_chunks;
+mod schema_copy;
+mod stack;
 mod worked;
