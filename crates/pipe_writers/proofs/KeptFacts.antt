@@ -87,17 +87,36 @@ kept-removed (x ∷ xs) (y ∷ ys) d h g some more is rows =
     let without : has_rows y ≡ false = rows-none y (ap (λ (c : DataChunk). c.frame.height) (sym same) ∙ rows) in
     removed x (x ∷ xs) ys y ∙ sym (joined-kept x xs y ys h g ∙ rw without refl)
 
+rows-twice : (cs : List DataChunk) → with_rows (with_rows cs) ≡ with_rows cs
+rows-twice [] = refl
+rows-twice (c ∷ cs) = elim (cases_Bool (has_rows c)) [
+  | inl some ↦ rw (with-rows-kept c cs some, with-rows-kept c (with_rows cs) some) (ap (λ (t : List DataChunk). c ∷ t) (rows-twice cs))
+  | inr none ↦ rw (with-rows-dropped c cs none) (rows-twice cs)
+]
+
 -- what is kept is kept again
 pub kept-kept : (cs : List DataChunk) → kept (kept cs) ≡ kept cs
 kept-kept [] = refl
-kept-kept (c ∷ cs) = ap (λ (t : List DataChunk). c ∷ t) (twice cs)
-  where
-  twice : (xs : List DataChunk) → with_rows (with_rows xs) ≡ with_rows xs
-  twice [] = refl
-  twice (x ∷ xs) = elim (cases_Bool (has_rows x)) [
-    | inl some ↦ rw (with-rows-kept x xs some, with-rows-kept x (with_rows xs) some) (ap (λ (t : List DataChunk). x ∷ t) (twice xs))
-    | inr none ↦ rw (with-rows-dropped x xs none) (twice xs)
-  ]
+kept-kept (c ∷ cs) = ap (λ (t : List DataChunk). c ∷ t) (rows-twice cs)
+
+-- what is kept of lists of which each was kept before
+kept-joined : (xs ys : List DataChunk) → kept (kept xs ++ kept ys) ≡ kept (xs ++ ys)
+kept-joined [] ys = kept-kept ys
+kept-joined (x ∷ xs) [] = ap kept (append-nil (kept (x ∷ xs))) ∙ kept-kept (x ∷ xs) ∙ ap kept (sym (append-nil (x ∷ xs)))
+kept-joined (x ∷ xs) (y ∷ ys) =
+    let front : with_rows (with_rows xs) ≡ with_rows xs = rows-twice xs in
+    let back : with_rows (y ∷ with_rows ys) ≡ with_rows (y ∷ ys) = ap (λ (t : List DataChunk). cond (has_rows y) (y ∷ t) t) (rows-twice ys) in
+    ap (λ (t : List DataChunk). x ∷ t)
+    (filter-append has_rows (with_rows xs) (y ∷ with_rows ys) ∙ ap₂ (λ (s t : List DataChunk). s ++ t) front back ∙ sym (filter-append has_rows xs (y ∷ ys)))
+
+-- what stands for chunks, and takes over what stands for others
+pub stands-over : (a b new cs ds : List DataChunk) → new ≡ kept (a ++ b) → a ≡ kept cs → b ≡ kept ds → new ≡ kept (cs ++ ds)
+stands-over a b new cs ds is here there =
+    is ∙ ap₂ (λ (s t : List DataChunk). kept (s ++ t)) here there ∙ kept-joined cs ds
+
+-- what stands for chunks, and takes one more
+pub stands-more : (a new cs : List DataChunk) (c : DataChunk) → new ≡ kept (a ++ c ∷ []) → a ≡ kept cs → new ≡ kept (cs ++ c ∷ [])
+stands-more a new cs c is here = stands-over a (c ∷ []) new cs (c ∷ []) is here refl
 
 -- how many rows are kept
 abbrev height_of : DataChunk → ℕ

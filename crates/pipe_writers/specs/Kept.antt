@@ -68,7 +68,10 @@ pub record Stacks (first frame : FrameData) : Type 0 where
 abbrev pub StacksOn : Option FrameData → FrameData → Type 0
 StacksOn before frame = IfSome before (λ first. Stacks first frame)
 
--- whether a slice needs no more: so many rows were there before one more chunk was kept
+-- whether chunks have more rows than a slice reaches over
+abbrev pub is_past : ℕ → ℕ → List DataChunk → Bool
+is_past offset len chunks = nat_lt (offset + len) (row_count chunks)
+
+-- whether one more chunk is kept where a slice needed no more
 abbrev pub is_beyond : ℕ → ℕ → List DataChunk → DataChunk → Bool
-is_beyond offset len chunks chunk =
-    is_kept chunks chunk && nat_lt (offset + len) (row_count chunks)
+is_beyond offset len chunks chunk = is_kept chunks chunk && is_past offset len chunks

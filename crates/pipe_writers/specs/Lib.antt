@@ -5,3 +5,4 @@ pub mod WriteOrder
 pub mod Kept
 pub mod Worked
 pub mod KeptFields
+pub mod Vstacker

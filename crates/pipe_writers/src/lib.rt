@@ -4,6 +4,13 @@
 
 mod chunk_order;
 mod kept_chunks;
+mod ordered_sink;
 mod schema_copy;
+mod slice_sink;
 mod stack;
+mod vstacker;
 mod worked;
+
+pub use ordered_sink::OrderedSink;
+pub use slice_sink::SliceSink;
+pub use vstacker::StreamingVstacker;
