@@ -1,2 +1,3 @@
 pub mod SortFacts
 pub mod KeptFacts
+pub mod LineFacts

@@ -6,3 +6,5 @@ pub mod Kept
 pub mod Worked
 pub mod KeptFields
 pub mod Vstacker
+pub mod Writers
+pub mod LinesAdded

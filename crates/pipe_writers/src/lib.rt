@@ -4,13 +4,19 @@
 
 mod chunk_order;
 mod kept_chunks;
+mod line_writer;
+mod lines;
 mod ordered_sink;
 mod schema_copy;
+mod sink_writer;
 mod slice_sink;
 mod stack;
 mod vstacker;
 mod worked;
+mod write_error;
 
 pub use ordered_sink::OrderedSink;
+pub use sink_writer::{SinkWriter, WriterCalls};
 pub use slice_sink::SliceSink;
 pub use vstacker::StreamingVstacker;
+pub use write_error::WriteError;

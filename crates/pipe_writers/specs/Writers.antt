@@ -1,0 +1,60 @@
+-- What writers of rows have written.
+use Rattle.std.specs.Prelude.{◌≡◌, ℕ, List, [], ◌++◌, ◌||◌, Bool, true, false, Option, IfSome, flat_map, take, if◌then◌else◌}
+use Rattle.pipe_columns.specs.declared.schema.Field.{Field}
+use Rattle.pipe_writers.specs.declared.sink_writer.WriterCalls.{WriterCalls}
+use Rattle.pipe_writers.specs.Rows.{Row}
+
+-- before any call
+abbrev pub no_calls : WriterCalls
+no_calls = record { begun = false; refused = false; finished = false }
+
+-- after a batch, which may have been refused
+abbrev pub after_batch : Bool → WriterCalls → WriterCalls
+after_batch refused c = record c { begun = true; refused = c.refused || refused }
+
+-- after the finish, which may have been refused
+abbrev pub after_finish : Bool → WriterCalls → WriterCalls
+after_finish refused c = record c { refused = c.refused || refused; finished = true }
+
+-- a writer takes calls: none was refused, and it wasn't finished
+pub record IsOpen (c : WriterCalls) : Type 0 where
+  pub unrefused : c.refused ≡ false
+  pub unfinished : c.finished ≡ false
+
+-- a writer of which nothing was called
+pub record IsFresh (c : WriterCalls) : Type 0 where
+  pub begun : c.begun ≡ false
+  pub unrefused : c.refused ≡ false
+  pub unfinished : c.finished ≡ false
+
+-- where the output tells, it tells some bytes and then these
+abbrev pub TellsAfter : Option (List ℕ) → List ℕ → List ℕ → Type 0
+TellsAfter told since bytes = IfSome told (λ all. all ≡ since ++ bytes)
+
+-- where the output tells, it tells some bytes and then a front of these
+abbrev pub TellsFront : Option (List ℕ) → List ℕ → List ℕ → Type 0
+TellsFront told since bytes = (n : ℕ) × TellsAfter told since (take n bytes)
+
+-- how a writer writes rows: a text in front, and a line for each row
+pub record LineText : Type 0 where
+  pub fields : List Field
+  pub head : List ℕ
+  pub line : Row → List ℕ
+
+-- the text of rows
+abbrev pub text_of_lines : LineText → List Row → List ℕ
+text_of_lines t rows = t.head ++ flat_map t.line rows
+
+-- whether a writer has put out its text so far: after any call
+abbrev pub has_begun : WriterCalls → Bool
+has_begun c = c.begun || c.finished
+
+-- what a writer of lines has put out of rows since some bytes: nothing before the first call, the
+-- whole text while no call was refused, and else a front of it
+abbrev pub HasPutOut : Option (List ℕ) → WriterCalls → LineText → List Row → List ℕ → Type 0
+HasPutOut told c t rows since = PutOutBy (has_begun c) c.refused
+  where
+  PutOutBy : Bool → Bool → Type 0
+  PutOutBy false refused = (rows ≡ []) × TellsAfter told since []
+  PutOutBy true false = TellsAfter told since (text_of_lines t rows)
+  PutOutBy true true = TellsFront told since (text_of_lines t rows)
