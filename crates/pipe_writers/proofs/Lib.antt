@@ -1,3 +1,4 @@
 pub mod SortFacts
 pub mod KeptFacts
 pub mod LineFacts
+pub mod WriterFacts

@@ -8,3 +8,5 @@ pub mod KeptFields
 pub mod Vstacker
 pub mod Writers
 pub mod LinesAdded
+pub mod WriterLaws
+pub mod CsvWritten

@@ -45,16 +45,21 @@ pub record LineText : Type 0 where
 abbrev pub text_of_lines : LineText → List Row → List ℕ
 text_of_lines t rows = t.head ++ flat_map t.line rows
 
--- whether a writer has put out its text so far: after any call
+-- whether a writer has put out its text so far: after its first call
 abbrev pub has_begun : WriterCalls → Bool
 has_begun c = c.begun || c.finished
 
--- what a writer of lines has put out of rows since some bytes: nothing before the first call, the
--- whole text while no call was refused, and else a front of it
+-- what a writer of lines has put out of rows since some bytes, by whether it had a call and whether
+-- one was refused: nothing before the first call, then the whole text, or a front of it
+abbrev pub PutOutBy : Bool → Bool → Option (List ℕ) → LineText → List Row → List ℕ → Type 0
+PutOutBy false refused told t rows since = (rows ≡ []) × TellsAfter told since []
+PutOutBy true false told t rows since = TellsAfter told since (text_of_lines t rows)
+PutOutBy true true told t rows since = TellsFront told since (text_of_lines t rows)
+
+-- the same by the calls that it had
 abbrev pub HasPutOut : Option (List ℕ) → WriterCalls → LineText → List Row → List ℕ → Type 0
-HasPutOut told c t rows since = PutOutBy (has_begun c) c.refused
-  where
-  PutOutBy : Bool → Bool → Type 0
-  PutOutBy false refused = (rows ≡ []) × TellsAfter told since []
-  PutOutBy true false = TellsAfter told since (text_of_lines t rows)
-  PutOutBy true true = TellsFront told since (text_of_lines t rows)
+HasPutOut told c t rows since = PutOutBy (has_begun c) c.refused told t rows since
+
+-- the text in front, where it wasn't written yet
+abbrev pub head_due : Bool → LineText → List ℕ
+head_due begun t = if begun then [] else t.head

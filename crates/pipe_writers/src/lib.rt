@@ -3,6 +3,8 @@
 #![tactic(auto)]
 
 mod chunk_order;
+mod csv_lines;
+mod csv_record;
 mod kept_chunks;
 mod line_writer;
 mod lines;
