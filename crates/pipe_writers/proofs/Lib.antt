@@ -2,3 +2,4 @@ pub mod SortFacts
 pub mod KeptFacts
 pub mod LineFacts
 pub mod WriterFacts
+pub mod CsvFacts
