@@ -12,7 +12,7 @@ use Rattle.pipe_writers.specs.CsvLines.{csv_line}
 use Rattle.pipe_writers.specs.CsvWritten.{WroteLines}
 use Rattle.pipe_writers.specs.LinesAdded.{GoesOn}
 use Rattle.pipe_writers.specs.Rows.{Row, rows_of}
-use Rattle.pipe_writers.proofs.LineFacts.{length-rows}
+use Rattle.pipe_writers.proofs.LineFacts.{goes_on}
 
 -- a writer as it begins behind a text
 pub begun : (writer : TextWriter) (text : List ℕ) → (writer_under writer).items ≡ text → writer_pending writer ≡ []
@@ -34,24 +34,6 @@ taken_out (Some a) (Some b) text items is keeps same =
     let e : b ≡ items = cc in
     let f : a ≡ text ++ [] = cc in
     sym e ∙ keeps ∙ f ∙ append-nil text
-
-module _ (line : Row → List ℕ) where
-  -- no line more
-  pub goes_nowhere : (rows : List Row) (from : ℕ) (old : List ℕ) → GoesOn line rows from from old old
-  goes_nowhere rows from old sent head e = e
-
-  -- one line more
-  pub goes_on : (f : FrameData) (from to : ℕ) (old now : List ℕ) → to < f.height → GoesOn line (rows_of f) from to old now
-      → GoesOn line (rows_of f) from (to + 1) old (now ++ line (row_at f.columns to))
-  goes_on f from to old now within g sent head e =
-      let rows = rows_of f in
-      let row = row_at f.columns to in
-      let long = length-rows f in
-      let at : get_or rows to row ≡ row = get_or-map-range_with_len (row_at f.columns) 0 f.height to to row within (omega arith) in
-      let more : take (to + 1) rows ≡ take to rows ++ row ∷ [] = take_more rows to row (omega (arith, long, within)) ∙ ap (λ (r : Row). take to rows ++ r ∷ []) at in
-      let last : flat_map line (row ∷ []) ≡ line row = append-nil (line row) in
-      sym (append_assoc sent now (line row)) ∙ ap (λ bs. bs ++ line row) (g sent head e) ∙ append_assoc head (flat_map line (take to rows)) (line row)
-      ∙ ap (λ bs. head ++ bs) (sym (ap (flat_map line) more ∙ flat_map-append line (take to rows) (row ∷ []) ∙ ap (λ bs. flat_map line (take to rows) ++ bs) last))
 
 -- a record more
 pub one_line_more : (f : FrameData) (from to : ℕ) (old : List ℕ) (before after : TextWriter) → to < f.height → WroteLines (rows_of f) from to old before

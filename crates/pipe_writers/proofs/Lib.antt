@@ -3,3 +3,4 @@ pub mod KeptFacts
 pub mod LineFacts
 pub mod WriterFacts
 pub mod CsvFacts
+pub mod JsonFacts

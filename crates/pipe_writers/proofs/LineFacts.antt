@@ -1,5 +1,5 @@
 -- Lines of rows that are sent piece by piece.
-use Rattle.std.proofs.Common.{◌≡◌, ◌∙◌, ◌+◌, ◌<◌, ◌≤◌, ℕ, List, [], ◌∷◌, ◌++◌, Option, None, Some, length, take, drop, refl, sym, ap, subst, flat_map, append_assoc, append-nil, take-append-drop, take_all, arith}
+use Rattle.std.proofs.Common.{◌≡◌, ◌∙◌, ◌+◌, ◌<◌, ◌≤◌, ℕ, List, [], ◌∷◌, ◌++◌, Option, None, Some, length, take, drop, refl, sym, ap, subst, flat_map, get_or, append_assoc, append-nil, take-append-drop, take_all, arith}
 use Rattle.std.proofs.Math.Seq.{take-append_seam}
 use Rattle.std.proofs.KnownBytes.{Appends-trans}
 use Rattle.std.proofs.lemmas.Grind.{flat_map-append}
@@ -8,7 +8,8 @@ use Rattle.pipe_io.specs.Output.{WroteFront}
 use Rattle.std.proofs.Common.{Result, Ok, Err, OnErr, map}
 use Rattle.std.specs.List.{range_with_len}
 use Rattle.std.proofs.lemmas.List.{length-map}
-use Rattle.std.proofs.lemmas.List.FromFn.{length-range_with_len}
+use Rattle.std.proofs.lemmas.List.{take_more}
+use Rattle.std.proofs.lemmas.List.FromFn.{get_or-map-range_with_len, length-range_with_len}
 use Rattle.pipe_columns.specs.Frame.{FrameData, row_at}
 use Rattle.pipe_writers.specs.Rows.{Row, rows_of}
 use Rattle.pipe_writers.specs.LinesAdded.{GoesOn}
@@ -71,3 +72,21 @@ on_err (Err e) P p = p
 -- a frame has a row for each of its height
 pub length-rows : (f : FrameData) → length (rows_of f) ≡ f.height
 length-rows f = length-map (range_with_len 0 f.height) (row_at f.columns) ∙ length-range_with_len 0 f.height
+
+module _ (line : Row → List ℕ) where
+  -- no line more
+  pub goes_nowhere : (rows : List Row) (from : ℕ) (old : List ℕ) → GoesOn line rows from from old old
+  goes_nowhere rows from old sent head e = e
+
+  -- one line more
+  pub goes_on : (f : FrameData) (from to : ℕ) (old now : List ℕ) → to < f.height → GoesOn line (rows_of f) from to old now
+      → GoesOn line (rows_of f) from (to + 1) old (now ++ line (row_at f.columns to))
+  goes_on f from to old now within g sent head e =
+      let rows = rows_of f in
+      let row = row_at f.columns to in
+      let long = length-rows f in
+      let at : get_or rows to row ≡ row = get_or-map-range_with_len (row_at f.columns) 0 f.height to to row within (omega arith) in
+      let more : take (to + 1) rows ≡ take to rows ++ row ∷ [] = take_more rows to row (omega (arith, long, within)) ∙ ap (λ (r : Row). take to rows ++ r ∷ []) at in
+      let last : flat_map line (row ∷ []) ≡ line row = append-nil (line row) in
+      sym (append_assoc sent now (line row)) ∙ ap (λ bs. bs ++ line row) (g sent head e) ∙ append_assoc head (flat_map line (take to rows)) (line row)
+      ∙ ap (λ bs. head ++ bs) (sym (ap (flat_map line) more ∙ flat_map-append line (take to rows) (row ∷ []) ∙ ap (λ bs. flat_map line (take to rows) ++ bs) last))

@@ -10,3 +10,4 @@ pub mod Writers
 pub mod LinesAdded
 pub mod WriterLaws
 pub mod CsvWritten
+pub mod JsonHeads

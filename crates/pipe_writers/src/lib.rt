@@ -5,6 +5,9 @@
 mod chunk_order;
 mod csv_lines;
 mod csv_record;
+mod csv_writer;
+mod json_lines;
+mod json_writer;
 mod kept_chunks;
 mod line_writer;
 mod lines;
@@ -17,6 +20,8 @@ mod vstacker;
 mod worked;
 mod write_error;
 
+pub use csv_writer::CsvBatchedWriter;
+pub use json_writer::JsonBatchedWriter;
 pub use ordered_sink::OrderedSink;
 pub use sink_writer::{SinkWriter, WriterCalls};
 pub use slice_sink::SliceSink;
