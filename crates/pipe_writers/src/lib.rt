@@ -9,6 +9,7 @@ mod csv_writer;
 mod json_lines;
 mod json_writer;
 mod kept_chunks;
+mod laws;
 mod line_writer;
 mod lines;
 mod ordered_sink;
@@ -27,3 +28,6 @@ pub use sink_writer::{SinkWriter, WriterCalls};
 pub use slice_sink::SliceSink;
 pub use vstacker::StreamingVstacker;
 pub use write_error::WriteError;
+
+#[cfg(test)]
+mod tests;
