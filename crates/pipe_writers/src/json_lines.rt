@@ -40,11 +40,7 @@ fn append_string(text: Vec<u8>, string: &str) -> Result<Vec<u8>, AllocError>
 }
 
 /// Puts the digits of a number behind a text, by way of 64 bits where it fits them.
-fn append_number(
-    text: Vec<u8>,
-    digits: &mut Buffer,
-    number: i128,
-) -> Result<Vec<u8>, AllocError>
+fn append_number(text: Vec<u8>, digits: &mut Buffer, number: i128) -> Result<Vec<u8>, AllocError>
     ensures { IfOk result (λ v. v.items ≡ text.items ++ signed_decimal number) }
 {
     let written = match i64::try_from(number) {
@@ -55,11 +51,7 @@ fn append_number(
 }
 
 /// Puts a value behind a text.
-fn append_value(
-    text: Vec<u8>,
-    digits: &mut Buffer,
-    value: &AnyValue,
-) -> Result<Vec<u8>, AllocError>
+fn append_value(text: Vec<u8>, digits: &mut Buffer, value: &AnyValue) -> Result<Vec<u8>, AllocError>
     ensures { IfOk result (λ v. v.items ≡ text.items ++ json_value value.now) }
 {
     match value {
@@ -148,7 +140,7 @@ fn append_lines(
     requires within { from ≤ frame.now.height }
     ensures lines { (names : List (List ℕ)) → AreHeads names heads.now
         → IfOk result (λ p. GoesOn (json_line names) (rows_of frame.now) from p.next text.items
-            p.text.items) }
+        p.text.items) }
     ensures further { IfOk result (λ p. from < frame.now.height → from < p.next) }
     ensures within { IfOk result (λ p. p.next ≤ frame.now.height) }
 {

@@ -107,7 +107,8 @@ impl KeptChunks {
     pub(crate) fn keep(&mut self, chunk: DataChunk) -> Result<bool, AllocError>
         requires { TakesChunk self.old chunk }
         ensures ok { OnOk result (self.new ≡ record self.old {
-            chunks = kept (self.old.chunks ++ (chunk ∷ [])) }) }
+          chunks = kept (self.old.chunks ++ (chunk ∷ []));
+        }) }
         ensures says { IfOk result (λ b. b ≡ is_kept self.old.chunks chunk) }
         ensures err { OnErr result (self.new ≡ self.old) }
     {
@@ -133,7 +134,8 @@ impl KeptChunks {
     pub(crate) fn take_over(&mut self, other: &mut KeptChunks) -> Result<(), AllocError>
         requires { TakesOver self.old other.old }
         ensures ok { OnOk result (self.new ≡ record self.old {
-            chunks = kept (self.old.chunks ++ other.old.chunks) }) }
+          chunks = kept (self.old.chunks ++ other.old.chunks);
+        }) }
         ensures taken { OnOk result (other.new ≡ emptied other.old) }
         ensures err { OnErr result (self.new ≡ self.old) }
         ensures err_other { OnErr result (other.new ≡ other.old) }

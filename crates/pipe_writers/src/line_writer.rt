@@ -62,7 +62,11 @@ fn head_text<L: Lines>(alloc: Global, lines: &L, begun: bool) -> Result<Vec<u8>,
     ensures { IfOk result (λ v. v.items ≡ head_due begun (L.shape lines.now)) }
 {
     let text = Vec::new(alloc);
-    if begun { Ok(text) } else { lines.add_head(text) }
+    if begun {
+        Ok(text)
+    } else {
+        lines.add_head(text)
+    }
 }
 
 impl<O: Output, L: Lines> LineWriter<O, L> {

@@ -118,15 +118,13 @@ impl Sink for SliceSink {
         ensures given { IfOk result (λ r. (chunks : List DataChunk)
             → self.old.kept.chunks ≡ kept chunks
             → frame_given r
-                ≡ slice_of_ordered self.old.offset self.old.len self.old.kept.fields chunks) }
+            ≡ slice_of_ordered self.old.offset self.old.len self.old.kept.fields chunks) }
         ensures purpose { (self.new.offset ≡ self.old.offset)
             × (self.new.len ≡ self.old.len) × (self.new.kept.fields ≡ self.old.kept.fields) }
         ensures emptied { self.new.kept ≡ emptied self.old.kept }
     {
         let frame = self.kept.join()?;
-        Ok(FinalizedSink::Finished(
-            frame.slice(self.offset as usize, self.len),
-        ))
+        Ok(FinalizedSink::Finished(frame.slice(self.offset as usize, self.len)))
     }
 
     fn fmt(&self) -> &str {

@@ -5,7 +5,8 @@ use crate::{
     WriteError,
 };
 use pipe_columns::{
-    AnyValue, Column, DataChunk, DataFrame, DataType, Field, FinalizedSink, Schema, Sink, SinkResult, Text,
+    AnyValue, Column, DataChunk, DataFrame, DataType, Field, FinalizedSink, Schema, Sink,
+    SinkResult, Text,
 };
 use pipe_io::MemoryOutput;
 use serde_json::Value;

@@ -42,7 +42,8 @@ impl StreamingVstacker {
         requires { StacksOn self.old.waiting frame }
         ensures given { IfOk result (λ given. given ≡ completed self.old frame) }
         ensures waiting { OnOk result (self.new ≡ record self.old {
-            waiting = left_waiting self.old frame }) }
+          waiting = left_waiting self.old frame;
+        }) }
         ensures err { OnErr result (self.new ≡ self.old) }
     {
         put_below(&mut self.waiting, frame)?;
