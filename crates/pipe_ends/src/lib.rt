@@ -7,3 +7,7 @@ pub use pipe_io::{
     FileEnd, InputError, InputFiles, MOST_FILE_BYTES, MemoryFiles, MemoryOutput, Output,
     OutputError, RealFiles, RealOutput, read_file, write_all,
 };
+pub use pipe_writers::{
+    CsvBatchedWriter, JsonBatchedWriter, OrderedSink, SinkWriter, SliceSink, StreamingVstacker,
+    WriteError,
+};

@@ -4,3 +4,4 @@ pub mod LineFacts
 pub mod WriterFacts
 pub mod CsvFacts
 pub mod JsonFacts
+pub mod RowFacts

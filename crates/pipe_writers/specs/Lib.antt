@@ -11,3 +11,4 @@ pub mod LinesAdded
 pub mod WriterLaws
 pub mod CsvWritten
 pub mod JsonHeads
+pub mod Waiting

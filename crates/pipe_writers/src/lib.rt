@@ -1,5 +1,5 @@
-//! What gathers chunks and writes frames: sinks that keep chunks in order, writers of CSV and of
-//! lines of JSON, and a sink that writes in a thread of its own.
+//! What gathers chunks and writes frames: sinks that keep chunks in their order, and writers of CSV
+//! and of lines of JSON.
 #![tactic(auto)]
 
 mod chunk_order;

@@ -124,7 +124,8 @@ impl Sink for SliceSink {
         ensures emptied { self.new.kept ≡ emptied self.old.kept }
     {
         let frame = self.kept.join()?;
-        Ok(FinalizedSink::Finished(frame.slice(self.offset as usize, self.len)))
+        let frame = frame.slice(self.offset as usize, self.len);
+        Ok(FinalizedSink::Finished(frame))
     }
 
     fn fmt(&self) -> &str {

@@ -1,26 +1,23 @@
-//! Sinks and writers over chunks of one column of texts, and of one of numbers.
+//! Texts of writers and frames of sinks over rows of one text.
+
+ghost use Rattle.pipe_writers.specs.Writers.{IsOpen};
 
 use crate::{
-    CsvBatchedWriter, JsonBatchedWriter, OrderedSink, SinkWriter, SliceSink, StreamingVstacker,
-    WriteError,
+    CsvBatchedWriter, JsonBatchedWriter, OrderedSink, SinkWriter, StreamingVstacker, WriteError,
 };
 use pipe_columns::{
-    AnyValue, Column, DataChunk, DataFrame, DataType, Field, FinalizedSink, Schema, Sink,
-    SinkResult, Text,
+    AnyValue, Column, DataFrame, DataType, Field, FinalizedSink, Schema, Sink, Text,
 };
 use pipe_io::MemoryOutput;
-use serde_json::Value;
 use std::alloc::{AllocError, Global};
-use std::str::FromStr;
 use std::test::Fail;
 
 /// One field of texts.
 fn texts(alloc: Global) -> Result<Schema, AllocError> {
     let mut fields = Vec::new(alloc);
-    fields.push(Field {
-        name: Text::new(alloc, "t")?,
-        dtype: DataType::String,
-    })?;
+    let name = Text::new(alloc, "t")?;
+    let dtype = DataType::String;
+    fields.push(Field { name, dtype })?;
     Ok(Schema::new(fields))
 }
 
@@ -36,43 +33,69 @@ fn frame_of(alloc: Global, rows: &[&str]) -> Result<DataFrame, Fail> {
     Ok(DataFrame::new(rows.len(), columns).ok_or("no frame")?)
 }
 
-/// A chunk of a number and a row for each text.
-fn chunk_of(alloc: Global, chunk_index: u32, rows: &[&str]) -> Result<DataChunk, Fail> {
-    let frame = frame_of(alloc, rows)?;
-    Ok(DataChunk { chunk_index, frame })
-}
-
-/// Whether a frame's rows are these texts.
-fn has_rows(frame: &DataFrame, rows: &[&str]) -> bool {
-    let [column] = frame.columns() else {
-        return false;
-    };
-    if column.values().len() != rows.len() {
-        return false;
-    }
-    for i in 0..rows.len() {
-        let AnyValue::Text(text) = &column.values()[i] else {
-            return false;
-        };
-        if text.as_str() != rows[i] {
-            return false;
-        }
-    }
-    true
-}
-
-/// Whether a sink answers that no further chunk is of use.
-fn is_last<S: Sink>(sink: &mut S, chunk: DataChunk) -> Result<bool, S::Fault>
-    requires { S.takes sink.old chunk }
+/// Writes a frame that fits and finishes.
+fn write_one<W: SinkWriter>(writer: &mut W, frame: &DataFrame) -> Result<(), WriteError>
+    requires { IsOpen (W.calls writer.old) }
 {
-    Ok(sink.sink(chunk)? == SinkResult::Finished)
+    if !frame.fits(writer.schema()) {
+        return Err(WriteError::Memory);
+    }
+    writer._write_batch(frame)?;
+    writer._finish()
+}
+
+/// An output in memory of which the listed call fails.
+fn output(alloc: Global, failing: u64) -> Result<MemoryOutput, AllocError> {
+    Ok(MemoryOutput::new(alloc, Vec::from_slice(alloc, &[failing])?))
+}
+
+const ROWS: [&str; 4] = ["a", "x\"y", "", "\u{1}\\\n\u{7f}é"];
+
+#[test]
+fn rows_become_csv(rt: HostRuntime) -> Result<(), Fail> {
+    let alloc = rt.alloc();
+    let mut writer = CsvBatchedWriter::new(alloc, output(alloc, 9)?, texts(alloc)?, true);
+    let written = write_one(&mut writer, &frame_of(alloc, &ROWS)?);
+    let text = "t\na\n\"x\"\"y\"\n\"\"\n\"\u{1}\\\n\u{7f}é\"\n";
+    assert!(rt; written == Ok(()) && writer.into_output().bytes() == text.as_bytes());
+    Ok(())
 }
 
 #[test]
-fn ordered_sinks_are_combined(rt: HostRuntime) -> Result<(), Fail> {
+fn rows_become_json(rt: HostRuntime) -> Result<(), Fail> {
     let alloc = rt.alloc();
-    let mut sink = OrderedSink::new(alloc, texts(alloc)?);
-    let mut other = sink.split()?;
-    assert!(rt; !is_last(&mut sink, chunk_of(alloc, 2, &["c"])?)?);
+    let mut writer = JsonBatchedWriter::new(alloc, output(alloc, 9)?, texts(alloc)?);
+    let written = write_one(&mut writer, &frame_of(alloc, &ROWS)?);
+    let text =
+        "{\"t\":\"a\"}\n{\"t\":\"x\\\"y\"}\n{\"t\":\"\"}\n{\"t\":\"\\u0001\\\\\\n\u{7f}é\"}\n";
+    assert!(rt; written == Ok(()) && writer.into_output().bytes() == text.as_bytes());
+    Ok(())
+}
+
+#[test]
+fn failed_output_is_told(rt: HostRuntime) -> Result<(), Fail> {
+    let alloc = rt.alloc();
+    let mut writer = CsvBatchedWriter::new(alloc, output(alloc, 0)?, texts(alloc)?, true);
+    let written = write_one(&mut writer, &frame_of(alloc, &ROWS)?);
+    assert!(rt; written == Err(WriteError::Output) && writer.into_output().bytes().is_empty());
+    Ok(())
+}
+
+#[test]
+fn frames_are_joined(rt: HostRuntime) -> Result<(), Fail> {
+    let alloc = rt.alloc();
+    let mut rows = StreamingVstacker::new(2);
+    let first = rows.add(frame_of(alloc, &["a"])?)?;
+    let rest = rows.finish().ok_or("no rest")?;
+    assert!(rt; first.is_none() && rest.height() == 1 && rows.finish().is_none());
+    Ok(())
+}
+
+#[test]
+fn sink_without_chunks_gives_the_empty_frame(rt: HostRuntime) -> Result<(), Fail> {
+    let alloc = rt.alloc();
+    let mut sink = OrderedSink::new(alloc, texts(alloc)?).split()?;
+    let FinalizedSink::Finished(frame) = sink.finalize()?;
+    assert!(rt; sink.fmt() == "ordered_sink" && frame.height() == 0);
     Ok(())
 }
