@@ -1,17 +1,12 @@
 -- Lines that a CSV writer writes behind a text.
-use Rattle.std.proofs.Common.{◌≡◌, ◌∙◌, ◌+◌, ◌<◌, ◌≤◌, ◌∷◌, ◌++◌, [], ℕ, List, Option, Some, None, map, take, length, get_or, false, refl, sym, ap, arith, append-nil, append_assoc, flat_map}
-use Rattle.std.specs.List.{range_with_len}
+use Rattle.std.proofs.Common.{◌≡◌, ◌∙◌, ◌+◌, ◌<◌, ◌++◌, [], ℕ, List, Option, Some, None, false, refl, sym, append-nil}
 use Rattle.std.specs.Io.KnownBytes.{Keeps}
-use Rattle.std.proofs.lemmas.Grind.{flat_map-append}
-use Rattle.std.proofs.lemmas.List.{take_more}
-use Rattle.std.proofs.lemmas.List.FromFn.{get_or-map-range_with_len}
-use Rattle.csv.specs.Writing.{default_writer, writer_setup, fields_written, has_written, text_written, writer_under, writer_pending, is_blank}
+use Rattle.csv.specs.Writing.{default_writer, writer_setup, fields_written, has_written, writer_under, writer_pending, is_blank}
 use Rattle.pipe_columns.specs.Frame.{FrameData, row_at}
 use Rattle.pipe_csv.specs.Written.{HasWritten, TextWriter}
 use Rattle.pipe_writers.specs.CsvLines.{csv_line}
 use Rattle.pipe_writers.specs.CsvWritten.{WroteLines}
-use Rattle.pipe_writers.specs.LinesAdded.{GoesOn}
-use Rattle.pipe_writers.specs.Rows.{Row, rows_of}
+use Rattle.pipe_writers.specs.Rows.{rows_of}
 use Rattle.pipe_writers.proofs.LineFacts.{goes_on}
 
 -- a writer as it begins behind a text

@@ -1,9 +1,8 @@
 -- Lines of JSON, written member by member.
-use Rattle.std.proofs.Common.{◌≡◌, ◌∙◌, ◌+◌, ◌<◌, ◌≤◌, ◌∷◌, ◌++◌, [], ℕ, suc, List, Vec, Global, Some, true, map, take, drop, length, get_or, nat_lt, refl, sym, ap, ap₂, arith, append-nil, append_assoc, slice_get, subst}
+use Rattle.std.proofs.Common.{◌≡◌, ◌∙◌, ◌+◌, ◌<◌, ◌≤◌, ◌∷◌, ◌++◌, [], ℕ, suc, List, Vec, Global, Some, true, map, drop, length, get_or, nat_lt, refl, sym, ap, ap₂, arith, append-nil, append_assoc, slice_get}
 use Rattle.std.proofs.Math.Seq.{drop-cons}
-use Rattle.std.specs.List.{range_with_len}
 use Rattle.std.proofs.lemmas.Bool.{lt-ltb}
-use Rattle.std.proofs.lemmas.List.{drop_all, get_or-map, length-map, map-append, take_more}
+use Rattle.std.proofs.lemmas.List.{drop_all, get_or-map, length-map, map-append}
 use Rattle.std.proofs.lemmas.List.FromFn.{get_or-map-range_with_len, length-map-range_with_len, map-range_with_len_more}
 use Rattle.std.proofs.lemmas.Option.{slice_get_read}
 use Rattle.json.specs.Print.{print, print_from, quoted}

@@ -1,14 +1,14 @@
 -- Chunks that are kept, and the frames that they make.
-use Rattle.std.proofs.Common.{◌≡◌, ◌∙◌, ◌+◌, ◌<◌, ◌≤◌, ◌^◌, ◌==◌, ℕ, zero, suc, true, false, cond, not, List, [], ◌∷◌, ◌++◌, map, length, filter, get_or, Option, Some, None, IfSome, MatchOption, refl, sym, ap, ap₂, arith, subst, fold, sum_by, remove, append_assoc, append-nil, inl, inr}
+use Rattle.std.proofs.Common.{◌≡◌, ◌∙◌, ◌+◌, ◌<◌, ◌^◌, ◌==◌, ℕ, true, false, cond, List, [], ◌∷◌, ◌++◌, map, length, get_or, Option, Some, None, MatchOption, refl, sym, ap, ap₂, arith, subst, fold, remove, append-nil, inl, inr}
 use Rattle.std.specs.List.{All}
-use Rattle.std.proofs.lemmas.Bool.{cond-true, cond-false, cases_Bool, eqb-false, eq-eqb, eqb-true, ne_eqb, not-false}
+use Rattle.std.proofs.lemmas.Bool.{cond-true, cond-false, cases_Bool, eq-eqb, eqb-true, ne_eqb, not-false}
 use Rattle.std.proofs.lemmas.List.Elements.{All-append, All-cons, All-head, All-nil, All-tail, filter-append}
 use Rattle.std.proofs.lemmas.List.Sums.{fold-append, sum_by-append, sum_by-cons}
 use Rattle.std.proofs.lemmas.List.{length-append}
 use Rattle.pipe_columns.specs.declared.data_chunk.DataChunk.{DataChunk}
 use Rattle.pipe_columns.specs.declared.schema.Field.{Field}
-use Rattle.pipe_columns.specs.Frame.{ColumnData, FitsSchema, FrameData, appended_all, fields_of, field_of, unsorted, stacked}
-use Rattle.pipe_writers.specs.Kept.{Stacks, StacksOn, gathered, is_kept, kept, row_count, with_frame}
+use Rattle.pipe_columns.specs.Frame.{ColumnData, FitsSchema, FrameData, appended_all, fields_of, field_of, unsorted}
+use Rattle.pipe_writers.specs.Kept.{StacksOn, gathered, is_kept, kept, row_count, with_frame}
 use Rattle.pipe_writers.specs.KeptFields.{AreKept}
 use Rattle.pipe_writers.specs.WriteOrder.{has_rows, with_rows}
 

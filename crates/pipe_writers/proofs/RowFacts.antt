@@ -1,11 +1,9 @@
 -- The rows of frames that are joined.
 use Rattle.std.proofs.Common.{◌≡◌, ◌∙◌, ◌+◌, ◌<◌, ◌≤◌, ◌==◌, ◌∷◌, ◌++◌, [], ℕ, zero, suc, List, Option, Some, None, map, length, refl, sym, ap, ap₂, arith, true, append_assoc, append-nil, subst}
 use Rattle.std.specs.List.{range_with_len}
-use Rattle.std.specs.Option.{unwrap_or}
 use Rattle.std.proofs.lemmas.Bool.{and_parts, eqb-true}
 use Rattle.std.proofs.lemmas.List.FromFn.{map-range_with_len_more}
 use Rattle.pipe_columns.specs.declared.any_value.AnyValue.{AnyValue}
-use Rattle.pipe_columns.specs.declared.any_value.AnyValue.TheVariants as av
 use Rattle.pipe_columns.specs.Frame.{ColumnData, FrameData, all_have_height, appended_all, fields_of, row_at, stacked, unsorted, value_at}
 use Rattle.pipe_writers.specs.Waiting.{waiting_rows}
 use Rattle.pipe_writers.specs.Kept.{StacksOn, with_frame}
@@ -78,5 +76,5 @@ pub rows_below : (o : Option FrameData) (first frame : FrameData) → o ≡ Some
     → rows_of (with_frame o frame) ≡ waiting_rows o ++ rows_of frame
 rows_below None first frame e s tall = cc e
 rows_below (Some f) first frame e s tall =
-    let same : first ≡ f = cc e in
+    let same : first ≡ f = cc in
     rows_stacked f frame s.fields (subst (λ (x : FrameData). all_have_height x.height x.columns ≡ true) same tall)

@@ -1,4 +1,4 @@
-use Rattle.std.proofs.Common.{◌∙◌, ap, rules, Vec, ℕ, Global}
+use Rattle.std.proofs.Common.{◌∙◌, ap, Vec, ℕ, Global}
 use Rattle.pipe_writers.proofs.CsvFacts.{begun}
 use Rattle.pipe_writers.proofs.csv_lines.begin.Goals as goal
 

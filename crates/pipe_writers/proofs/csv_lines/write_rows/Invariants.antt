@@ -1,4 +1,4 @@
-use Rattle.std.proofs.Common.{◌≡◌, ◌≤◌, [], List, ℕ}
+use Rattle.std.proofs.Common.{[], List, ℕ}
 use Rattle.pipe_csv.specs.Written.{HasWritten}
 use Rattle.pipe_writers.specs.CsvWritten.{WroteLines}
 use Rattle.pipe_writers.specs.Rows.{rows_of}

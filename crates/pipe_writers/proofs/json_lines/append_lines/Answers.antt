@@ -1,8 +1,5 @@
-use Rattle.std.proofs.Common.{◌≡◌, ◌<◌, arith, List, ℕ, ap, sym, subst, ◌++◌}
-use Rattle.pipe_columns.specs.Frame.{row_at}
+use Rattle.std.proofs.Common.{◌<◌, arith}
 use Rattle.pipe_writers.specs.JsonText.{json_line}
-use Rattle.pipe_writers.specs.LinesAdded.{GoesOn}
-use Rattle.pipe_writers.specs.Rows.{rows_of}
 use Rattle.pipe_writers.proofs.LineFacts.{goes_on}
 use Rattle.pipe_writers.proofs.json_lines.append_lines.Goals as goal
 

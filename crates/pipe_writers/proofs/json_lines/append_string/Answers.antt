@@ -1,4 +1,4 @@
-use Rattle.std.proofs.Common.{◌≡◌, ◌∙◌, ◌++◌, ◌∷◌, [], List, ℕ, ap, ap₂}
+use Rattle.std.proofs.Common.{◌∙◌, ◌++◌, ◌∷◌, [], List, ℕ, ap, ap₂}
 use Rattle.json.specs.Print.{print}
 use Rattle.json.specs.Token.{Token, string}
 use Rattle.pipe_writers.proofs.JsonFacts.{print-string}

@@ -1,5 +1,4 @@
-use Rattle.std.proofs.Common.{◌≡◌, ◌∙◌, ◌<◌, List, ℕ, length, rules, arith, ap, sym}
-use Rattle.pipe_columns.specs.declared.schema.Field.{Field}
+use Rattle.std.proofs.Common.{◌≡◌}
 use Rattle.pipe_writers.specs.JsonHeads.{head_at}
 use Rattle.pipe_writers.specs.Rows.{names_of}
 use Rattle.pipe_writers.proofs.JsonFacts.{head_made, heads_more}

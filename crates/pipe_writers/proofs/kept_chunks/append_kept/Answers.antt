@@ -1,4 +1,4 @@
-use Rattle.std.proofs.Common.{◌≡◌, ◌∙◌, ◌++◌, ℕ, List, length, rules, arith, sym, ap}
+use Rattle.std.proofs.Common.{◌≡◌, ◌∙◌, ◌++◌, List, length, rules, sym}
 use Rattle.pipe_columns.specs.declared.data_chunk.DataChunk.{DataChunk}
 use Rattle.pipe_writers.proofs.KeptFacts.{kept-removed, kept-whole}
 use Rattle.pipe_writers.proofs.kept_chunks.append_kept.Goals as goal

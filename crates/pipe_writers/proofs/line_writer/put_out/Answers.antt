@@ -1,8 +1,5 @@
-use Rattle.std.proofs.Common.{rules, arith, ◌≡◌, ◌∙◌, ◌++◌, ◌≤◌, List, ℕ, length, flat_map, take, ap, subst, sym}
-use Rattle.std.proofs.KnownBytes.{Appends-trans}
-use Rattle.std.specs.Io.KnownBytes.{Appends}
-use Rattle.std.specs.Result.{OnErr}
-use Rattle.pipe_writers.specs.Rows.{Row, rows_of}
+use Rattle.std.proofs.Common.{arith, ◌≡◌, ◌∙◌, ◌++◌, flat_map, take}
+use Rattle.pipe_writers.specs.Rows.{rows_of}
 use Rattle.pipe_writers.proofs.LineFacts.{all_lines, first_front, first_piece, length-rows, next_piece, on_err, piece_front, sent_front}
 use Rattle.pipe_writers.proofs.line_writer.put_out.Goals as goal
 

@@ -1,5 +1,4 @@
-use Rattle.std.proofs.Common.{◌≡◌, ◌∙◌, ap, length, sym}
-use Rattle.pipe_writers.specs.Rows.{names_of}
+use Rattle.std.proofs.Common.{◌∙◌, ap, length, sym}
 use Rattle.pipe_writers.proofs.JsonFacts.{columns_headed}
 use Rattle.pipe_writers.proofs.json_lines.JsonLinesLines.add_lines.Goals as goal
 
