@@ -1,0 +1,89 @@
+-- The chunk that a group source gives of a partition.
+use Rattle.std.proofs.Common.{◌≡◌, ◌∙◌, ◌+◌, ◌<◌, ◌==◌, ℕ, List, ◌++◌, length, map, sym, ap, subst, Option}
+use Rattle.std.specs.List.{All, IsDistinct, slice_index_or}
+use Rattle.std.specs.Str.{bytes_eq}
+use Rattle.std.proofs.lemmas.List.{length-map}
+use Rattle.std.proofs.lemmas.Simd.{map-map}
+use Rattle.std.proofs.lemmas.List.Elements.{All-filter, All-map, All-weaker}
+use Rattle.pipe_columns.specs.Frame.{FrameData}
+use Rattle.pipe_columns.specs.Groups.{sorted_keys}
+use Rattle.pipe_columns.specs.Key.{code, partition}
+use Rattle.pipe_columns.specs.Row.{Row}
+use Rattle.pipe_aggs.specs.HashAggs.{prototypes}
+use Rattle.pipe_aggs.specs.QueryTrees.{query_tree}
+use Rattle.pipe_inputs.specs.RowTypes.{IsRowOf}
+use Rattle.pipe_model.specs.Answer.{tuple_cmp}
+use Rattle.pipe_model.specs.Output.{key_types}
+use Rattle.pipe_model.specs.Partitions.{groups_in, rows_in}
+use Rattle.pipe_model.specs.Query.{QueryTree}
+use Rattle.pipe_model.specs.Rows.{keys_of}
+use Rattle.pipe_spill.specs.KeyTypes.{AreOfTypes}
+use Rattle.pipe_spill.specs.SpillRow.{spilled}
+use Rattle.pipe_spill.specs.declared.spill_row.SpillRow.{SpillRow}
+use Rattle.pipe_groups.specs.Given.{in_order, IsFrameOfGroups, key_cmp, slice_after}
+use Rattle.pipe_groups.specs.Groups.{count_held, Group}
+use Rattle.pipe_groups.specs.Holds.{Holds}
+use Rattle.pipe_groups.specs.QueryRows.{HoldRowsOf}
+use Rattle.pipe_groups.specs.Shape.{Shape}
+use Rattle.pipe_groups.proofs.CodedFacts.{sorted-codes}
+use Rattle.pipe_groups.proofs.HoldFacts.{holds-moved}
+use Rattle.pipe_groups.proofs.KeyFacts.{held-counted}
+use Rattle.pipe_groups.proofs.PartsFacts.{part-answer}
+use Rattle.pipe_tables.specs.Tables.{Table}
+use Rattle.pipe_global.specs.Finishing.{GivesGroups, KeepsRest, own_rows, StandFor}
+use Rattle.pipe_global.specs.Partition.{PartitionSeen, spilled_all}
+use Rattle.pipe_run.specs.Given.{frame_of_keys, HasGiven, HasRows, IsSource, SourceSeen, StandsForPart}
+use Rattle.pipe_run.proofs.SourceFacts.{asked, both, mine}
+
+-- as many groups hold rows as the rows have keys
+pub count-groups : (q : QueryTree) (rs : List Row) (gs : List Group) → HoldRowsOf q gs rs → count_held gs ≡ length (sorted_keys tuple_cmp (keys_of rs))
+count-groups q rs gs h =
+    let types = key_types q in
+    let typed : All (AreOfTypes types) (keys_of rs) = All-map (AreOfTypes types) (λ (r : Row). r.key) rs (All-weaker (IsRowOf q) (λ r. AreOfTypes types r.key) (λ r t. t.key.fit) rs h.typed) in
+    held-counted (prototypes q) gs (map (spilled types) rs) h.holds h.apart
+    ∙ ap (λ (ks : List (List ℕ)). length (sorted_keys key_cmp ks)) (map-map (λ (r : SpillRow). r.key) (spilled types) rs ∙ sym (map-map (code types) (λ (r : Row). r.key) rs))
+    ∙ ap (λ (ks : List (List ℕ)). length ks) (sorted-codes types (keys_of rs) typed)
+    ∙ length-map (sorted_keys tuple_cmp (keys_of rs)) (code types)
+
+module _ (s : SourceSeen) (y : PartitionSeen) (local : Table) (slice : Option (ℕ × ℕ)) (is : IsSource s) (lt : s.given < length s.partitions)
+    (kept : KeepsRest (slice_index_or s.partitions s.given y) y) (rs : List Row) (h : HasRows rs s) where
+  abbrev q : QueryTree
+  q = query_tree s.query
+
+  abbrev here : PartitionSeen
+  here = slice_index_or s.partitions s.given y
+
+  abbrev part : StandsForPart q rs h.stands.locals here
+  part = mine s y local slice is lt kept rs h.stands
+
+  abbrev n : ℕ
+  n = length s.partitions
+
+  -- groups that hold what the partition stands for hold the rows of the partition
+  hold-part : (gs : List Group) → IsDistinct bytes_eq (Rattle.pipe_groups.specs.Groups.keys_of gs)
+      → Holds here.table.shape.prototypes gs (part.rows ++ own_rows here h.stands.locals) → HoldRowsOf q gs (rows_in n q s.given rs)
+  hold-part gs apart holds =
+      let at = is.each s.given y lt in
+      let all = holds-moved here.table.shape.prototypes gs (part.rows ++ own_rows here h.stands.locals) (spilled_all q (rows_in here.partitions q here.number rs)) part.all holds in
+      let own : spilled_all q (rows_in here.partitions q here.number rs) ≡ spilled_all q (rows_in n q s.given rs) = ap (λ k. spilled_all q (rows_in k q here.number rs)) at.partitions ∙ ap (λ k. spilled_all q (rows_in n q k rs)) at.number in
+      record {
+        groupable = is.groupable;
+        typed = All-filter (λ r. partition n (key_types q) r.key == s.given) (IsRowOf q) rs h.typed;
+        apart = apart;
+        holds = subst (λ (l : List SpillRow). Holds (prototypes q) gs l) own (subst (λ (sh : Shape). Holds sh.prototypes gs (spilled_all q (rows_in here.partitions q here.number rs))) at.shape all);
+      }
+
+  -- so what it gives is the chunk of the partition
+  pub given-chunk : (f : FrameData)
+      → ((rows locals : List SpillRow) → StandFor here s.local rows locals → GivesGroups here.table.shape s.slice slice (rows ++ own_rows here locals) f)
+      → HasGiven rs s (asked s y local slice (s.given + 1)) (record { chunk_index = s.given + 1; frame = f })
+  given-chunk f clause =
+      let at = is.each s.given y lt in
+      let gives = clause part.rows h.stands.locals (both s y local slice is lt kept rs h.stands) in
+      let hold = hold-part gives.groups gives.apart gives.holds in
+      let frame : f ≡ frame_of_keys q rs s.slice (groups_in n q s.given rs) =
+      part-answer q n s.given rs gives.groups hold h.apart s.slice f (subst (λ (sh : Shape). IsFrameOfGroups sh (Rattle.pipe_columns.specs.Slice.sliced s.slice (in_order gives.groups)) f) at.shape gives.frame_is) in
+      record {
+        chunk = ap (λ (g : FrameData). record { chunk_index = s.given + 1; frame = g }) frame;
+        slice = gives.left_is ∙ ap (λ k. slice_after k s.slice) (count-groups q (rows_in n q s.given rs) gives.groups hold);
+      }

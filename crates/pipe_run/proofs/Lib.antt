@@ -1,0 +1,4 @@
+pub mod Slicing
+pub mod SourceFacts
+pub mod ChunkFacts
+pub mod Joining
