@@ -47,6 +47,19 @@ as-gathered s new local g rows locals st = record {
   holds = holds-shape s.table.shape new.table.shape local.groups locals g.kept.shape.0 st.holds;
 }
 
+-- ---- nothing waits, and no frame is marked
+
+-- the rows that it stands for are all held
+all-held : (s : PartitionSeen) (rows : List SpillRow) → s.waiting ≡ [] → s.marks ≡ [] → (st : StandsForRows s rows) → IsPermutation rows st.held
+all-held s rows none unmarked st =
+    let frames : st.frames ≡ [] = no-frames st.frames (subst (λ (l : List Mark). AllZip (IsMarked s) l st.frames) unmarked st.marked) in
+    let nothing : joined_rows s.waiting ++ joined_lists st.frames ≡ [] = ap (λ (l : List Payload). joined_rows l ++ joined_lists st.frames) none ∙ ap (λ (l : List (List SpillRow)). joined_lists l) frames in
+    subst (IsPermutation rows) (ap (λ (l : List SpillRow). st.held ++ l) nothing ∙ append-nil st.held) st.all
+  where
+    no-frames : (frames : List (List SpillRow)) → AllZip (IsMarked s) [] frames → frames ≡ []
+    no-frames [] z = refl
+    no-frames (f ∷ frames) z = absurd z
+
 -- ---- the local rows of the partition come over
 
 -- the test of a key, and its opposite
@@ -97,10 +110,7 @@ module _ (s new : PartitionSeen) (local left : Table) (none : s.waiting ≡ []) 
   -- so both stand for the same, otherwise shared out
   pub moved-local : StandMoved s new local left
   moved-local rows locals st =
-      let frames : st.stands.frames ≡ [] = no-frames st.stands.frames (subst (λ (l : List Mark). AllZip (IsMarked s) l st.stands.frames) unmarked st.stands.marked) in
-      let nothing : joined_rows s.waiting ++ joined_lists st.stands.frames ≡ [] = ap (λ (l : List Payload). joined_rows l ++ joined_lists st.stands.frames) none ∙ ap (λ (l : List (List SpillRow)). joined_lists l) frames in
-      let all : IsPermutation rows st.stands.held =
-      subst (IsPermutation rows) (ap (λ (l : List SpillRow). st.stands.held ++ l) nothing ∙ append-nil st.stands.held) st.stands.all in
+      let all : IsPermutation rows st.stands.held = all-held s rows none unmarked st.stands in
       let both : IsPermutation (rows ++ own_rows s locals) (st.stands.held ++ own_rows s locals) = IsPermutation-append_left (own_rows s locals) rows st.stands.held all in
       let left_none : joined_rows new.waiting ++ [] ≡ [] = ap (λ (l : List Payload). joined_rows l ++ []) waiting in
       record {
@@ -113,10 +123,6 @@ module _ (s new : PartitionSeen) (local left : Table) (none : s.waiting ≡ []) 
         };
         holds = others locals st.holds;
       }
-    where
-      no-frames : (frames : List (List SpillRow)) → AllZip (IsMarked s) [] frames → frames ≡ []
-      no-frames [] z = refl
-      no-frames (f ∷ frames) z = absurd z
 
   -- what a test keeps passes it
   all-pass : (rows : List SpillRow) → All (λ r. lies_in s.partitions s.number r.key ≡ true) (own_rows s rows)
@@ -175,17 +181,9 @@ few-together s local can = record {
 
 -- ---- all is in the table
 
--- without marks or waiting rows it stands for what its table holds
+-- it stands for what its table holds
 pub holds-standing : (s : PartitionSeen) (rows : List SpillRow) → s.waiting ≡ [] → s.marks ≡ [] → StandsForRows s rows → Holds s.table.shape.prototypes s.table.groups rows
-holds-standing s rows none unmarked st =
-    let frames : st.frames ≡ [] = no-frames st.frames (subst (λ (l : List Mark). AllZip (IsMarked s) l st.frames) unmarked st.marked) in
-    let nothing : joined_rows s.waiting ++ joined_lists st.frames ≡ [] = ap (λ (l : List Payload). joined_rows l ++ joined_lists st.frames) none ∙ ap (λ (l : List (List SpillRow)). joined_lists l) frames in
-    let all : IsPermutation rows st.held = subst (IsPermutation rows) (ap (λ (l : List SpillRow). st.held ++ l) nothing ∙ append-nil st.held) st.all in
-    holds-moved s.table.shape.prototypes s.table.groups st.held rows (IsPermutation-sym rows st.held all) st.holds
-  where
-    no-frames : (frames : List (List SpillRow)) → AllZip (IsMarked s) [] frames → frames ≡ []
-    no-frames [] z = refl
-    no-frames (f ∷ frames) z = absurd z
+holds-standing s rows none unmarked st = holds-moved s.table.shape.prototypes s.table.groups st.held rows (IsPermutation-sym rows st.held (all-held s rows none unmarked st)) st.holds
 
 -- own rows are those of the partition before
 own-back : (s now : PartitionSeen) (rows : List SpillRow) → KeepsRest s now → AreOwn now rows → AreOwn s rows

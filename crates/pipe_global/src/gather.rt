@@ -1,11 +1,11 @@
 //! A closed partition gathers its rows into its table.
 
-ghost use Rattle.std.specs.Prelude.{◌≡◌, ◌<◌, ◌+◌, ◌++◌, ◌∷◌, [], IfErr, IfOk, OnErr, OnOk, length};
+ghost use Rattle.std.specs.Prelude.{◌≡◌, ◌<◌, ◌+◌, [], IfErr, IfOk, OnErr, OnOk, length};
 ghost use Rattle.pipe_spill.specs.SpillRow.{joined_rows};
 ghost use Rattle.pipe_global.specs.Finishing.{CanGather, IsCause};
 ghost use Rattle.pipe_global.specs.Gathering.{CanRead, HasAsked, HasGathered, HasRead, HasTakenFrame, HasTakenWaiting, IsLast};
-ghost use Rattle.pipe_global.specs.Moving.{CanMerge, TookRows};
-ghost use Rattle.pipe_global.specs.Refused.{HoldsSame, IsKept};
+ghost use Rattle.pipe_global.specs.Moving.{CanMerge};
+ghost use Rattle.pipe_global.specs.Refused.{IsKept};
 
 use crate::batch_error::BatchError;
 use crate::contents::Contents;

@@ -1,6 +1,6 @@
 //! A partition gathers all rows whose groups it is to give, and gives them.
 
-ghost use Rattle.std.specs.Prelude.{◌≡◌, [], IfErr, IfOk, OnErr, OnOk};
+ghost use Rattle.std.specs.Prelude.{◌≡◌, IfErr, IfOk, OnErr, OnOk};
 ghost use Rattle.pipe_global.specs.Finishing.{CanFinish, IsCause, KeepsRest, StandAsBefore};
 ghost use Rattle.pipe_global.specs.Gathering.{HasGiven, HasGivenPlaced, HasTakenLocal, IsReady, without_groups};
 
