@@ -1,0 +1,157 @@
+-- What a sink keeps of the chunks that it took, call by call.
+use Rattle.std.proofs.Common.{◌≡◌, ◌≢◌, ◌∙◌, ℕ, false, is_some, Result, Ok, Err, OnErr, ◌+◌, ◌<◌, ◌≤◌, ◌^◌, List, [], ◌∷◌, ◌++◌, length, Option, Some, None, sym, subst, arith}
+use Rattle.std.specs.List.{All, IsDistinct}
+use Rattle.std.proofs.lemmas.List.Elements.{All-append, All-cons, All-nil, All-weaker}
+use Rattle.std.proofs.lemmas.List.Sums.{sum_by-append, sum_by-cons}
+use Rattle.pipe_columns.specs.declared.data_chunk.DataChunk.{DataChunk}
+use Rattle.pipe_columns.specs.Frame.{FitsSchema, HoldsTypes}
+use Rattle.pipe_model.specs.Query.{QueryTree}
+use Rattle.pipe_model.specs.Rows.{total_height}
+use Rattle.pipe_spill.specs.SpillRow.{IsRow}
+use Rattle.pipe_groups.specs.declared.placed_groups.PlacedGroups.{PlacedGroups}
+use Rattle.pipe_groups.specs.Groups.{AreJoined}
+use Rattle.pipe_groups.specs.Shape.{shape_of}
+use Rattle.pipe_groups.proofs.HoldFacts.{holds-joined, holds-none}
+use Rattle.pipe_sinks.specs.RunLayout.{AreKept, AreTaken, HasTaken, HoldsChunks, spilled_rows}
+use Rattle.pipe_sinks.specs.Tables.{HoldFewTogether, Table}
+use Rattle.pipe_sinks.proofs.PlacedFacts.{distinct-both, length-spilled, single-distinct, spilled-append}
+
+-- ---- nothing taken
+
+pub taken-none : (q : QueryTree) → AreTaken q []
+unfolding IsDistinct
+taken-none q = record {
+  columns = All-nil (λ (c : DataChunk). FitsSchema q.schema c.frame);
+  typed = All-nil (λ (c : DataChunk). HoldsTypes c.frame);
+  once = tt;
+  rows = omega arith;
+}
+
+pub holds-no_chunk : (q : QueryTree) (t : Table) → t.shape ≡ shape_of q → t.groups ≡ [] → HoldsChunks q [] t
+holds-no_chunk q t shape none = record {
+  shape = shape;
+  holds = rw none (holds-none t.shape.prototypes);
+  typed = All-nil (IsRow t.shape.key_types t.shape.input_types);
+}
+
+-- the shape of the table is that of the query
+pub kept-shape : (q : QueryTree) (taken : List DataChunk) (t : Table) (given : Option PlacedGroups) → AreKept q taken t given → t.shape ≡ shape_of q
+kept-shape q taken t None h = h.shape
+kept-shape q taken t (Some p) h = h.0.shape
+
+-- a sink that took nothing
+pub run-new : (q : QueryTree) (partitions : ℕ) (chunks : List DataChunk) (t : Table) → 0 < partitions → partitions ≤ 2 ^ 32 → length q.keys ≡ 1 → chunks ≡ []
+    → t.shape ≡ shape_of q → t.groups ≡ [] → HasTaken q partitions chunks t None
+run-new q partitions chunks t some few keyed none shape empty = rw none (record {
+  some = some;
+  few = few;
+  keyed = keyed;
+  chunks = taken-none q;
+  kept = holds-no_chunk q t shape empty;
+})
+
+-- ---- one chunk
+
+pub single-height : (c : DataChunk) → total_height (c ∷ []) ≡ c.frame.height
+single-height c = omega (arith, sum_by-cons (λ (x : DataChunk). x.frame.height) c [])
+
+pub single-taken : (q : QueryTree) (c : DataChunk) → FitsSchema q.schema c.frame → HoldsTypes c.frame → c.frame.height < 2 ^ 32 → AreTaken q (c ∷ [])
+single-taken q c fits typed few = record {
+  columns = All-cons (λ (x : DataChunk). FitsSchema q.schema x.frame) c [] fits (All-nil (λ (x : DataChunk). FitsSchema q.schema x.frame));
+  typed = All-cons (λ (x : DataChunk). HoldsTypes x.frame) c [] typed (All-nil (λ (x : DataChunk). HoldsTypes x.frame));
+  once = single-distinct q c;
+  rows = omega (arith, few, single-height c);
+}
+
+-- a chunk behind others has an index that none of them has
+pub later-apart : (taken : List DataChunk) (c : DataChunk) → All (λ d. d.chunk_index < c.chunk_index) taken → All (λ d. All (λ x. d.chunk_index ≢ x.chunk_index) (c ∷ [])) taken
+later-apart taken c later = All-weaker (λ (d : DataChunk). d.chunk_index < c.chunk_index) (λ (d : DataChunk). All (λ x. d.chunk_index ≢ x.chunk_index) (c ∷ []))
+    (λ d lt. All-cons (λ (x : DataChunk). d.chunk_index ≢ x.chunk_index) c [] (λ e. omega (arith, lt, e)) (All-nil (λ (x : DataChunk). d.chunk_index ≢ x.chunk_index))) taken later
+
+-- ---- chunks together
+
+module _ (q : QueryTree) (xs ys : List DataChunk) where
+  pub taken-both : AreTaken q xs → AreTaken q ys → All (λ c. All (λ d. c.chunk_index ≢ d.chunk_index) ys) xs → total_height xs + total_height ys < 2 ^ 32 → AreTaken q (xs ++ ys)
+  taken-both a b apart few = record {
+    columns = All-append (λ (c : DataChunk). FitsSchema q.schema c.frame) xs ys a.columns b.columns;
+    typed = All-append (λ (c : DataChunk). HoldsTypes c.frame) xs ys a.typed b.typed;
+    once = distinct-both q xs ys a.once b.once apart;
+    rows = omega (arith, few, sum_by-append (λ (c : DataChunk). c.frame.height) xs ys);
+  }
+
+  module _ (t o : Table) (h : HoldsChunks q xs t) (g : HoldsChunks q ys o) where
+    pub both-shape : o.shape ≡ t.shape
+    both-shape = g.shape ∙ sym h.shape
+
+    -- tables of few chunks may be combined
+    pub both-few : total_height xs + total_height ys < 2 ^ 32 → HoldFewTogether t o
+    both-few few = record {
+      rows = spilled_rows q xs;
+      others = spilled_rows q ys;
+      holds = h.holds;
+      other_holds = rw (← both-shape) g.holds;
+      typed = h.typed;
+      others_typed = rw (← both-shape) g.typed;
+      few = omega (arith, few, length-spilled q xs, length-spilled q ys);
+    }
+
+    -- and hold the rows of all
+    pub both-held : (u : Table) → AreJoined t.shape.prototypes t.groups o.groups u.groups → u.shape ≡ t.shape → HoldsChunks q (xs ++ ys) u
+    both-held u joined shape = record {
+      shape = shape ∙ h.shape;
+      holds = rw (shape, spilled-append q xs ys) (holds-joined t.shape.prototypes t.groups o.groups u.groups (spilled_rows q xs) (spilled_rows q ys) joined h.holds (rw (← both-shape) g.holds)).0;
+      typed = rw (shape, spilled-append q xs ys) (All-append (IsRow t.shape.key_types t.shape.input_types) (spilled_rows q xs) (spilled_rows q ys) h.typed (rw (← both-shape) g.typed));
+    }
+
+-- ---- call by call
+
+-- a fact holds of a refusal if it holds
+pub on-err : {A E P : Type 0} (r : Result A E) → P → OnErr r P
+on-err (Ok x) p = tt
+on-err (Err e) p = p
+
+-- where nothing was given out the table holds the rows
+pub kept-none : (q : QueryTree) (taken : List DataChunk) (t : Table) (given : Option PlacedGroups) → is_some given ≡ false → AreKept q taken t given → HoldsChunks q taken t
+kept-none q taken t None e h = h
+kept-none q taken t (Some p) e h = absurd (cc)
+
+kept-again : (q : QueryTree) (taken : List DataChunk) (t : Table) (given : Option PlacedGroups) → is_some given ≡ false → HoldsChunks q taken t → AreKept q taken t given
+kept-again q taken t None e h = h
+kept-again q taken t (Some p) e h = absurd (cc)
+
+module _ (q : QueryTree) (n : ℕ) (xs : List DataChunk) (t : Table) (given : Option PlacedGroups) (h : HasTaken q n xs t given) where
+  -- a sink whose table has the same groups has taken the same
+  pub run-same : (u : Table) (chunks : List DataChunk) → u.groups ≡ t.groups → u.shape ≡ t.shape → chunks ≡ xs → HasTaken q n chunks u given
+  run-same u chunks groups shape same =
+      let e : t ≡ u = λ i. record { shape = sym shape i; groups = sym groups i } in
+      subst (λ (l : List DataChunk). HasTaken q n l u given) (sym same) (subst (λ (x : Table). HasTaken q n xs x given) e h)
+
+  -- a sink that gave everything out has taken nothing
+  pub run-given : (u : Table) (chunks : List DataChunk) (left : Option PlacedGroups) → HoldsChunks q [] u → chunks ≡ [] → left ≡ None → HasTaken q n chunks u left
+  run-given u chunks left holds empty none = rw (empty, none) (record { some = h.some; few = h.few; keyed = h.keyed; chunks = taken-none q; kept = holds })
+
+  module _ (none : is_some given ≡ false) where
+    -- one whose table was emptied has taken nothing
+    pub run-emptied : (u : Table) (chunks : List DataChunk) → u.groups ≡ [] → u.shape ≡ t.shape → chunks ≡ [] → HasTaken q n chunks u given
+    run-emptied u chunks groups shape empty = rw empty (record {
+      some = h.some;
+      few = h.few;
+      keyed = h.keyed;
+      chunks = taken-none q;
+      kept = kept-again q [] u given none (holds-no_chunk q u (shape ∙ kept-shape q xs t given h.kept) groups);
+    })
+
+    -- and one whose table took that of other chunks over has taken both
+    module _ (ys : List DataChunk) (o : Table) (taken : AreTaken q ys) (holds : HoldsChunks q ys o) (few : total_height xs + total_height ys < 2 ^ 32) where
+      pub run-few : HoldFewTogether t o
+      run-few = both-few q xs ys t o (kept-none q xs t given none h.kept) holds few
+
+      pub run-both : (u : Table) (chunks : List DataChunk) → All (λ c. All (λ d. c.chunk_index ≢ d.chunk_index) ys) xs → AreJoined t.shape.prototypes t.groups o.groups u.groups → u.shape ≡ t.shape
+          → chunks ≡ xs ++ ys → HasTaken q n chunks u given
+      run-both u chunks apart joined shape both = rw both (record {
+        some = h.some;
+        few = h.few;
+        keyed = h.keyed;
+        chunks = taken-both q xs ys h.chunks taken apart few;
+        kept = kept-again q (xs ++ ys) u given none (both-held q xs ys t o (kept-none q xs t given none h.kept) holds u joined shape);
+      })

@@ -1,0 +1,10 @@
+pub mod Keyed
+pub mod KeyedLayout
+pub mod Merges
+pub mod PartPlaces
+pub mod RunLayout
+pub mod Runs
+pub mod SinkNames
+pub mod Slices
+pub mod TableLayout
+pub mod Tables

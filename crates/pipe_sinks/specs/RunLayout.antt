@@ -1,0 +1,64 @@
+-- Of the proofs alone: how a sink keeps what it took.
+use Rattle.std.specs.Prelude.{◌≡◌, ◌<◌, ◌≤◌, ◌^◌, ℕ, All, true, List, [], length, map, Option, Some, None}
+use Rattle.pipe_columns.specs.declared.data_chunk.DataChunk.{DataChunk}
+use Rattle.pipe_columns.specs.declared.any_value.AnyValue.{AnyValue}
+use Rattle.pipe_columns.specs.Frame.{FitsSchema, frame_of, HoldsTypes}
+use Rattle.pipe_columns.specs.Groups.{sorted_keys}
+use Rattle.pipe_columns.specs.Row.{Row}
+use Rattle.pipe_inputs.specs.RowTypes.{IsRowOf}
+use Rattle.pipe_model.specs.Answer.{answer_row, tuple_cmp}
+use Rattle.pipe_model.specs.Output.{key_types, output_schema}
+use Rattle.pipe_model.specs.Query.{QueryTree}
+use Rattle.pipe_model.specs.Rows.{HaveDistinctPlaces, total_height}
+use Rattle.pipe_spill.specs.SpillRow.{AreRows, spilled}
+use Rattle.pipe_spill.specs.declared.spill_row.SpillRow.{SpillRow}
+use Rattle.pipe_groups.specs.declared.placed_groups.PlacedGroups.{PlacedGroups}
+use Rattle.pipe_groups.specs.Holds.{Holds}
+use Rattle.pipe_groups.specs.QueryRows.{ArePlacedRows}
+use Rattle.pipe_groups.specs.Shape.{shape_of}
+use Rattle.pipe_sinks.specs.Runs.{placed_rows}
+use Rattle.pipe_sinks.specs.Tables.{Table}
+
+-- chunks of a query's columns, whose rows have places of their own and number fewer than 2^32
+pub record AreTaken (q : QueryTree) (taken : List DataChunk) : Type 0 where
+  pub columns : All (λ c. FitsSchema q.schema c.frame) taken
+  pub typed : All (λ c. HoldsTypes c.frame) taken
+  pub once : HaveDistinctPlaces (placed_rows q taken)
+  pub rows : total_height taken < 2 ^ 32
+
+-- what is spilled of the rows of chunks
+abbrev pub spilled_rows : QueryTree → List DataChunk → List SpillRow
+spilled_rows q chunks = map (spilled (key_types q)) (placed_rows q chunks)
+
+-- a table holds the rows of chunks
+pub record HoldsChunks (q : QueryTree) (taken : List DataChunk) (t : Table) : Type 0 where
+  pub shape : t.shape ≡ shape_of q
+  pub holds : Holds t.shape.prototypes t.groups (spilled_rows q taken)
+  pub typed : AreRows t.shape.key_types t.shape.input_types (spilled_rows q taken)
+
+-- the distinct keys of rows, in their order
+abbrev pub keys_in_order : List Row → List (List AnyValue)
+keys_in_order rs = sorted_keys tuple_cmp (map (λ r. r.key) rs)
+
+-- a table gave its groups out: their rows of the answer, in the order of their keys, with the least
+-- place where rows have each, if order is kept
+pub record GaveChunks (q : QueryTree) (taken : List DataChunk) (p : PlacedGroups) : Type 0 where
+  pub frame_is : p.frame ≡ frame_of (output_schema q)
+      (map (answer_row q (placed_rows q taken)) (keys_in_order (placed_rows q taken)))
+  pub typed : All (IsRowOf q) (placed_rows q taken)
+  pub placed : q.keeps_order ≡ true
+      → ArePlacedRows q (placed_rows q taken) (keys_in_order (placed_rows q taken)) p.frame p.firsts
+
+-- the rows of chunks are in a table, or were given out by it
+abbrev pub AreKept : QueryTree → List DataChunk → Table → Option PlacedGroups → Type 0
+AreKept q taken t None = HoldsChunks q taken t
+AreKept q taken t (Some p) = HoldsChunks q [] t × GaveChunks q taken p
+
+-- a sink of so many partitions has taken chunks
+pub record HasTaken (q : QueryTree) (partitions : ℕ) (taken : List DataChunk) (t : Table)
+    (given : Option PlacedGroups) : Type 0 where
+  pub some : 0 < partitions
+  pub few : partitions ≤ 2 ^ 32
+  pub keyed : length q.keys ≡ 1
+  pub chunks : AreTaken q taken
+  pub kept : AreKept q taken t given

@@ -1,0 +1,72 @@
+//! Rows that are fed to groups that are found by their keys.
+
+ghost use Rattle.std.specs.Prelude.{◌≡◌, ◌-◌, ◌<◌, ◌^◌, ◌∷◌, ◌++◌, [], length, OnErr, OnOk, slice_set};
+ghost use Rattle.pipe_chains.specs.Hash.{hash_of};
+ghost use Rattle.pipe_inputs.specs.ChunkRows.{row_at};
+ghost use Rattle.pipe_running.specs.GroupStates.{fresh_states, StatesSeen, TakesFrom};
+ghost use Rattle.pipe_groups.specs.Groups.{group_of, HasGroups, new_group, with_row};
+
+use crate::keyed_groups::KeyedGroups;
+use pipe_columns::Place;
+use pipe_inputs::ChunkRows;
+use pipe_spill::Values;
+use std::alloc::AllocError;
+
+impl KeyedGroups {
+    /// Takes a row into a group, without memory.
+    pub(crate) fn feed(&mut self, index: usize, place: Place, values: Values)
+        requires within { index < length self.old.groups }
+        requires few { StatesSeen (2 ^ 32 - 2) (group_of self.old.groups index).states }
+        requires taken { TakesFrom 0 (group_of self.old.groups index).states values }
+        ensures groups { HasGroups self.old self.new (slice_set self.old.groups index
+            (with_row place values (group_of self.old.groups index))) }
+    {
+        self.groups.feed(index, place, values);
+    }
+
+    /// Takes row `row` of a chunk into a group. Memory is taken for texts that the group keeps alone.
+    pub(crate) fn feed_lent(
+        &mut self,
+        index: usize,
+        rows: &ChunkRows<'_>,
+        row: usize,
+    ) -> Result<(), AllocError>
+        requires within { index < length self.old.groups }
+        requires there { row < length rows.now }
+        requires number { row < 2 ^ 32 }
+        requires few { StatesSeen (2 ^ 32 - 2) (group_of self.old.groups index).states }
+        requires taken { TakesFrom 0 (group_of self.old.groups index).states
+            (row_at rows.now row).inputs }
+        ensures ok { OnOk result (HasGroups self.old self.new (slice_set self.old.groups index
+            (with_row (row_at rows.now row).place (row_at rows.now row).inputs
+            (group_of self.old.groups index)))) }
+        ensures err { OnErr result (HasGroups self.old self.new self.old.groups) }
+    {
+        self.groups.feed_lent(index, rows, row)
+    }
+
+    /// Appends a group for a key that has none, with row `row` of a chunk, whose inputs are owned first,
+    /// so that nothing can fail once there is the group.
+    pub(crate) fn push_lent(
+        &mut self,
+        hash: u64,
+        key: &[u8],
+        rows: &ChunkRows<'_>,
+        row: usize,
+    ) -> Result<(), AllocError>
+        requires hash { hash ≡ hash_of key.now }
+        requires there { row < length rows.now }
+        requires number { row < 2 ^ 32 }
+        requires taken { TakesFrom 0 (fresh_states self.old.shape.prototypes)
+            (row_at rows.now row).inputs }
+        ensures ok { OnOk result (HasGroups self.old self.new (self.old.groups
+            ++ with_row (row_at rows.now row).place (row_at rows.now row).inputs
+            (new_group self.old.shape.prototypes key.now) ∷ [])) }
+        ensures err { OnErr result (HasGroups self.old self.new self.old.groups) }
+    {
+        let values = rows.own_inputs(self.chains.allocator(), row)?;
+        let index = self.push(hash, key)?;
+        self.feed(index, rows.place(row), Values::new(values));
+        Ok(())
+    }
+}
