@@ -16,7 +16,7 @@ use Rattle.pipe_csv.proofs.RecordList.{length-records}
 use Rattle.pipe_csv.proofs.ReadFacts.{after-ok, same_Ok, other_header, same_header}
 
 -- each record is a row
-length-rows : (file row : ℕ) (fs : List Field) (rest : Records) (rows : List (List AnyValue)) → read_rows file row fs rest ≡ Ok rows → length rows ≡ length rest
+pub length-rows : (file row : ℕ) (fs : List Field) (rest : Records) (rows : List (List AnyValue)) → read_rows file row fs rest ≡ Ok rows → length rows ≡ length rest
 length-rows file row fs [] rows e = sym (ap length (same_Ok {E = Misfit} [] rows e))
 length-rows file row fs (r ∷ rs) rows e =
     let parts = after-ok (read_row file row fs r) (read_rows file (row + 1) fs rs) rows e in

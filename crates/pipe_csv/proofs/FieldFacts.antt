@@ -1,5 +1,5 @@
 -- Reading fields.
-use Rattle.std.proofs.Common.{◌≡◌, ◌∙◌, ℕ, ◌^◌, ◌<◌, Bool, true, false, ℤ, pos, negsuc, List, [], ◌∷◌, Option, Some, None, option_and_then, if◌then◌else◌, refl, sym, arith, subst}
+use Rattle.std.proofs.Common.{◌≡◌, ◌∙◌, ℕ, ◌^◌, ◌<◌, Bool, true, false, ℤ, pos, negsuc, List, [], ◌∷◌, Option, Some, None, option_and_then, if◌then◌else◌, is_some, refl, sym, ap, arith, subst}
 use Rattle.std.proofs.lemmas.Bool.Decides.{nat_tests}
 use Rattle.pipe_columns.specs.declared.data_type.DataType.{DataType}
 use Rattle.pipe_columns.specs.declared.data_type.DataType.TheVariants as dt
@@ -65,6 +65,10 @@ int-none t text e = sym (int-by_128 t text ∙ rw (← e) refl)
 same-text : (text : List ℕ) (b : Bool) → is_utf8 text ≡ b → (IsUtf8 text → Some (av.Text text) ≡ read_text text) × (¬ IsUtf8 text → None ≡ read_text text)
 same-text text true e = (λ h. rw e refl, λ h. absurd (h (IsUtf8-from_is_utf8 text e)))
 same-text text false e = (λ h. let f : is_utf8 text ≡ true = is_utf8-from_IsUtf8 text h in cc, λ h. rw e refl)
+
+-- a text reads exactly where it is in UTF-8
+pub text-reads : (text : List ℕ) → (IsUtf8 text → true ≡ is_some (read_text text)) × (¬ IsUtf8 text → false ≡ is_some (read_text text))
+text-reads text = (λ h. ap is_some ((same-text text (is_utf8 text) refl).0 h), λ h. ap is_some ((same-text text (is_utf8 text) refl).1 h))
 
 -- a text reads as its copy
 pub text-some : (text copy made : List ℕ) → copy ≡ text → made ≡ copy → IsUtf8 made → Some (av.Text made) ≡ read_text text

@@ -13,7 +13,7 @@ use Rattle.pipe_columns.specs.Pieces.{pieces, pieces_within}
 use Rattle.pipe_csv.specs.Columns.{column_of, columns_of, values_from, with_row}
 
 -- turns past the last piece change nothing
-enough_turns : {A : Type 0} (m k n : ℕ) (xs : List A) → 0 < n → length xs ≤ m → length xs ≤ k → pieces_within m n xs ≡ pieces_within k n xs
+pub enough_turns : {A : Type 0} (m k n : ℕ) (xs : List A) → 0 < n → length xs ≤ m → length xs ≤ k → pieces_within m n xs ≡ pieces_within k n xs
 enough_turns zero zero n xs p h g = refl
 enough_turns zero (suc k) n [] p h g = refl
 enough_turns zero (suc k) n (x ∷ xs) p h g = absurd (omega arith)

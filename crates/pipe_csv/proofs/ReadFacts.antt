@@ -98,7 +98,7 @@ length-fields file row column (f ∷ fs) (t ∷ ts) values h e =
     ap length parts.4 ∙ ap (λ n. suc n) (length-fields file row (column + 1) fs ts parts.1 (omega arith) parts.3)
 
 -- a row that is read has a value for each field
-length-row : (file row : ℕ) (fs : List Field) (ts : List (List ℕ)) (values : List AnyValue) (b : Bool) → (length ts == length fs) ≡ b → read_row file row fs ts ≡ Ok values → length values ≡ length fs
+pub length-row : (file row : ℕ) (fs : List Field) (ts : List (List ℕ)) (values : List AnyValue) (b : Bool) → (length ts == length fs) ≡ b → read_row file row fs ts ≡ Ok values → length values ≡ length fs
 length-row file row fs ts values true s e = let h : length ts ≡ length fs = (Decides-eqb (length ts) (length fs)).0 s in length-fields file row 1 fs ts values h (sym (row-same file row fs ts h) ∙ e)
 length-row file row fs ts values false s e = let f : Err (width file row) ≡ Ok values = sym (row-width file row fs ts (λ h. absurd (false≢true (sym s ∙ eq-eqb (length ts) (length fs) h)))) ∙ e in cc
 
@@ -113,7 +113,7 @@ fields-fit file row column i (f ∷ fs) (t ∷ ts) all values d h e =
     (rw (← here) (value-fits f t (field file row column) parts.0 parts.2), fields-fit file row (column + 1) (i + 1) fs ts all parts.1 tail (omega arith) parts.3)
 
 -- the values of a row that is read fit the schema
-row-fits : (file row : ℕ) (fs : List Field) (ts : List (List ℕ)) (values : List AnyValue) (b : Bool) → (length ts == length fs) ≡ b → read_row file row fs ts ≡ Ok values → RowFits 0 fs values
+pub row-fits : (file row : ℕ) (fs : List Field) (ts : List (List ℕ)) (values : List AnyValue) (b : Bool) → (length ts == length fs) ≡ b → read_row file row fs ts ≡ Ok values → RowFits 0 fs values
 row-fits file row fs ts values true s e = let h : length ts ≡ length fs = (Decides-eqb (length ts) (length fs)).0 s in fields-fit file row 1 0 fs ts values values refl h (sym (row-same file row fs ts h) ∙ e)
 row-fits file row fs ts values false s e = let f : Err (width file row) ≡ Ok values = sym (row-width file row fs ts (λ h. absurd (false≢true (sym s ∙ eq-eqb (length ts) (length fs) h)))) ∙ e in cc
 

@@ -90,7 +90,11 @@ fn is_ascending(values: &[AnyValue]) -> bool
 }
 
 /// A column of a field, marked as sorted where its values ascend.
-fn make_column(alloc: Global, field: &Field, values: Vec<AnyValue>) -> Result<Column, AllocError>
+pub fn make_column(
+    alloc: Global,
+    field: &Field,
+    values: Vec<AnyValue>,
+) -> Result<Column, AllocError>
     requires { AllFit field.now.dtype values.items }
     ensures { IfOk result (λ c. c ≡ column_of field.now values.items) }
 {

@@ -1,6 +1,6 @@
 //! The values that fields read as.
 
-ghost use Rattle.std.specs.Prelude.{◌≡◌, IfOk};
+ghost use Rattle.std.specs.Prelude.{◌≡◌, IfOk, is_some};
 ghost use Rattle.pipe_csv.specs.Fields.{read_boolean, read_field, read_int, read_text};
 ghost use Rattle.pipe_csv.specs.Numbers.{narrowed};
 
@@ -65,5 +65,29 @@ pub fn read_field(
         DataType::Boolean => Ok(read_boolean(text)),
         DataType::String => read_text(alloc, text),
         _ => Ok(read_integer(dtype, text)),
+    }
+}
+
+/// Whether the bytes are UTF-8.
+fn is_text(text: &[u8]) -> bool
+    ensures { result ≡ is_some (read_text text.now) }
+{
+    match str::from_utf8(text) {
+        Ok(_) => true,
+        Err(_) => false,
+    }
+}
+
+/// Whether a field reads as a value of a type. It takes no memory.
+pub fn does_read(dtype: DataType, text: &[u8]) -> bool
+    ensures { result ≡ is_some (read_field dtype text.now) }
+{
+    if text.is_empty() {
+        return true;
+    }
+    match dtype {
+        DataType::Boolean => read_boolean(text).is_some(),
+        DataType::String => is_text(text),
+        _ => read_integer(dtype, text).is_some(),
     }
 }

@@ -13,6 +13,9 @@ mod records;
 mod worked;
 
 pub use chunk_sink::ChunkSink;
+pub use columns::{empty_columns, make_column, push_record};
 pub use csv_chunks::{read_chunks, read_into};
 pub use csv_error::CsvError;
 pub use csv_text::frame_text;
+pub use field::{does_read, read_field};
+pub use records::is_header;

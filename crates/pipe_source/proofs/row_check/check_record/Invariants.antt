@@ -1,0 +1,12 @@
+use Rattle.std.proofs.Common.{List, drop}
+use Rattle.csv.specs.Records.{fields_of}
+use Rattle.pipe_columns.specs.declared.any_value.AnyValue.{AnyValue}
+use Rattle.pipe_csv.specs.CsvChunks.{read_row}
+use Rattle.pipe_source.proofs.FieldsLeft.{FieldsLeft}
+use Rattle.pipe_source.proofs.row_check.check_record.Given as goal
+
+-- the first fields read
+abbrev pub invariant-loop-i : goal.invariant-loop-i
+invariant-loop-i l =
+    (done : List AnyValue)
+    × FieldsLeft l.file l.row l.fields (read_row l.file l.row l.fields (fields_of l.entry)) l.i done (drop l.i (fields_of l.entry))

@@ -1,0 +1,84 @@
+-- Of the proofs alone: rows that stand in a text, and what reading them tells.
+use Rattle.std.specs.Prelude.{◌≡◌, ◌≤◌, ℕ, Bool, true, false, List, [], ◌∷◌, length, take, Option, Some, Result, Ok, Err, IfSome, ⊤}
+use Rattle.pipe_columns.specs.declared.any_value.AnyValue.{AnyValue}
+use Rattle.pipe_columns.specs.declared.schema.Field.{Field}
+use Rattle.pipe_csv.specs.CsvChunks.{Misfit, read_row, read_rows, field, header, missing, width}
+use Rattle.pipe_csv.specs.Columns.{with_row}
+use Rattle.pipe_csv.specs.CsvError.{StopsBy}
+use Rattle.pipe_csv.specs.declared.csv_error.CsvError.{CsvError}
+use Rattle.pipe_csv.specs.declared.csv_error.CsvError.TheVariants as csv_error
+use Rattle.pipe_io.specs.Files.{Files, IsWhole, file_of}
+use Rattle.pipe_io.specs.declared.whole_file.TheConstants.{MOST_FILE_BYTES}
+use Rattle.pipe_scan.specs.Records.{records_at}
+use Rattle.pipe_source.specs.CsvChunks.{Stop, file_rows, misfit, too_large}
+use Rattle.pipe_source.specs.declared.read_options.CsvReadOptions.{CsvReadOptions}
+use Rattle.pipe_source.specs.declared.source_place.SourcePlace.{SourcePlace}
+use Rattle.pipe_source.specs.declared.file_text.FileText.{FileText}
+
+-- the rows of records of which each reads
+abbrev pub rows_in : List Field → List (List (List ℕ)) → List (List AnyValue)
+rows_in schema records = those (read_rows 1 1 schema records) where
+  those : Result (List (List AnyValue)) Misfit → List (List AnyValue)
+  those (Ok rows) = rows
+  those (Err m) = []
+
+-- the records of a text from a place on begin with so many rows
+pub record AreRowsAt
+    (schema : List Field) (text : List ℕ) (at count : ℕ) (rows : List (List AnyValue))
+    : Type 0 where
+  pub read : read_rows 1 1 schema (take count (records_at text at)) ≡ Ok rows
+  pub size : length rows ≡ count
+  pub within : at ≤ length text
+
+-- a text that was read whole and looked over has the wanted rows of its file
+pub record IsLoaded
+    (options : CsvReadOptions) (schema : List Field) (at : SourcePlace)
+    (told : Option Files) (name : List ℕ) (f : FileText) : Type 0 where
+  pub rows : List (List AnyValue)
+  pub whole : IsWhole told name f.text.items
+  pub wanted : file_rows options schema at (Some f.text.items) ≡ Ok rows
+  pub placed : AreRowsAt schema f.text.items f.begin f.count rows
+  pub few : f.count ≤ MOST_FILE_BYTES
+
+-- the next record was a row, or there was none
+abbrev pub ReadsRow : ℕ → ℕ → List Field → List ℕ → ℕ → ℕ → List AnyValue → Type 0
+ReadsRow file row schema text at next values =
+    (fields : List (List ℕ)) × (records_at text at ≡ fields ∷ records_at text next)
+    × (read_row file row schema fields ≡ Ok values)
+
+-- whether there was one more row, which then reads
+abbrev pub ChecksRow : ℕ → ℕ → List Field → List ℕ → ℕ → ℕ → Bool → Type 0
+ChecksRow file row schema text at next true =
+    (values : List AnyValue) × ReadsRow file row schema text at next values
+ChecksRow file row schema text at next false = records_at text at ≡ []
+
+-- an error of the first of some records, or want of memory
+abbrev pub StopsFirst : CsvError → ℕ → ℕ → List Field → List (List (List ℕ)) → Type 0
+StopsFirst e file row schema [] = e ≡ csv_error.Memory
+StopsFirst e file row schema (r ∷ rs) = StopsBy e (read_row file row schema r)
+
+-- an error of a file names where it stops
+abbrev pub StopsFile : CsvError → Result (List (List AnyValue)) Stop → Type 0
+StopsFile (csv_error.Missing file) read = read ≡ Err (misfit (missing file))
+StopsFile (csv_error.Header file) read = read ≡ Err (misfit (header file))
+StopsFile (csv_error.Width file row) read = read ≡ Err (misfit (width file row))
+StopsFile (csv_error.Field file row column) read =
+    read ≡ Err (misfit (field file row column))
+StopsFile csv_error.TooLarge read = read ≡ Err too_large
+StopsFile csv_error.Input read = ⊤
+StopsFile csv_error.Memory read = ⊤
+
+-- where files are told, an error names where the file of a name stops
+abbrev pub StopsTold :
+    CsvError → CsvReadOptions → List Field → SourcePlace → Option Files → List ℕ → Type 0
+StopsTold e options schema at told name =
+    IfSome told (λ files. StopsFile e (file_rows options schema at (file_of files name)))
+
+-- whether there was one more row, whose values then went to the ends of columns
+abbrev pub PushesRow :
+    ℕ → ℕ → List Field → List ℕ → ℕ → ℕ
+    → List (List AnyValue) → List (List AnyValue) → Bool → Type 0
+PushesRow file row schema text at next old new true =
+    (values : List AnyValue) × ReadsRow file row schema text at next values
+    × (new ≡ with_row values old)
+PushesRow file row schema text at next old new false = records_at text at ≡ []

@@ -1,0 +1,112 @@
+//! Files that are read whole, up to the first that has rows.
+
+ghost use Rattle.std.specs.Prelude.{◌≡◌, ◌≤◌, ◌^◌, ◌↔◌, IfErr, IfOk, IsErrOf, true};
+ghost use Rattle.pipe_columns.specs.Causes.{HasCause};
+ghost use Rattle.pipe_csv.specs.declared.csv_error.CsvError.TheVariants as csv_error;
+ghost use Rattle.pipe_source.specs.CsvChunks.{is_any_wanted, is_numbered, wanted_after};
+ghost use Rattle.pipe_source.specs.Found.{Finds, StopsFrom};
+ghost use Rattle.pipe_source.specs.Rows.{IsLoaded, StopsTold};
+
+use crate::file_text::FileText;
+use crate::look_over::look_over;
+use crate::read_options::CsvReadOptions;
+use crate::source_place::SourcePlace;
+use pipe_columns::{Field, Text};
+use pipe_csv::CsvError;
+use pipe_io::{FileEnd, InputFiles, read_file};
+use std::alloc::Global;
+
+/// How many rows are still wanted after some, where they are limited.
+pub(crate) fn wanted_after(limit: Option<usize>, given: u128) -> Option<usize>
+    ensures { result ≡ wanted_after limit given }
+{
+    match limit {
+        Some(limit) if given < limit as u128 => Some(limit - given as usize),
+        Some(_) => Some(0),
+        None => None,
+    }
+}
+
+/// Whether the numbers of rows, of which so many come before, stay below 2^32.
+fn is_numbered(index: &Option<(Text, u32)>, given: u128, count: usize) -> bool
+    requires { given ≤ 2 ^ 100 }
+    ensures { result ≡ is_numbered index.now given count }
+{
+    match index {
+        Some(index) => u128::from(index.1) + given + count as u128 <= 1 << 32,
+        None => true,
+    }
+}
+
+/// Reads the file of a name whole, and looks over its wanted rows.
+fn load_file<I: InputFiles>(
+    alloc: Global,
+    input: &mut I,
+    name: &Text,
+    at: SourcePlace,
+    fields: &[Field],
+    options: &CsvReadOptions,
+) -> Result<FileText, CsvError>
+    requires { at.rows ≤ 2 ^ 100 }
+    ensures told { I.told input.new ≡ I.told input.old }
+    ensures loaded { IfOk result
+        (λ f. IsLoaded options.now fields.now at (I.told input.old) name.now f) }
+    ensures stop { IfErr result
+        (λ e. StopsTold e options.now fields.now at (I.told input.old) name.now) }
+    ensures cause { HasCause (I.faults input.old) (I.faults input.new)
+        (IsErrOf result csv_error.Input) }
+{
+    let text = match read_file(alloc, input, name) {
+        Ok(text) => text,
+        Err(FileEnd::Missing) => return Err(CsvError::Missing { file: at.file }),
+        Err(FileEnd::Failed) => return Err(CsvError::Input),
+        Err(FileEnd::TooLarge) => return Err(CsvError::TooLarge),
+        Err(FileEnd::Memory) => return Err(CsvError::Memory),
+    };
+    let wanted = wanted_after(options.n_rows, at.rows);
+    let (begin, count) = match look_over(alloc, &text, fields, at.file, wanted) {
+        Ok(found) => found,
+        Err(error) => return Err(error),
+    };
+    if !is_numbered(&options.row_index, at.rows, count) {
+        return Err(CsvError::TooLarge);
+    }
+    Ok(FileText { text, begin, count })
+}
+
+/// Reads files from a place on, up to the first that has wanted rows.
+pub(crate) fn find_rows<I: InputFiles>(
+    alloc: Global,
+    input: &mut I,
+    names: &[Text],
+    last: SourcePlace,
+    fields: &[Field],
+    options: &CsvReadOptions,
+) -> Result<Option<(usize, FileText)>, CsvError>
+    requires few { last.rows ≤ 2 ^ 100 }
+    requires wanted { is_any_wanted (wanted_after options.now.n_rows last.rows) ≡ true }
+    ensures told { I.told input.new ≡ I.told input.old }
+    ensures found { IfOk result (λ o.
+        Finds options.now fields.now (I.told input.old) names.now last o) }
+    ensures stop { IfErr result (λ e.
+        StopsFrom e options.now fields.now (I.told input.old) names.now last) }
+    ensures cause { HasCause (I.faults input.old) (I.faults input.new)
+        (IsErrOf result csv_error.Input) }
+{
+    for i in last.file..names.len() {
+        let at = SourcePlace {
+            file: i + 1,
+            chunks: last.chunks,
+            rows: last.rows,
+        };
+        match load_file(alloc, input, &names[i], at, fields, options) {
+            Ok(found) => {
+                if found.count > 0 {
+                    return Ok(Some((i, found)));
+                }
+            }
+            Err(error) => return Err(error),
+        }
+    }
+    Ok(None)
+}

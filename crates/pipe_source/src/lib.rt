@@ -1,0 +1,22 @@
+//! A source of the chunks of several files of CSV.
+#![tactic(auto)]
+
+mod chunk_reader;
+mod csv_source;
+mod file_load;
+mod file_text;
+mod look_over;
+mod read_options;
+mod row_check;
+mod row_push;
+mod source_columns;
+mod source_place;
+mod worked;
+
+pub use chunk_reader::ChunkReader;
+pub use csv_source::CsvSource;
+pub use read_options::CsvReadOptions;
+pub use source_place::SourcePlace;
+
+#[cfg(test)]
+mod tests;

@@ -1,0 +1,47 @@
+//! The text of a file that is looked over before any row of it is given.
+
+ghost use Rattle.std.specs.Prelude.{◌≡◌, ◌≤◌, IfErr, IfOk, List, Ok, length};
+ghost use Rattle.pipe_columns.specs.declared.any_value.AnyValue.{AnyValue};
+ghost use Rattle.pipe_csv.specs.CsvError.{StopsBy};
+ghost use Rattle.pipe_io.specs.declared.whole_file.TheConstants.{MOST_FILE_BYTES};
+ghost use Rattle.pipe_source.specs.CsvChunks.{text_rows};
+ghost use Rattle.pipe_source.specs.Rows.{AreRowsAt};
+
+use crate::row_check::check_rows;
+use csv::ByteRecord;
+use pipe_columns::Field;
+use pipe_csv::{CsvError, is_header};
+use pipe_scan::{read_record, text_start};
+use std::alloc::Global;
+
+/// Where the wanted rows of the text of a file begin, and how many there are, or the first misfit.
+/// No value is made.
+pub(crate) fn look_over(
+    alloc: Global,
+    text: &[u8],
+    fields: &[Field],
+    file: usize,
+    wanted: Option<usize>,
+) -> Result<(usize, usize), CsvError>
+    requires { length text.now ≤ MOST_FILE_BYTES }
+    ensures rows { IfOk result (λ r. (rows : List (List AnyValue))
+        × (text_rows file wanted fields.now text.now ≡ Ok rows)
+        × AreRowsAt fields.now text.now r.0 r.1 rows) }
+    ensures few { IfOk result (λ r. r.1 ≤ MOST_FILE_BYTES) }
+    ensures stop { IfErr result (λ e. StopsBy e (text_rows file wanted fields.now text.now)) }
+{
+    let start = text_start(text);
+    let mut entry = ByteRecord::new(alloc);
+    let mut bytes = Vec::new(alloc);
+    let Some(begin) = read_record(text, start, &mut entry, &mut bytes)? else {
+        return Err(CsvError::Header { file });
+    };
+    if !is_header(fields, &entry) {
+        return Err(CsvError::Header { file });
+    }
+    let most = wanted.unwrap_or(usize::MAX);
+    match check_rows(alloc, text, begin, fields, file, most) {
+        Ok(count) => Ok((begin, count)),
+        Err(error) => Err(error),
+    }
+}

@@ -1,0 +1,151 @@
+//! Rows that are looked over: whether each field reads, without a value of it.
+
+ghost use Rattle.std.specs.Prelude.{◌≡◌, ◌≤◌, IfErr, IfOk, List, Ok, length, take};
+ghost use Rattle.csv.specs.Records.{fields_of};
+ghost use Rattle.pipe_columns.specs.declared.any_value.AnyValue.{AnyValue};
+ghost use Rattle.pipe_csv.specs.CsvChunks.{read_row, read_rows};
+ghost use Rattle.pipe_csv.specs.CsvError.{StopsBy};
+ghost use Rattle.pipe_scan.specs.Records.{InOrder, cut, records_at};
+ghost use Rattle.pipe_scan.specs.Stops.{AreMarked};
+ghost use Rattle.pipe_source.specs.Rows.{ChecksRow, StopsFirst};
+
+use csv::ByteRecord;
+use pipe_columns::Field;
+use pipe_csv::{CsvError, does_read};
+use pipe_scan::{Row, Stops, next_row};
+use std::alloc::Global;
+
+/// Looks over the fields of a row that lie in the text.
+fn check_fields(
+    text: &[u8],
+    start: usize,
+    ends: &[usize],
+    fields: &[Field],
+    file: usize,
+    row: usize,
+) -> Result<(), CsvError>
+    requires order { InOrder (length text.now) start ends.now }
+    requires width { length ends.now ≡ length fields.now }
+    ensures reads { IfOk result (λ _. (values : List AnyValue)
+        × (read_row file row fields.now (cut text.now start ends.now) ≡ Ok values)) }
+    ensures stop { IfErr result
+        (λ e. StopsBy e (read_row file row fields.now (cut text.now start ends.now))) }
+{
+    let mut low = start;
+    for (i, field) in fields.iter().enumerate() {
+        let high = ends[i];
+        if !does_read(field.dtype, &text[low..high]) {
+            return Err(CsvError::Field {
+                file,
+                row,
+                column: i + 1,
+            });
+        }
+        low = high + 1;
+    }
+    Ok(())
+}
+
+/// Looks over the fields of a row that was read.
+fn check_record(
+    entry: &ByteRecord,
+    fields: &[Field],
+    file: usize,
+    row: usize,
+) -> Result<(), CsvError>
+    ensures reads { IfOk result (λ _. (values : List AnyValue)
+        × (read_row file row fields.now (fields_of entry.now) ≡ Ok values)) }
+    ensures stop { IfErr result
+        (λ e. StopsBy e (read_row file row fields.now (fields_of entry.now))) }
+{
+    if entry.len() != fields.len() {
+        return Err(CsvError::Width { file, row });
+    }
+    for (i, field) in fields.iter().enumerate() {
+        if !does_read(field.dtype, entry.get(i).unwrap()) {
+            return Err(CsvError::Field {
+                file,
+                row,
+                column: i + 1,
+            });
+        }
+    }
+    Ok(())
+}
+
+/// Looks over the next row, if there is one.
+fn check_row(
+    text: &[u8],
+    stops: &mut Stops,
+    ends: &mut [usize],
+    entry: &mut ByteRecord,
+    bytes: &mut Vec<u8>,
+    fields: &[Field],
+    file: usize,
+    row: usize,
+) -> Result<bool, CsvError>
+    requires marked { AreMarked text.now stops.old }
+    requires width { length ends.old ≡ length fields.now }
+    ensures reads { IfOk result (λ found.
+        ChecksRow file row fields.now text.now stops.old.cursor stops.new.cursor found) }
+    ensures stop { IfErr result
+        (λ e. StopsFirst e file row fields.now (records_at text.now stops.old.cursor)) }
+    ensures marked { AreMarked text.now stops.new }
+    ensures width { length ends.new ≡ length fields.now }
+{
+    match next_row(text, stops, ends, entry, bytes)? {
+        Row::End => Ok(false),
+        Row::Plain { start, count } => {
+            if count != fields.len() {
+                return Err(CsvError::Width { file, row });
+            }
+            check_fields(text, start, ends, fields, file, row)?;
+            Ok(true)
+        }
+        Row::Quoted => {
+            check_record(entry, fields, file, row)?;
+            Ok(true)
+        }
+        Row::Wide => Err(CsvError::Width { file, row }),
+    }
+}
+
+/// Looks over the rows of a text from a place on, so many at most, and tells how many there are.
+pub(crate) fn check_rows(
+    alloc: Global,
+    text: &[u8],
+    at: usize,
+    fields: &[Field],
+    file: usize,
+    most: usize,
+) -> Result<usize, CsvError>
+    requires { at ≤ length text.now }
+    ensures reads { IfOk result (λ count. (rows : List (List AnyValue))
+        × (read_rows file 1 fields.now (take most (records_at text.now at)) ≡ Ok rows)
+        × (length rows ≡ count)) }
+    ensures stop { IfErr result
+        (λ e. StopsBy e (read_rows file 1 fields.now (take most (records_at text.now at)))) }
+{
+    let mut ends = vec![in alloc; 0; fields.len()]?;
+    let mut entry = ByteRecord::new(alloc);
+    let mut bytes = Vec::new(alloc);
+    let mut stops = Stops::new(at);
+    for row in 0..most {
+        let found = check_row(
+            text,
+            &mut stops,
+            &mut ends,
+            &mut entry,
+            &mut bytes,
+            fields,
+            file,
+            row + 1,
+        );
+        match found {
+            Ok(true) => {}
+            Ok(false) => return Ok(row),
+            Err(error) => return Err(error),
+        }
+    }
+    Ok(most)
+}

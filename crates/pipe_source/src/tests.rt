@@ -1,0 +1,197 @@
+//! What a reader gives of files in memory, whichever input call fails.
+
+use crate::chunk_reader::ChunkReader;
+use crate::read_options::CsvReadOptions;
+use pipe_columns::{AnyValue, DataChunk, DataType, Field, Schema, Text};
+use pipe_io::MemoryFiles;
+use std::alloc::{AllocError, Global};
+use std::fmt::Write;
+use std::process::Abort;
+use std::test::Fail;
+
+/// Two files of a key and a value.
+const TWO_FILES: [(&str, &str); 2] = [("a.csv", "k,v\n1,5\n2,6\n"), ("b.csv", "k,v\n1,7\n9,9\n")];
+
+/// What the rows of both are in chunks of two, of which three are wanted.
+const THREE_ROWS: &str = "[0 i 0 1 k 1 2 v 5 6 p a.csv a.csv][1 i 2 k 1 v 7 p b.csv]";
+
+/// The files in memory, of whose input calls some fail.
+fn memory_files(
+    alloc: Global,
+    files: &[(&str, &str)],
+    failing: &[u64],
+) -> Result<MemoryFiles, AllocError> {
+    let mut held = Vec::new(alloc);
+    for file in files {
+        let bytes = Vec::from_slice(alloc, file.1.as_bytes())?;
+        if held.push((Text::new(alloc, file.0)?, bytes)).is_err() {
+            return Err(AllocError);
+        }
+    }
+    Ok(MemoryFiles::new(held, Vec::from_slice(alloc, failing)?))
+}
+
+/// A reader of files of a key and a value.
+fn reader_of(
+    alloc: Global,
+    names: &[&str],
+    options: CsvReadOptions,
+) -> Result<Option<ChunkReader>, AllocError> {
+    if options.chunk_size == 0 {
+        return Ok(None);
+    }
+    let mut texts = Vec::new(alloc);
+    for name in names {
+        if texts.push(Text::new(alloc, name)?).is_err() {
+            return Err(AllocError);
+        }
+    }
+    let key = Field {
+        name: Text::new(alloc, "k")?,
+        dtype: DataType::Int64,
+    };
+    let value = Field {
+        name: Text::new(alloc, "v")?,
+        dtype: DataType::Int64,
+    };
+    let schema = Schema::new(vec![in alloc; key, value]?);
+    Ok(Some(ChunkReader::new(alloc, texts, schema, options)))
+}
+
+/// The chunks of so many rows, without columns more.
+fn plain(chunk_size: usize, n_rows: Option<usize>) -> CsvReadOptions {
+    CsvReadOptions {
+        chunk_size,
+        n_rows,
+        row_index: None,
+        include_file_path: None,
+    }
+}
+
+/// Chunks of two rows, of which three are wanted, numbered and under their file's name.
+fn numbered(alloc: Global) -> Result<CsvReadOptions, AllocError> {
+    Ok(CsvReadOptions {
+        chunk_size: 2,
+        n_rows: Some(3),
+        row_index: Some((Text::new(alloc, "i")?, 0)),
+        include_file_path: Some(Text::new(alloc, "p")?),
+    })
+}
+
+/// A chunk's number, and of each column the name and the values.
+fn show_chunk(shown: &mut String, chunk: &DataChunk) -> Result<(), AllocError> {
+    write!(shown, "[{}", chunk.chunk_index)?;
+    for column in chunk.frame.columns() {
+        write!(shown, " {}", column.name().as_str())?;
+        for value in column.values() {
+            match value {
+                AnyValue::Null => write!(shown, " _")?,
+                AnyValue::Boolean(truth) => write!(shown, " {truth}")?,
+                AnyValue::Int(number) => write!(shown, " {number}")?,
+                AnyValue::Text(text) => write!(shown, " {}", text.as_str())?,
+            }
+        }
+    }
+    write!(shown, "]")
+}
+
+/// All that a reader gives; an input that failed is asked again.
+fn read_all(
+    alloc: Global,
+    files: &[(&str, &str)],
+    names: &[&str],
+    options: CsvReadOptions,
+    failing: &[u64],
+) -> Result<String, AllocError> {
+    let mut shown = String::new(alloc);
+    let mut input = memory_files(alloc, files, failing)?;
+    let Some(mut reader) = reader_of(alloc, names, options)? else {
+        return Ok(shown);
+    };
+    for _ in 0..100 {
+        match reader.next_chunk(alloc, &mut input) {
+            Ok(Some(chunk)) => show_chunk(&mut shown, &chunk)?,
+            Ok(None) => return Ok(shown),
+            Err(pipe_csv::CsvError::Input) => {}
+            Err(pipe_csv::CsvError::Memory) => return Err(AllocError),
+            Err(error) => {
+                write!(shown, "{error:?}")?;
+                return Ok(shown);
+            }
+        }
+    }
+    Ok(shown)
+}
+
+#[test]
+fn three_rows_of_two_files(rt: HostRuntime) -> Result<(), Fail> {
+    let alloc = rt.alloc();
+    let names = ["a.csv", "b.csv", "c.csv"];
+    let shown = read_all(alloc, &TWO_FILES, &names, numbered(alloc)?, &[])?;
+    assert!(rt; shown.as_str() == THREE_ROWS);
+    Ok(())
+}
+
+/// Each input call in turn fails, and is made again.
+#[test]
+fn no_row_is_lost(rt: HostRuntime) -> Result<(), Fail> {
+    let alloc = rt.alloc();
+    for call in 0..8 {
+        let names = ["a.csv", "b.csv"];
+        let shown = read_all(alloc, &TWO_FILES, &names, numbered(alloc)?, &[call])?;
+        assert!(rt; shown.as_str() == THREE_ROWS);
+    }
+    Ok(())
+}
+
+/// A text, and what it gives in chunks of two rows.
+const TEXTS: [(&str, &str); 12] = [
+    ("k,v\n1,5\n2,12x\n", "Field { file: 1, row: 2, column: 2 }"),
+    ("k,w\n", "Header { file: 1 }"),
+    ("", "Header { file: 1 }"),
+    ("k,v\n1", "Width { file: 1, row: 1 }"),
+    ("k,v\n1,2,3\n", "Width { file: 1, row: 1 }"),
+    (
+        "k,v\n\"1\",5\n\"x\",1\n",
+        "Field { file: 1, row: 2, column: 1 }",
+    ),
+    ("k,v\n1,\"5\n", "Field { file: 1, row: 1, column: 2 }"),
+    ("k,v\n", ""),
+    (
+        "\u{feff}k,v\r\n1,\r\n\r\n\r,7\r\n3,+8",
+        "[0 k 1 _ v _ 7][1 k 3 v 8]",
+    ),
+    ("\"k\",v\n1,\"2\"\n\n3,4", "[0 k 1 3 v 2 4]"),
+    ("k,v\r1,2\r3,4\r5,6", "[0 k 1 3 v 2 4][1 k 5 v 6]"),
+    ("\n\nk,v\n-0,-7\n", "[0 k 0 v -7]"),
+];
+
+#[test]
+fn texts_of_one_file(rt: HostRuntime) -> Result<(), Fail> {
+    for text in TEXTS {
+        let files = [("a", text.0)];
+        let shown = read_all(rt.alloc(), &files, &["a"], plain(2, None), &[])?;
+        assert!(rt; shown.as_str() == text.1);
+    }
+    Ok(())
+}
+
+/// Rows past the limit and files past it are not looked at; others are refused where they come.
+#[test]
+fn files_up_to_a_stop(rt: HostRuntime) -> Result<(), Fail> {
+    let alloc = rt.alloc();
+    let files = [
+        ("a", "k,v\n1,5\n2,x\n"),
+        ("b", "k,v\n3,4\n"),
+        ("c", "k,v\n"),
+    ];
+    let shown = read_all(alloc, &files, &["b", "c", "b", "a"], plain(9, Some(3)), &[])?;
+    assert!(rt; shown.as_str() == "[0 k 3 v 4][1 k 3 v 4][2 k 1 v 5]");
+    let shown = read_all(alloc, &files, &["c", "b", "a", "b"], plain(9, None), &[])?;
+    assert!(rt; shown.as_str() == "[0 k 3 v 4]Field { file: 3, row: 2, column: 2 }");
+    let shown = read_all(alloc, &files, &["b", "d"], plain(9, None), &[])?;
+    assert!(rt; shown.as_str() == "[0 k 3 v 4]Missing { file: 2 }");
+    let shown = read_all(alloc, &files, &["b", "d"], plain(9, Some(1)), &[])?;
+    assert!(rt; shown.as_str() == "[0 k 3 v 4]");
+    Ok(())
+}
