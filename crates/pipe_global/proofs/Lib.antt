@@ -10,4 +10,5 @@ pub mod ResumeFacts
 pub mod Gathered
 pub mod Finished
 pub mod ClosedFacts
+pub mod DumpedFacts
 pub mod WorkedFacts

@@ -10,3 +10,4 @@ pub mod Finishing
 pub mod Resuming
 pub mod Gathering
 pub mod WorkedTables
+pub mod TestedRows

@@ -10,11 +10,15 @@ mod closed_laws;
 mod contents;
 mod dump_error;
 mod finish;
+#[cfg(test)]
+mod finish_tests;
 mod gate;
 mod gather;
 mod global_table;
 mod journal;
 mod mark;
+#[cfg(test)]
+mod memory_tests;
 mod merge;
 mod naming;
 mod open_table;
