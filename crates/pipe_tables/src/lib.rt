@@ -41,8 +41,12 @@ mod key_tests;
 #[cfg(test)]
 mod local_tests;
 #[cfg(test)]
+mod placed_tests;
+#[cfg(test)]
 mod slice_tests;
 #[cfg(test)]
 mod table_tests;
 #[cfg(test)]
 mod test_rows;
+#[cfg(test)]
+mod two_tables;
