@@ -1,4 +1,17 @@
+pub mod Lists
 pub mod Slicing
+pub mod Carrying
+pub mod Whole
 pub mod SourceFacts
+pub mod PartRows
 pub mod ChunkFacts
 pub mod Joining
+pub mod Ready
+pub mod Ended
+pub mod Running
+pub mod Taking
+pub mod Leaving
+pub mod LimitFacts
+pub mod Openings
+pub mod Feeding
+pub mod FeedEnds

@@ -1,8 +1,20 @@
-//! What a run gives: the groups of its closed partitions, one after another.
+//! Runs: chunks that are fed in rounds to workers over partitions, and the groups that they give.
 #![tactic(auto)]
 
+mod begun;
+mod chunk_check;
+mod error;
+mod failed;
 mod group_source;
 mod laws;
+mod limits;
+mod opening;
+mod round;
+mod round_of;
+mod run;
+mod stores;
 
+pub use error::PipeError;
 pub use group_source::GroupBySource;
 pub use laws::what_a_group_source_gives;
+pub use run::GenericRun;

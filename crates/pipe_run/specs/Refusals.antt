@@ -1,0 +1,57 @@
+-- Why a run is refused before any worker starts.
+use Rattle.std.specs.Prelude.{◌≡◌, ◌<◌, ◌≤◌, ◌^◌, ◌==◌, ◌&&◌, ℕ, Bool, true, false, nat_le, nat_lt, List, All, length, take, slice_get, Some, ◌⊎◌}
+use Rattle.std.specs.List.{list_all}
+use Rattle.pipe_columns.specs.declared.data_chunk.DataChunk.{DataChunk}
+use Rattle.pipe_columns.specs.declared.schema.Field.{Field}
+use Rattle.pipe_columns.specs.Frame.{FitsSchema}
+use Rattle.pipe_model.specs.Rows.{total_height}
+use Rattle.pipe_plan.specs.declared.limits.Limits.{Limits}
+use Rattle.pipe_run.specs.declared.error.PipeError.{PipeError}
+use Rattle.pipe_run.specs.declared.error.PipeError.TheVariants as error
+
+-- whether a number lies between two others, or is one of them
+abbrev pub lies_between : ℕ → ℕ → ℕ → Bool
+lies_between low high n = nat_le low n && nat_le n high
+
+-- whether limits lie within theirs, and there are a list of actions for each worker and a store for
+-- each partition, with numbers left for its frames
+abbrev pub limits_fit : Limits → ℕ → List ℕ → Bool
+limits_fit l actions held =
+    lies_between 1 256 l.workers && lies_between 1 4096 l.partitions && nat_lt 0 l.buffer_size
+    && (actions == l.workers) && (length held == l.partitions)
+    && list_all (λ n. nat_lt n (2 ^ 63)) held
+
+-- the chunk at a position has other columns than a schema, and is the first that has
+pub record IsFirstMisfit (fields : List Field) (chunks : List DataChunk) (i : ℕ) : Type 0 where
+  pub chunk : DataChunk
+  pub at : slice_get chunks i ≡ Some chunk
+  pub before : All (λ c. FitsSchema fields c.frame) (take i chunks)
+  pub misfit : FitsSchema fields chunk.frame → ⊥
+
+-- each chunk has the columns of a schema
+abbrev pub AllFit : List Field → List DataChunk → Type 0
+AllFit fields chunks = All (λ c. FitsSchema fields c.frame) chunks
+
+-- there are fewer than 2^32 rows, and as few chunks
+abbrev pub AreFew : List DataChunk → Type 0
+AreFew chunks = (total_height chunks < 2 ^ 32) × (length chunks < 2 ^ 32)
+
+-- there are 2^32 rows or more, or as many chunks
+abbrev pub AreMany : List DataChunk → Type 0
+AreMany chunks = (2 ^ 32 ≤ total_height chunks) ⊎ (2 ^ 32 ≤ length chunks)
+
+-- why a run is not begun: its limits don't fit, or they do and memory ran out
+abbrev pub IsBeginCause : Bool → PipeError → Type 0
+IsBeginCause fit error.Limits = fit ≡ false
+IsBeginCause fit error.Memory = fit ≡ true
+IsBeginCause fit (error.Query f) = ⊥
+IsBeginCause fit error.Sink = ⊥
+IsBeginCause fit (error.Schema i) = ⊥
+IsBeginCause fit error.TooLarge = ⊥
+IsBeginCause fit (error.Store p) = ⊥
+IsBeginCause fit (error.Damaged p n) = ⊥
+
+-- chunks can be fed: all fit, and they are few
+pub record CanFeed (fields : List Field) (chunks : List DataChunk) : Type 0 where
+  pub fit : AllFit fields chunks
+  pub few : AreFew chunks

@@ -1,0 +1,47 @@
+//! How a run was begun.
+
+ghost use Rattle.std.specs.Prelude.{◌≡◌, map};
+
+use pipe_aggs::CheckedQuery;
+use pipe_plan::{Limits, SpillAction};
+use pipe_spill::SpillStore;
+use std::marker::Model;
+use std::snapshot::Snapshot;
+
+/// The query, the limits and the actions of a run, and marks without bytes of its stores as they were
+/// when it was begun. Contracts see what the marks are of.
+#[derive(Drop)]
+pub(crate) struct Begun<'a, S: SpillStore + Drop> {
+    pub(crate) query: CheckedQuery<'a>,
+    pub(crate) limits: Limits,
+    pub(crate) actions: Vec<Vec<SpillAction>>,
+    pub(crate) former: Vec<Snapshot<S>>,
+}
+
+impl<'a, S: SpillStore + Drop> Model for Begun<'a, S> {
+    ghost use Rattle.std.specs.Prelude.{map};
+    ghost use Rattle.pipe_run.specs.Setting.{Setting};
+
+    ghost Value = { Setting };
+
+    ghost view = { λ b. record {
+      query = b.query;
+      limits = b.limits;
+      actions = map (λ v. v.items) b.actions.items;
+      stores = map (λ s. record {
+        held = S.held s.value;
+        told = S.told s.value;
+        faults = S.faults s.value;
+        sure = S.sure s.value;
+      }) b.former.items;
+    } };
+}
+
+impl<'a, S: SpillStore + Drop> Begun<'a, S> {
+    /// The actions of each worker.
+    pub(crate) fn actions(&self) -> &[Vec<SpillAction>]
+        ensures { map (λ v. v.items) result.now ≡ self.now.actions }
+    {
+        &self.actions
+    }
+}

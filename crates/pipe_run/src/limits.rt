@@ -1,0 +1,43 @@
+//! The limits of a run, and what they are asked to fit.
+
+ghost use Rattle.std.specs.Prelude.{◌≡◌, ◌^◌, length, map, nat_lt};
+ghost use Rattle.std.specs.List.{list_all};
+ghost use Rattle.pipe_run.specs.Refusals.{limits_fit};
+
+use pipe_plan::Limits;
+use pipe_spill::SpillStore;
+
+/// The most workers of a run.
+const MOST_WORKERS: usize = 256;
+
+/// The most partitions of a run.
+const MOST_PARTITIONS: usize = 4096;
+
+/// Whether each store has numbers left for the frames of a run.
+fn have_numbers<S: SpillStore + Drop>(stores: &[S]) -> bool
+    ensures { result ≡ list_all (λ n. nat_lt n (2 ^ 63)) (map (λ s. S.held s) stores.now) }
+{
+    let mut fit = true;
+    for store in stores {
+        fit &= store.held() < 1 << 63;
+    }
+    fit
+}
+
+/// Whether limits lie within theirs, and fit so many lists of actions, and stores.
+pub(crate) fn limits_fit<S: SpillStore + Drop>(
+    limits: &Limits,
+    actions: usize,
+    stores: &[S],
+) -> bool
+    ensures { result ≡ limits_fit limits.now actions (map (λ s. S.held s) stores.now) }
+{
+    1 <= limits.workers
+        && limits.workers <= MOST_WORKERS
+        && 1 <= limits.partitions
+        && limits.partitions <= MOST_PARTITIONS
+        && 0 < limits.buffer_size
+        && actions == limits.workers
+        && stores.len() == limits.partitions
+        && have_numbers(stores)
+}

@@ -1,0 +1,26 @@
+//! Stores that are handed back.
+
+ghost use Rattle.std.specs.Prelude.{◌≡◌, ◌≤◌, map, vec_capacity, vec_len};
+
+use pipe_global::ClosedPartition;
+use pipe_spill::SpillStore;
+
+/// The stores of closed partitions, in order. There is room for them.
+pub(crate) fn stores_of<S: SpillStore + Drop>(
+    closed: Vec<ClosedPartition<S>>,
+    mut room: Vec<S>,
+) -> Vec<S>
+    requires { (vec_len room ≡ 0) × (vec_len closed ≤ vec_capacity room) }
+    ensures { map (λ s. record {
+      held = S.held s;
+      told = S.told s;
+      faults = S.faults s;
+      sure = S.sure s;
+    }) result.items ≡ map (λ c. c.store) closed.items }
+{
+    for partition in closed {
+        let (_journal, store) = partition.into_parts();
+        room.push_reserved(store);
+    }
+    room
+}
