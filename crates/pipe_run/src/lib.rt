@@ -12,6 +12,8 @@ mod opening;
 mod round;
 mod round_of;
 mod run;
+#[cfg(test)]
+mod run_tests;
 mod stores;
 
 pub use error::PipeError;
