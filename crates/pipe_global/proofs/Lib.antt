@@ -12,3 +12,4 @@ pub mod Finished
 pub mod ClosedFacts
 pub mod DumpedFacts
 pub mod WorkedFacts
+pub mod EndedFacts

@@ -1,11 +1,14 @@
--- Of the proofs alone: two rows with which tests begin, and a partition before they come.
+-- Of the proofs alone: two rows with which tests begin, a partition before they come, and one whose
+-- run has ended.
 use Rattle.std.specs.Prelude.{◌≡◌, ◌<◌, ◌^◌, ◌∷◌, [], true, None, length, List}
 use Rattle.std.specs.List.{list_all}
+use Rattle.pipe_plan.specs.Run.{Run}
+use Rattle.pipe_plan.specs.WorkedRuns.{sum_by_number}
 use Rattle.pipe_spill.specs.SpillRow.{AreRows}
 use Rattle.pipe_spill.specs.Store.{HasHeld}
 use Rattle.pipe_spill.specs.declared.spill_row.SpillRow.{SpillRow}
 use Rattle.pipe_tables.specs.Tables.{lies_in, Table}
-use Rattle.pipe_global.specs.Partition.{new_partition, PartitionSeen}
+use Rattle.pipe_global.specs.Partition.{IsReplayed, IsRunnable, new_partition, PartitionSeen}
 
 -- two rows of a table's types, whose keys lie in partition 3 of 16
 pub record AreTwoOwn (t : Table) (rows : List SpillRow) : Type 0 where
@@ -22,3 +25,10 @@ pub record IsNewPartition (s : PartitionSeen) : Type 0 where
   pub limit : s.table.limit ≡ None
   pub all : HasHeld s.store.told s.store.held
   pub numbers : s.store.held < 2 ^ 63
+
+-- the first partition of a run that ended, of a sum by a number
+pub record HasEnded (s : PartitionSeen) : Type 0 where
+  pub run : Run
+  pub runnable : IsRunnable run
+  pub replayed : IsReplayed run 0 s
+  pub query : run.query ≡ sum_by_number

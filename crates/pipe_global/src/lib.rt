@@ -9,6 +9,8 @@ mod closed;
 mod closed_laws;
 mod contents;
 mod dump_error;
+#[cfg(test)]
+mod ended_tests;
 mod finish;
 #[cfg(test)]
 mod finish_tests;

@@ -9,6 +9,7 @@ ghost use Rattle.pipe_spill.specs.SpillRow.{spilled};
 ghost use Rattle.pipe_spill.specs.MemoryStore.{faults_of, held_of, is_sure, told_of};
 ghost use Rattle.pipe_global.specs.Opening.{AreUnused};
 ghost use Rattle.pipe_global.specs.Partition.{store_of};
+ghost use Rattle.pipe_global.specs.TestedRows.{HasEnded};
 ghost use Rattle.pipe_global.specs.WorkedTables.{payload_at, shares_at, one_spill_on};
 
 use crate::{Blanks, ClosedPartition, DumpError, GlobalTable, Naming, OpenGate, Shares};
@@ -177,6 +178,7 @@ fn drive<R: Naming, H: Wait>(
       sure = is_sure store;
     }) }
     requires empty { held_of store ≡ 0 }
+    ensures { IfOk result (λ c. HasEnded c) }
 {
     let (first, second) = (payload(alloc, 1, 6)?, payload(alloc, 2, 7)?);
     let stores = vec![in alloc; store]?;
@@ -232,11 +234,13 @@ pub(crate) fn blanks() -> Blanks
 }
 
 /// One worker's calls by its plan, over a store of which some calls fail.
-fn driven<H: Wait>(
+pub(crate) fn driven<H: Wait>(
     rt: &H,
     alloc: Global,
     failing: Vec<u64>,
-) -> Result<ClosedPartition<MemoryStore>, Fail> {
+) -> Result<ClosedPartition<MemoryStore>, Fail>
+    ensures { IfOk result (λ c. HasEnded c) }
+{
     let query = query_of(alloc)?;
     let Ok(query) = query.check(alloc) else {
         return Err("Query::check wants memory".into());
