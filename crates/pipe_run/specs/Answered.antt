@@ -1,4 +1,4 @@
--- What a run answers, and what it leaves of its stores.
+-- What a run answers, which no clause says yet, and what it leaves of its stores, which those of runs in rounds say.
 use Rattle.std.specs.Prelude.{◌≡◌, ◌+◌, ◌<◌, ℕ, true, List, All, length, map, slice_index_or}
 use Rattle.pipe_columns.specs.Frame.{FrameData}
 use Rattle.pipe_columns.specs.Row.{Row}
@@ -32,7 +32,7 @@ pub record HaveReplayedFrames (r : Run) (journals : List (List PartitionEvent))
       → HasFrames (store_of r p) r (replay r p (journal_of journals p)).frames
       (slice_index_or stores p no_store)
 
--- what it means that a run was answered: the journals hold every worker's plan whole, and no event
+-- what it means that a run was answered (no clause says it yet): the journals hold every worker's plan whole, and no event
 -- of another; each store has its former frames, and then those of the replay; so many rows overflowed
 -- as the definition says; and where all stores tell, the frame is the answer over the chunks
 pub record IsAnswered (r : Run) (out : OutputSeen) (stores : List StoreSeen) : Type 0 where
