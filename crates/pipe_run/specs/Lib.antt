@@ -3,6 +3,7 @@ pub mod Refusals
 pub mod Fed
 pub mod Answered
 pub mod Given
+pub mod Ending
 pub mod Feeding
 pub mod Rounds
 pub mod Stops

@@ -1,6 +1,7 @@
 //! Runs: chunks that are fed in rounds to workers over partitions, and the groups that they give.
 #![tactic(auto)]
 
+mod answer;
 mod begun;
 mod chunk_check;
 mod error;

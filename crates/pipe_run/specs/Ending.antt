@@ -1,0 +1,24 @@
+-- What the answer of a run that has ended leaves of its partitions, and why there is none.
+use Rattle.std.specs.Prelude.{◌≡◌, ◌<◌, ◌≤◌, ℕ, None, List, length, slice_index_or, ⊤}
+use Rattle.pipe_plan.specs.Run.{Run}
+use Rattle.pipe_global.specs.declared.batch_error.BatchError.{BatchError}
+use Rattle.pipe_global.specs.declared.batch_error.BatchError.TheVariants as batch_error
+use Rattle.pipe_global.specs.Finishing.{KeepsRest}
+use Rattle.pipe_global.specs.Partition.{PartitionSeen, store_of}
+use Rattle.pipe_run.specs.Fed.{RoseFrom}
+
+-- partitions that were asked for their groups: as many, in order, each with its number, journal and
+-- book and the frames of its store as before
+pub record AreKept (before after : List PartitionSeen) : Type 0 where
+  pub count : length after ≡ length before
+  pub each : (p : ℕ) (d : PartitionSeen) → p < length before
+      → KeepsRest (slice_index_or before p d) (slice_index_or after p d)
+
+-- why a run that has ended has no answer: a store's faults rose meanwhile, or a store doesn't tell, and
+-- what it gave under the number of a frame of the run is another frame; or memory ran out
+abbrev pub IsAnswerCause : Run → List PartitionSeen → List PartitionSeen → BatchError → Type 0
+IsAnswerCause r before after (batch_error.Store p) = RoseFrom before p after
+IsAnswerCause r before after (batch_error.Damaged p n) =
+    (p < length before) × ((store_of r p).told ≡ None) × ((store_of r p).held ≤ n)
+    × ((d : PartitionSeen) → n < (slice_index_or after p d).store.held)
+IsAnswerCause r before after batch_error.Memory = ⊤
