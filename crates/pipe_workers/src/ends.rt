@@ -48,6 +48,8 @@ impl<'a, S: SpillStore + Drop, R: Naming, G: Gate> GenericGroupby2<'a, S, R, G> 
         ensures none_waits { NoneWaits self.new.table }
         ensures shares { self.new.shares ≡ self.old.shares }
         ensures other_shares { other.new.shares ≡ other.old.shares }
+        ensures others { self.new ≡ record self.old { table = self.new.table } }
+        ensures other_others { other.new ≡ record other.old { table = other.new.table } }
         ensures emptied { OnOk result (HasGroups other.old.table.table other.new.table.table []) }
         ensures err { OnErr result (self.new ≡ self.old) }
         ensures other_err { OnErr result (other.new ≡ other.old) }
