@@ -1,0 +1,37 @@
+-- What is known of a store of the program: that of a store in memory, or that of one in a file, which tells nothing.
+use Rattle.std.specs.Prelude.{◌≡◌, ℕ, Bool, false, List, Option, None, IsTrue, refl}
+use Rattle.pipe_spill.specs.MemoryStore as memory
+use Rattle.pipe_spill.specs.FileStore as file
+use Rattle.pipe_spill.specs.Store.{HasHeld}
+use Rattle.tool_stores.specs.declared.program_store.ProgramStore.{ProgramStore}
+use Rattle.tool_stores.specs.declared.program_store.ProgramStore.TheVariants as store
+
+-- the frames in the order of their puts
+abbrev pub told_of : {R : Type 0} → ProgramStore R → Option (List (List ℕ))
+told_of (store.Memory s) = memory.told_of s
+told_of (store.Files s) = None
+
+-- how many frames there are
+abbrev pub held_of : {R : Type 0} → ProgramStore R → ℕ
+held_of (store.Memory s) = memory.held_of s
+held_of (store.Files s) = file.held_of s
+
+-- how many calls failed
+abbrev pub faults_of : {R : Type 0} → ProgramStore R → ℕ
+faults_of (store.Memory s) = memory.faults_of s
+faults_of (store.Files s) = file.faults_of s
+
+-- whether it never fails
+abbrev pub is_sure : {R : Type 0} → ProgramStore R → Bool
+is_sure (store.Memory s) = memory.is_sure s
+is_sure (store.Files s) = false
+
+-- as many frames are told as are held
+pub has_held : {R : Type 0} (s : ProgramStore R) → HasHeld (told_of s) (held_of s)
+has_held (store.Memory s) = refl
+has_held (store.Files s) = tt
+
+-- a sure store has never failed
+pub sure_never_failed : {R : Type 0} (s : ProgramStore R) → IsTrue (is_sure s) → faults_of s ≡ 0
+sure_never_failed (store.Memory s) sure = memory.sure_never_failed s sure
+sure_never_failed (store.Files s) sure = file.sure_never_failed s sure
