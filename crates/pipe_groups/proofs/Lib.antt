@@ -33,3 +33,6 @@ pub mod TakenFacts
 pub mod ReadFacts
 pub mod PlaceOrder
 pub mod FrontFacts
+pub mod RunFacts
+pub mod HoldRunFacts
+pub mod KeepNoneFacts

@@ -11,3 +11,4 @@ pub mod Ranks
 pub mod Reading
 pub mod Shape
 pub mod Texts
+pub mod GroupRuns

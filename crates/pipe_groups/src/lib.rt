@@ -5,6 +5,7 @@ mod answer_laws;
 mod copies;
 mod eval;
 mod feed;
+mod feed_run;
 mod finish;
 mod given;
 mod groups;

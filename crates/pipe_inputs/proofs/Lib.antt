@@ -1,3 +1,4 @@
 pub mod ListFacts
 pub mod CellFacts
 pub mod TypeFacts
+pub mod RunFacts

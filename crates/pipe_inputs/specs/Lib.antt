@@ -1,3 +1,4 @@
 pub mod ChunkRows
 pub mod RowTypes
 pub mod Cells
+pub mod RowRuns

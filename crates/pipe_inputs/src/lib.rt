@@ -6,6 +6,7 @@ mod chunk_rows;
 mod conditions;
 mod laws;
 mod row_parts;
+mod row_runs;
 mod value_lists;
 
 pub use chunk_rows::ChunkRows;

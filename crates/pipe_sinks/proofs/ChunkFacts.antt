@@ -1,9 +1,10 @@
 -- The rows of a chunk that a table takes one by one.
-use Rattle.std.proofs.Common.{◌≡◌, ◌∙◌, ℕ, ◌+◌, ◌<◌, ◌≤◌, ◌^◌, List, [], ◌∷◌, ◌++◌, length, map, get_or, sym, ap, subst, arith}
+use Rattle.std.proofs.Common.{◌≡◌, ◌∙◌, ℕ, ◌+◌, ◌<◌, ◌≤◌, ◌^◌, List, [], ◌∷◌, ◌++◌, length, map, take, drop, get_or, refl, sym, ap, subst, arith}
 use Rattle.std.specs.List.{All, range_with_len}
-use Rattle.std.proofs.lemmas.List.{append_assoc, append-nil, length-append, length-map, map-append}
+use Rattle.std.proofs.lemmas.List.{append_assoc, append-nil, length-append, length-map, length-take-le, map-append, take-append-drop}
+use Rattle.std.proofs.Math.Seq.{take-append-add}
 use Rattle.std.proofs.lemmas.List.Elements.{All-append, All-map, All-nil}
-use Rattle.std.proofs.lemmas.List.FromFn.{get_or-range_with_len, length-map-range_with_len, length-range_with_len, map-range_with_len_more}
+use Rattle.std.proofs.lemmas.List.FromFn.{get_or-range_with_len, length-map-range_with_len, length-range_with_len, take-map-range_with_len}
 use Rattle.std.proofs.lemmas.Option.{unwrap_or-slice_get}
 use Rattle.pipe_columns.specs.declared.data_chunk.DataChunk.{DataChunk}
 use Rattle.pipe_columns.specs.Frame.{FrameData}
@@ -21,48 +22,53 @@ use Rattle.pipe_spill.proofs.SpilledRows.{spilled_is_row}
 use Rattle.pipe_groups.specs.Holds.{HoldFewer, Holds}
 use Rattle.pipe_groups.specs.Shape.{Shape, shape_of}
 use Rattle.pipe_groups.proofs.HoldFacts.{holds-none}
+use Rattle.pipe_sinks.specs.ChunkTaking.{rows_to, spilled_to, TookRows}
+use Rattle.pipe_sinks.specs.KeyRuns.{run_rows}
 use Rattle.pipe_sinks.specs.RunLayout.{HoldsChunks}
 use Rattle.pipe_sinks.specs.Tables.{Table}
 
--- the first rows of a chunk
-abbrev pub rows_to : QueryTree → ℕ → FrameData → ℕ → List Row
-rows_to q i frame n = map (λ m. row_of q i frame m) (range_with_len 0 n)
+-- the first items of a list, and those behind them
+take-both : {X : Type 0} (n m : ℕ) (xs : List X) → n ≤ length xs → take (n + m) xs ≡ take n xs ++ take m (drop n xs)
+take-both n m xs le =
+    ap (take (n + m)) (sym (take-append-drop n xs)) ∙ ap (λ (k : ℕ). take (k + m) (take n xs ++ drop n xs)) (sym (length-take-le n xs le)) ∙ take-append-add (take n xs) (drop n xs) m
 
--- what is spilled of them
-abbrev pub spilled_to : QueryTree → ℕ → FrameData → ℕ → List SpillRow
-spilled_to q i frame n = map (spilled (key_types q)) (rows_to q i frame n)
+-- the first rows of the chunk
+rows_to-is : (q : QueryTree) (i : ℕ) (frame : FrameData) (n : ℕ) → n ≤ frame.height → take n (chunk_rows q i frame) ≡ rows_to q i frame n
+rows_to-is q i frame n le = take-map-range_with_len (λ m. row_of q i frame m) 0 frame.height n le
 
--- a table that took the first rows of a chunk
-pub record TookRows (q : QueryTree) (i : ℕ) (frame : FrameData) (n : ℕ) (old now : Table) : Type 0 where
-  pub shape : now.shape ≡ old.shape
-  pub holds : (taken : List SpillRow) → Holds old.shape.prototypes old.groups taken
-      → Holds old.shape.prototypes now.groups (taken ++ spilled_to q i frame n)
-
--- one row more
-pub spilled_more : (q : QueryTree) (i : ℕ) (frame : FrameData) (n : ℕ) → spilled_to q i frame (n + 1) ≡ spilled_to q i frame n ++ spilled (key_types q) (row_of q i frame n) ∷ []
-spilled_more q i frame n =
-    ap (map (spilled (key_types q))) (map-range_with_len_more (λ m. row_of q i frame m) 0 n n (omega arith))
-    ∙ map-append (spilled (key_types q)) (rows_to q i frame n) (row_of q i frame n ∷ [])
+-- so many rows more
+pub spilled_more : (q : QueryTree) (i : ℕ) (frame : FrameData) (n m : ℕ) (rows : List Row) → rows ≡ chunk_rows q i frame → n + m ≤ frame.height
+    → spilled_to q i frame (n + m) ≡ spilled_to q i frame n ++ run_rows (key_types q) rows n m
+spilled_more q i frame n m rows is le =
+    let all : List Row = chunk_rows q i frame in
+    let long : n ≤ length all = omega (arith, le, length-map-range_with_len (λ k. row_of q i frame k) 0 frame.height) in
+    ap (map (spilled (key_types q))) (sym (rows_to-is q i frame (n + m) le) ∙ take-both n m all long ∙ ap (λ (rs : List Row). rs ++ take m (drop n all)) (rows_to-is q i frame n (omega (arith, le))))
+    ∙ map-append (spilled (key_types q)) (rows_to q i frame n) (take m (drop n all))
+    ∙ ap (λ (rs : List Row). spilled_to q i frame n ++ run_rows (key_types q) rs n m) (sym is)
 
 pub length-spilled_to : (q : QueryTree) (i : ℕ) (frame : FrameData) (n : ℕ) → length (spilled_to q i frame n) ≡ n
 length-spilled_to q i frame n = length-map (rows_to q i frame n) (spilled (key_types q)) ∙ length-map-range_with_len (λ m. row_of q i frame m) 0 n
 
--- the next row is taken
-pub took-more : (q : QueryTree) (i : ℕ) (frame : FrameData) (n : ℕ) (old now new : Table) (r : SpillRow) → TookRows q i frame n old now
-    → r ≡ spilled (key_types q) (row_of q i frame n) → new.shape ≡ now.shape
-    → ((rows : List SpillRow) → Holds now.shape.prototypes now.groups rows → Holds now.shape.prototypes new.groups (rows ++ r ∷ []))
-    → TookRows q i frame (n + 1) old new
-took-more q i frame n old now new r took is shape more =
+-- the next rows are taken
+pub took-more : (q : QueryTree) (i : ℕ) (frame : FrameData) (n m : ℕ) (old now new : Table) (rows : List Row) (more : List SpillRow) → TookRows q i frame n old now → rows ≡ chunk_rows q i frame → n + m ≤ frame.height
+    → more ≡ run_rows (key_types q) rows n m → new.shape ≡ now.shape
+    → ((taken : List SpillRow) → Holds now.shape.prototypes now.groups taken → Holds now.shape.prototypes new.groups (taken ++ more))
+    → TookRows q i frame (n + m) old new
+took-more q i frame n m old now new rows more took is le are shape holds =
     let front : List SpillRow = spilled_to q i frame n in
-    let P : Shape → Type 0 = λ s. (rows : List SpillRow) → Holds s.prototypes now.groups rows → Holds s.prototypes new.groups (rows ++ r ∷ []) in
-    let step : P old.shape = subst P took.shape more in
-    let longer : front ++ r ∷ [] ≡ spilled_to q i frame (n + 1) = ap (λ (x : SpillRow). front ++ x ∷ []) is ∙ sym (spilled_more q i frame n) in
+    let P : Shape → Type 0 = λ s. (taken : List SpillRow) → Holds s.prototypes now.groups taken → Holds s.prototypes new.groups (taken ++ more) in
+    let step : P old.shape = subst P took.shape holds in
+    let longer : front ++ more ≡ spilled_to q i frame (n + m) = ap (λ (l : List SpillRow). front ++ l) are ∙ sym (spilled_more q i frame n m rows is le) in
     record {
       shape = shape ∙ took.shape;
       holds = λ taken h.
-          subst (Holds old.shape.prototypes new.groups) (append_assoc taken front (r ∷ []) ∙ ap (λ (l : List SpillRow). taken ++ l) longer)
+          subst (Holds old.shape.prototypes new.groups) (append_assoc taken front more ∙ ap (λ (l : List SpillRow). taken ++ l) longer)
           (step (taken ++ front) (took.holds taken h));
     }
+
+-- none is taken yet
+pub took-none : (q : QueryTree) (i : ℕ) (frame : FrameData) (t : Table) → TookRows q i frame 0 t t
+took-none q i frame t = record { shape = refl; holds = λ taken h. subst (Holds t.shape.prototypes t.groups) (sym (append-nil taken)) h }
 
 -- ---- each is a row of the query's types
 
@@ -92,18 +98,18 @@ rows-typed q i frame n rs e all few small most =
     subst (λ (m : ℕ). P (row_of q i frame m)) (sym (get_or-range_with_len 0 n k d lt ∙ omega arith))
     (row-typed q i frame k rs e all few small (omega (arith, lt, most)))))
 
--- there is room for the next
-pub room-for-one : (q : QueryTree) (i : ℕ) (frame : FrameData) (n : ℕ) (old now : Table) → TookRows q i frame n old now → old.shape ≡ shape_of q
-    → HoldFewer old.shape old.groups frame.height → AreRows (key_types q) (input_types q) (spilled_to q i frame n) → n < frame.height
-    → HoldFewer now.shape now.groups 1
-room-for-one q i frame n old now took is h typed lt =
+-- there is room for the next ones
+pub room-for : (q : QueryTree) (i : ℕ) (frame : FrameData) (n m : ℕ) (old now : Table) → TookRows q i frame n old now → old.shape ≡ shape_of q
+    → HoldFewer old.shape old.groups frame.height → AreRows (key_types q) (input_types q) (spilled_to q i frame n) → n + m ≤ frame.height
+    → HoldFewer now.shape now.groups m
+room-for q i frame n m old now took is h typed le =
     let own : AreRows old.shape.key_types old.shape.input_types (spilled_to q i frame n) =
     subst (λ (s : Shape). AreRows s.key_types s.input_types (spilled_to q i frame n)) (sym is) typed in
-    subst (λ (s : Shape). HoldFewer s now.groups 1) (sym took.shape) (record {
+    subst (λ (s : Shape). HoldFewer s now.groups m) (sym took.shape) (record {
       rows = h.rows ++ spilled_to q i frame n;
       holds = took.holds h.rows h.holds;
       typed = All-append (IsRow old.shape.key_types old.shape.input_types) h.rows (spilled_to q i frame n) h.typed own;
-      few = omega (arith, h.few, length-append h.rows (spilled_to q i frame n), length-spilled_to q i frame n, lt);
+      few = omega (arith, h.few, length-append h.rows (spilled_to q i frame n), length-spilled_to q i frame n, le);
     })
 
 -- a table of no groups has room for as many rows as have places

@@ -1,19 +1,26 @@
 -- What a sink keeps of the chunks that it took, call by call.
-use Rattle.std.proofs.Common.{◌≡◌, ◌≢◌, ◌∙◌, ℕ, false, is_some, Result, Ok, Err, OnErr, ◌+◌, ◌<◌, ◌≤◌, ◌^◌, List, [], ◌∷◌, ◌++◌, length, Option, Some, None, sym, subst, arith}
+use Rattle.std.proofs.Common.{◌≡◌, ◌≢◌, ◌∙◌, ℕ, false, is_some, Result, Ok, Err, OnErr, ◌+◌, ◌<◌, ◌≤◌, ◌^◌, List, [], ◌∷◌, ◌++◌, length, map, Option, Some, None, sym, ap, subst, arith}
 use Rattle.std.specs.List.{All, IsDistinct}
+use Rattle.std.proofs.lemmas.List.{append-nil}
 use Rattle.std.proofs.lemmas.List.Elements.{All-append, All-cons, All-nil, All-weaker}
 use Rattle.std.proofs.lemmas.List.Sums.{sum_by-append, sum_by-cons}
 use Rattle.pipe_columns.specs.declared.data_chunk.DataChunk.{DataChunk}
 use Rattle.pipe_columns.specs.Frame.{FitsSchema, HoldsTypes}
+use Rattle.pipe_model.specs.Output.{key_types}
 use Rattle.pipe_model.specs.Query.{QueryTree}
-use Rattle.pipe_model.specs.Rows.{total_height}
-use Rattle.pipe_spill.specs.SpillRow.{IsRow}
+use Rattle.pipe_model.specs.Rows.{chunk_rows, total_height}
+use Rattle.pipe_aggs.specs.CheckedQuery.{input_types}
+use Rattle.pipe_spill.specs.SpillRow.{AreRows, IsRow, spilled}
+use Rattle.pipe_spill.specs.declared.spill_row.SpillRow.{SpillRow}
 use Rattle.pipe_groups.specs.declared.placed_groups.PlacedGroups.{PlacedGroups}
 use Rattle.pipe_groups.specs.Groups.{AreJoined}
-use Rattle.pipe_groups.specs.Shape.{shape_of}
+use Rattle.pipe_groups.specs.Holds.{HoldFewer, Holds}
+use Rattle.pipe_groups.specs.Shape.{Shape, shape_of}
 use Rattle.pipe_groups.proofs.HoldFacts.{holds-joined, holds-none}
+use Rattle.pipe_sinks.specs.ChunkTaking.{spilled_to, TookChunk}
+use Rattle.pipe_sinks.specs.Marks.{IsSole}
 use Rattle.pipe_sinks.specs.RunLayout.{AreKept, AreTaken, HasTaken, HoldsChunks, spilled_rows}
-use Rattle.pipe_sinks.specs.Tables.{HoldFewTogether, Table}
+use Rattle.pipe_sinks.specs.Tables.{HoldAlike, HoldFewTogether, Table}
 use Rattle.pipe_sinks.proofs.PlacedFacts.{distinct-both, length-spilled, single-distinct, spilled-append}
 
 -- ---- nothing taken
@@ -40,7 +47,7 @@ kept-shape q taken t None h = h.shape
 kept-shape q taken t (Some p) h = h.0.shape
 
 -- a sink that took nothing
-pub run-new : (q : QueryTree) (partitions : ℕ) (chunks : List DataChunk) (t : Table) → 0 < partitions → partitions ≤ 2 ^ 32 → length q.keys ≡ 1 → chunks ≡ []
+pub run-new : (q : QueryTree) (partitions : ℕ) (chunks : List DataChunk) (t : Table) → 0 < partitions → partitions ≤ 2 ^ 32 → IsSole (key_types q) → chunks ≡ []
     → t.shape ≡ shape_of q → t.groups ≡ [] → HasTaken q partitions chunks t None
 run-new q partitions chunks t some few keyed none shape empty = rw none (record {
   some = some;
@@ -103,6 +110,29 @@ module _ (q : QueryTree) (xs ys : List DataChunk) where
       typed = rw (shape, spilled-append q xs ys) (All-append (IsRow t.shape.key_types t.shape.input_types) (spilled_rows q xs) (spilled_rows q ys) h.typed (rw (← both-shape) g.typed));
     }
 
+-- a table that took the rows of a chunk holds them behind those that it held
+once-held : (q : QueryTree) (xs : List DataChunk) (c : DataChunk) (t u : Table) → HoldsChunks q xs t → TookChunk q c t u → HoldsChunks q (xs ++ c ∷ []) u
+once-held q xs c t u h k =
+    let own : List SpillRow = spilled_to q c.chunk_index c.frame c.frame.height in
+    let all : spilled_rows q xs ++ own ≡ spilled_rows q (xs ++ c ∷ []) =
+    ap (λ (l : List SpillRow). spilled_rows q xs ++ l) (ap (map (spilled (key_types q))) (sym (append-nil (chunk_rows q c.chunk_index c.frame)))) ∙ sym (spilled-append q xs (c ∷ [])) in
+    let is : u.shape ≡ shape_of q = k.took.shape ∙ h.shape in
+    let typed : AreRows (key_types q) (input_types q) (spilled_rows q xs) = subst (λ (s : Shape). AreRows s.key_types s.input_types (spilled_rows q xs)) h.shape h.typed in
+    record {
+      shape = is;
+      holds = subst (λ (s : Shape). Holds s.prototypes u.groups (spilled_rows q (xs ++ c ∷ []))) (sym k.took.shape) (subst (Holds t.shape.prototypes u.groups) all (k.took.holds (spilled_rows q xs) h.holds));
+      typed = subst (λ (s : Shape). AreRows s.key_types s.input_types (spilled_rows q (xs ++ c ∷ []))) (sym is)
+          (subst (AreRows (key_types q) (input_types q)) all (All-append (IsRow (key_types q) (input_types q)) (spilled_rows q xs) own typed k.typed));
+    }
+
+-- one that holds alike holds the rows
+alike-held : (q : QueryTree) (xs : List DataChunk) (t u : Table) → HoldsChunks q xs t → HoldAlike t u → HoldsChunks q xs u
+alike-held q xs t u h alike = record {
+  shape = alike.shape ∙ h.shape;
+  holds = subst (λ (s : Shape). Holds s.prototypes u.groups (spilled_rows q xs)) (sym alike.shape) (alike.holds (spilled_rows q xs) h.holds);
+  typed = subst (λ (s : Shape). AreRows s.key_types s.input_types (spilled_rows q xs)) (sym alike.shape) h.typed;
+}
+
 -- ---- call by call
 
 -- a fact holds of a refusal if it holds
@@ -155,3 +185,34 @@ module _ (q : QueryTree) (n : ℕ) (xs : List DataChunk) (t : Table) (given : Op
         chunks = taken-both q xs ys h.chunks taken apart few;
         kept = kept-again q (xs ++ ys) u given none (both-held q xs ys t o (kept-none q xs t given none h.kept) holds u joined shape);
       })
+
+    -- one whose table took the rows of a chunk has taken it too
+    module _ (c : DataChunk) (few : total_height xs + total_height (c ∷ []) < 2 ^ 32) where
+      abbrev held : HoldsChunks q xs t
+      held = kept-none q xs t given none h.kept
+
+      -- there is room for its rows
+      pub room-once : HoldFewer t.shape t.groups c.frame.height
+      room-once = record { rows = spilled_rows q xs; holds = held.holds; typed = held.typed; few = omega (arith, few, length-spilled q xs, single-height c) }
+
+      pub shape-once : t.shape ≡ shape_of q
+      shape-once = held.shape
+
+      pub run-once : AreTaken q (c ∷ []) → (u : Table) (chunks : List DataChunk) → All (λ x. All (λ d. x.chunk_index ≢ d.chunk_index) (c ∷ [])) xs → TookChunk q c t u → chunks ≡ xs ++ c ∷ [] → HasTaken q n chunks u given
+      run-once taken u chunks apart took both = rw both (record {
+        some = h.some;
+        few = h.few;
+        keyed = h.keyed;
+        chunks = taken-both q xs (c ∷ []) h.chunks taken apart few;
+        kept = kept-again q (xs ++ c ∷ []) u given none (once-held q xs c t u held took);
+      })
+
+    -- one whose table holds alike has taken the same
+    pub run-alike : (u : Table) (chunks : List DataChunk) → HoldAlike t u → chunks ≡ xs → HasTaken q n chunks u given
+    run-alike u chunks alike same = rw same (record {
+      some = h.some;
+      few = h.few;
+      keyed = h.keyed;
+      chunks = h.chunks;
+      kept = kept-again q xs u given none (alike-held q xs t u (kept-none q xs t given none h.kept) alike);
+    })

@@ -1,8 +1,8 @@
 -- Of the proofs alone: how groups that are found by their keys are kept.
-use Rattle.std.specs.Prelude.{◌≡◌, ℕ, min, map, List}
-use Rattle.pipe_chains.specs.Hash.{hash_of}
-use Rattle.pipe_groups.specs.Groups.{Group, keys_of, Seen}
+use Rattle.std.specs.Prelude.{ℕ, min, List}
+use Rattle.pipe_groups.specs.Groups.{Seen}
 use Rattle.pipe_sinks.specs.declared.keyed_groups.KeyedGroups.TheInside.{Inside}
+use Rattle.pipe_sinks.specs.Marks.{AreMarked, IsSole}
 
 -- the groups, with room for as many more as there is in both the buffer and the chains
 abbrev pub view_of : Inside → Seen
@@ -16,10 +16,11 @@ view_of a = record {
   };
 }
 
--- the mark of each group is the hash of its key
-abbrev pub AreMarked : List Group → List ℕ → Type 0
-AreMarked gs marks = marks ≡ map hash_of (keys_of gs)
+-- groups of one key, each with its mark
+pub record HaveMarks (t : Seen) (marks : List ℕ) : Type 0 where
+  pub sole : IsSole t.shape.key_types
+  pub marked : AreMarked t.shape.key_types t.groups marks
 
--- so it is in memory
+-- so they are in memory
 abbrev pub IsMarked : Inside → Type 0
-IsMarked a = AreMarked a.groups.groups a.chains.marks
+IsMarked a = HaveMarks a.groups a.chains.marks

@@ -1,5 +1,9 @@
+pub mod ChunkTaking
+pub mod KeyCuts
+pub mod KeyRuns
 pub mod Keyed
 pub mod KeyedLayout
+pub mod Marks
 pub mod Merges
 pub mod PartPlaces
 pub mod RunLayout

@@ -1,5 +1,5 @@
 -- Of the proofs alone: how a sink keeps what it took.
-use Rattle.std.specs.Prelude.{◌≡◌, ◌<◌, ◌≤◌, ◌^◌, ℕ, All, true, List, [], length, map, Option, Some, None}
+use Rattle.std.specs.Prelude.{◌≡◌, ◌<◌, ◌≤◌, ◌^◌, ℕ, All, true, List, [], map, Option, Some, None}
 use Rattle.pipe_columns.specs.declared.data_chunk.DataChunk.{DataChunk}
 use Rattle.pipe_columns.specs.declared.any_value.AnyValue.{AnyValue}
 use Rattle.pipe_columns.specs.Frame.{FitsSchema, frame_of, HoldsTypes}
@@ -16,6 +16,7 @@ use Rattle.pipe_groups.specs.declared.placed_groups.PlacedGroups.{PlacedGroups}
 use Rattle.pipe_groups.specs.Holds.{Holds}
 use Rattle.pipe_groups.specs.QueryRows.{ArePlacedRows}
 use Rattle.pipe_groups.specs.Shape.{shape_of}
+use Rattle.pipe_sinks.specs.Marks.{IsSole}
 use Rattle.pipe_sinks.specs.Runs.{placed_rows}
 use Rattle.pipe_sinks.specs.Tables.{Table}
 
@@ -59,6 +60,6 @@ pub record HasTaken (q : QueryTree) (partitions : ℕ) (taken : List DataChunk) 
     (given : Option PlacedGroups) : Type 0 where
   pub some : 0 < partitions
   pub few : partitions ≤ 2 ^ 32
-  pub keyed : length q.keys ≡ 1
+  pub keyed : IsSole (key_types q)
   pub chunks : AreTaken q taken
   pub kept : AreKept q taken t given

@@ -1,8 +1,8 @@
 -- Sinks: what one is made for, the chunks that it took, and what it gives of them.
-use Rattle.std.specs.Prelude.{◌≡◌, ◌≢◌, ◌+◌, ◌<◌, ◌^◌, ℕ, All, List}
+use Rattle.std.specs.Prelude.{◌≡◌, ◌≢◌, ◌+◌, ◌<◌, ◌^◌, ◌∷◌, [], ℕ, All, List, map}
 use Rattle.std.specs.List.{flat_map}
 use Rattle.pipe_columns.specs.declared.data_chunk.DataChunk.{DataChunk}
-use Rattle.pipe_columns.specs.Frame.{FitsSchema, FrameData}
+use Rattle.pipe_columns.specs.Frame.{ColumnData, FitsSchema, FrameData}
 use Rattle.pipe_columns.specs.Row.{Row}
 use Rattle.pipe_aggs.specs.declared.query.Query.{Query}
 use Rattle.pipe_aggs.specs.QueryTrees.{query_tree}
@@ -51,3 +51,8 @@ pub record MayCombine (r other : Run) : Type 0 where
   pub same : purpose_of other ≡ purpose_of r
   pub apart : All (λ c. All (λ d. c.chunk_index ≢ d.chunk_index) other.taken) r.taken
   pub few : total_height r.taken + total_height other.taken < 2 ^ 32
+
+-- a column holds the keys of a chunk's rows, in their order, one value each
+abbrev pub IsKeyColumn : QueryTree → DataChunk → ColumnData → Type 0
+IsKeyColumn q c column =
+    map (λ v. v ∷ []) column.values ≡ map (λ r. r.key) (chunk_rows q c.chunk_index c.frame)

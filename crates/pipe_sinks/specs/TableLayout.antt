@@ -1,10 +1,15 @@
 -- Of the proofs alone: how a table is kept.
+use Rattle.pipe_groups.specs.Groups.{Seen}
 use Rattle.pipe_sinks.specs.declared.key_table.KeyTable.TheInside.{Inside}
 use Rattle.pipe_sinks.specs.Tables.{IsTable, Table}
 
+-- groups as a table
+abbrev pub table_of : Seen → Table
+table_of t = record { shape = t.shape; groups = t.groups }
+
 -- a table as contracts see it
 abbrev pub table_in : Inside → Table
-table_in a = record { shape = a.keyed.shape; groups = a.keyed.groups }
+table_in a = table_of a.keyed
 
 -- it is one
 abbrev pub IsKept : Inside → Type 0

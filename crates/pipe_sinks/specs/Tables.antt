@@ -1,5 +1,5 @@
 -- Of the proofs alone: a table of groups by key.
-use Rattle.std.specs.Prelude.{◌≡◌, ◌+◌, ◌<◌, ◌^◌, List, length}
+use Rattle.std.specs.Prelude.{◌≡◌, ◌+◌, ◌<◌, ◌^◌, ℕ, List, length}
 use Rattle.std.specs.List.{IsDistinct}
 use Rattle.std.specs.Str.{bytes_eq}
 use Rattle.pipe_spill.specs.SpillRow.{AreRows}
@@ -7,6 +7,7 @@ use Rattle.pipe_spill.specs.declared.spill_row.SpillRow.{SpillRow}
 use Rattle.pipe_groups.specs.Groups.{Group, keys_of, put, RowlessAreFresh}
 use Rattle.pipe_groups.specs.Holds.{HoldFewer, Holds}
 use Rattle.pipe_groups.specs.Shape.{IsShape, Shape}
+use Rattle.pipe_sinks.specs.Keyed.{IsAt}
 
 -- what a table's groups are of, and the groups; one without rows is room for its key
 pub record Table : Type 0 where
@@ -42,3 +43,13 @@ pub record HoldFewTogether (t other : Table) : Type 0 where
   pub typed : AreRows t.shape.key_types t.shape.input_types rows
   pub others_typed : AreRows t.shape.key_types t.shape.input_types others
   pub few : length rows + length others < 2 ^ 32
+
+-- a table of the same shape that holds whatever rows another held
+pub record HoldAlike (t u : Table) : Type 0 where
+  pub shape : u.shape ≡ t.shape
+  pub holds : (rows : List SpillRow) → Holds t.shape.prototypes t.groups rows
+      → Holds t.shape.prototypes u.groups rows
+
+-- groups stay where they are, with their keys
+abbrev pub KeysStay : Table → Table → Type 0
+KeysStay t u = (k : List ℕ) (i : ℕ) → IsAt t.groups k i → IsAt u.groups k i

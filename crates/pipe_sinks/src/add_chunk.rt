@@ -1,19 +1,20 @@
-//! A chunk that an empty table takes.
+//! A chunk that an empty table takes, row by row.
 
 ghost use Rattle.std.specs.Prelude.{◌≡◌, ◌<◌, ◌^◌, ◌∷◌, [], OnOk};
 ghost use Rattle.pipe_columns.specs.Frame.{FitsSchema, HoldsTypes};
 ghost use Rattle.pipe_aggs.specs.QueryTrees.{query_tree};
 ghost use Rattle.pipe_groups.specs.Shape.{shape_of};
+ghost use Rattle.pipe_model.specs.Output.{key_types};
+ghost use Rattle.pipe_sinks.specs.Marks.{IsSole};
 ghost use Rattle.pipe_sinks.specs.RunLayout.{HoldsChunks};
 
 use crate::key_table::KeyTable;
 use pipe_aggs::CheckedQuery;
 use pipe_columns::DataChunk;
-use pipe_groups::encode_row;
 use pipe_inputs::ChunkRows;
 use std::alloc::{AllocError, Global};
 
-/// Puts the rows of a chunk, which has an index, into a table of no groups.
+/// Puts the rows of a chunk into a table of no groups.
 pub(crate) fn add_chunk(
     alloc: Global,
     table: &mut KeyTable,
@@ -22,11 +23,12 @@ pub(crate) fn add_chunk(
     index: u32,
     chunk: &DataChunk,
 ) -> Result<(), AllocError>
+    requires index { index ≡ chunk.now.chunk_index }
     requires fits { FitsSchema query.now.schema chunk.now.frame }
     requires height { chunk.now.frame.height < 2 ^ 32 }
     requires shape { table.old.shape ≡ shape_of (query_tree query.now) }
-    requires index { index ≡ chunk.now.chunk_index }
     requires none { table.old.groups ≡ [] }
+    requires sole { IsSole (key_types (query_tree query.now)) }
     ensures holds { OnOk result
         (HoldsChunks (query_tree query.now) (chunk.now ∷ []) table.new) }
     ensures types { HoldsTypes chunk.now.frame }
@@ -35,8 +37,7 @@ pub(crate) fn add_chunk(
     let rows = ChunkRows::new(alloc, query, index, chunk)?;
     let types = query.key_types();
     for row in 0..height {
-        encode_row(key, &rows, row, types)?;
-        table.insert_lent(key, &rows, row)?;
+        table.insert_lent(key, types, &rows, row)?;
     }
     Ok(())
 }

@@ -1,23 +1,28 @@
 //! A table of groups by key.
 
-ghost use Rattle.std.specs.Prelude.{◌≡◌, ◌<◌, ◌^◌, ◌∷◌, ◌++◌, [], IfOk, List, length, map, OnErr, OnOk, Some};
+ghost use Rattle.std.specs.Prelude.{◌≡◌, ◌<◌, ◌^◌, ◌∷◌, ◌++◌, [], IfOk, List, length, map, OnErr, OnOk, Some, true};
 ghost use Rattle.pipe_columns.specs.Key.{code};
 ghost use Rattle.pipe_columns.specs.Slice.{sliced};
 ghost use Rattle.pipe_aggs.specs.QueryTrees.{query_tree};
 ghost use Rattle.pipe_inputs.specs.ChunkRows.{row_at};
+ghost use Rattle.pipe_spill.specs.KeyTypes.{AreOfTypes};
 ghost use Rattle.pipe_spill.specs.SpillRow.{IsRow, spilled};
 ghost use Rattle.pipe_spill.specs.declared.spill_row.SpillRow.{SpillRow};
 ghost use Rattle.pipe_groups.specs.Given.{in_order, IsFrameOfGroups, slice_after};
 ghost use Rattle.pipe_groups.specs.Groups.{AreJoined, count_held};
-ghost use Rattle.pipe_groups.specs.Holds.{Holds};
+ghost use Rattle.pipe_groups.specs.GroupRuns.{keep_no_text};
+ghost use Rattle.pipe_groups.specs.Holds.{HoldFewer, Holds};
 ghost use Rattle.pipe_groups.specs.Shape.{shape_of};
-ghost use Rattle.pipe_sinks.specs.Tables.{HasGroups, HoldFewTogether, IsTable, put_row, TakesOne};
+ghost use Rattle.pipe_model.specs.Output.{key_types};
+ghost use Rattle.pipe_sinks.specs.Marks.{IsSole};
+ghost use Rattle.pipe_sinks.specs.Keyed.{IsAt};
+ghost use Rattle.pipe_sinks.specs.KeyRuns.{IsRun, run_rows};
+ghost use Rattle.pipe_sinks.specs.Tables.{HasGroups, HoldAlike, HoldFewTogether, IsTable, KeysStay, TakesOne};
 
 use crate::keyed_groups::KeyedGroups;
 use crate::merge::take_all;
 use pipe_aggs::CheckedQuery;
-use pipe_chains::hash_bytes;
-use pipe_columns::DataFrame;
+use pipe_columns::{DataFrame, DataType};
 use pipe_groups::PlacedGroups;
 use pipe_inputs::ChunkRows;
 use std::alloc::{AllocError, Global};
@@ -43,6 +48,7 @@ impl Model for KeyTable {
 impl KeyTable {
     /// A table of no rows for a query.
     pub(crate) fn new(alloc: Global, query: &CheckedQuery<'_>) -> Result<KeyTable, AllocError>
+        requires { IsSole (key_types (query_tree query.now)) }
         ensures shape { IfOk result (λ t. t.shape ≡ shape_of (query_tree query.now)) }
         ensures groups { IfOk result (λ t. t.groups ≡ []) }
     {
@@ -59,38 +65,78 @@ impl KeyTable {
         Ok(KeyTable { keyed })
     }
 
-    /// Takes row `row` of a chunk in, which is lent, and whose key's code is `key`.
+    /// Whether no group ever keeps a text.
+    pub(crate) fn keep_no_text(&self) -> bool
+        ensures { result ≡ keep_no_text self.now.shape.prototypes self.now.shape.input_types }
+    {
+        self.keyed.keep_no_text()
+    }
+
+    /// Takes row `row` of a chunk in, which is lent. The code of its key is made for a new key alone, in
+    /// a buffer.
     pub(crate) fn insert_lent(
         &mut self,
-        key: &[u8],
+        key: &mut Vec<u8>,
+        types: &[DataType],
         rows: &ChunkRows<'_>,
         row: usize,
     ) -> Result<(), AllocError>
+        requires types { types.now ≡ self.old.shape.key_types }
+        requires sole { IsSole self.old.shape.key_types }
         requires there { row < length rows.now }
         requires number { row < 2 ^ 32 }
-        requires code { key.now ≡ code self.old.shape.key_types (row_at rows.now row).key }
+        requires key { AreOfTypes self.old.shape.key_types (row_at rows.now row).key }
         requires typed { IsRow self.old.shape.key_types self.old.shape.input_types
             (spilled self.old.shape.key_types (row_at rows.now row)) }
         requires few { TakesOne self.old }
-        ensures done { OnOk result (HasGroups self.old self.new
-            (put_row self.old (spilled self.old.shape.key_types (row_at rows.now row)))) }
-        ensures err { OnErr result (HasGroups self.old self.new self.old.groups) }
+        ensures shape { self.new.shape ≡ self.old.shape }
         ensures holds { OnOk result ((taken : List SpillRow)
             → Holds self.old.shape.prototypes self.old.groups taken
             → Holds self.old.shape.prototypes self.new.groups
             (taken ++ spilled self.old.shape.key_types (row_at rows.now row) ∷ [])) }
     {
-        let hash = hash_bytes(key);
-        match self.keyed.find(hash, key) {
-            Some(index) => {
-                self.keyed.feed_lent(index, rows, row)?;
-                Ok(())
-            }
-            None => {
-                self.keyed.push_lent(hash, key, rows, row)?;
-                Ok(())
-            }
-        }
+        let index = self.keyed.cover_lent(key, types, rows, row)?;
+        self.keyed.feed_lent(index, rows, row)?;
+        Ok(())
+    }
+
+    /// The index of the group of a row's key, for which room is made where there is none. No row comes in.
+    pub(crate) fn cover(
+        &mut self,
+        key: &mut Vec<u8>,
+        types: &[DataType],
+        rows: &ChunkRows<'_>,
+        row: usize,
+    ) -> Result<usize, AllocError>
+        requires types { types.now ≡ self.old.shape.key_types }
+        requires sole { IsSole self.old.shape.key_types }
+        requires there { row < length rows.now }
+        requires key { AreOfTypes self.old.shape.key_types (row_at rows.now row).key }
+        ensures alike { HoldAlike self.old self.new }
+        ensures stay { KeysStay self.old self.new }
+        ensures at { IfOk result (λ i. IsAt self.new.groups
+            (code self.old.shape.key_types (row_at rows.now row).key) i) }
+    {
+        let index = self.keyed.cover_lent(key, types, rows, row)?;
+        Ok(index)
+    }
+
+    /// Takes rows of a chunk into the group of their key, which follow one another, and of which no text
+    /// is kept. It takes no memory.
+    pub(crate) fn feed_run(&mut self, index: usize, rows: &ChunkRows<'_>, row: usize, len: usize)
+        requires plain { keep_no_text self.old.shape.prototypes self.old.shape.input_types ≡ true }
+        requires run { IsRun self.old.shape rows.now row len }
+        requires at { IsAt self.old.groups
+            (code self.old.shape.key_types (row_at rows.now row).key) index }
+        requires few { HoldFewer self.old.shape self.old.groups len }
+        ensures shape { self.new.shape ≡ self.old.shape }
+        ensures stay { KeysStay self.old self.new }
+        ensures holds { (taken : List SpillRow)
+            → Holds self.old.shape.prototypes self.old.groups taken
+            → Holds self.old.shape.prototypes self.new.groups
+            (taken ++ run_rows self.old.shape.key_types rows.now row len) }
+    {
+        self.keyed.feed_run(index, rows, row, len);
     }
 
     /// Takes the rows of another table in, which is then empty.

@@ -2,18 +2,20 @@
 
 ghost use Rattle.std.specs.Prelude.{◌≡◌, ◌+◌, ◌<◌, ◌∷◌, ◌++◌, [], ℕ, IfOk, IsOk, length, OnErr, OnOk, Some};
 ghost use Rattle.pipe_aggs.specs.QueryTrees.{query_tree};
-ghost use Rattle.pipe_chains.specs.Hash.{hash_of};
 ghost use Rattle.pipe_groups.specs.Groups.{count_held, cover, Covers, group_of, has_rows, HasGroups, held_bytes, KeepsRoom, new_group};
 ghost use Rattle.pipe_groups.specs.Shape.{IsShape, shape_of};
+ghost use Rattle.pipe_model.specs.Output.{key_types};
 ghost use Rattle.pipe_sinks.specs.Keyed.{IsAt, IsFound};
+ghost use Rattle.pipe_sinks.specs.Marks.{code_sought, IsMarkedKey, IsSole, IsSought};
 
+use crate::sought::{Sought, is_sought};
 use pipe_aggs::CheckedQuery;
 use pipe_chains::Chains;
 use pipe_groups::Groups;
 use std::alloc::{AllocError, Global};
 use std::marker::Model;
 
-/// Groups, with chains over the hashes of their keys. Contracts see the groups, what they are of, and
+/// Groups of one key, with chains over the marks of their keys' values. Contracts see the groups, what they are of, and
 /// the room for more.
 #[derive(Drop)]
 pub(crate) struct KeyedGroups {
@@ -35,14 +37,14 @@ impl Model for KeyedGroups {
 impl KeyedGroups {
     /// No groups, of what a query's are.
     pub(crate) fn new(alloc: Global, query: &CheckedQuery<'_>) -> Result<KeyedGroups, AllocError>
+        requires { IsSole (key_types (query_tree query.now)) }
         ensures shape { IfOk result (λ g. g.shape ≡ shape_of (query_tree query.now)) }
         ensures known { IfOk result (λ g. IsShape g.shape) }
         ensures groups { IfOk result (λ g. g.groups ≡ []) }
     {
-        Ok(KeyedGroups {
-            groups: Groups::new(alloc, query)?,
-            chains: Chains::new(alloc),
-        })
+        let groups = Groups::new(alloc, query)?;
+        let chains = Chains::new(alloc);
+        Ok(KeyedGroups { groups, chains })
     }
 
     /// No groups, of what these are.
@@ -50,10 +52,9 @@ impl KeyedGroups {
         ensures shape { IfOk result (λ g. g.shape ≡ self.now.shape) }
         ensures groups { IfOk result (λ g. g.groups ≡ []) }
     {
-        Ok(KeyedGroups {
-            groups: self.groups.split()?,
-            chains: self.chains.split(),
-        })
+        let groups = self.groups.split()?;
+        let chains = self.chains.split();
+        Ok(KeyedGroups { groups, chains })
     }
 
     /// How many groups there are, with or without rows.
@@ -93,14 +94,14 @@ impl KeyedGroups {
         self.groups.first(index).is_some()
     }
 
-    /// The index of the group of a key, which has a hash.
-    pub(crate) fn find(&self, hash: u64, key: &[u8]) -> Option<usize>
-        requires { hash ≡ hash_of key.now }
-        ensures { IsFound self.now.groups key.now result }
+    /// The index of the group of a key, which has a mark.
+    pub(crate) fn find(&self, mark: u64, sought: &Sought<'_>) -> Option<usize>
+        requires { IsSought self.now.shape.key_types sought.now mark }
+        ensures { IsFound self.now.groups (code_sought self.now.shape.key_types sought.now) result }
     {
-        let mut at = self.chains.last(hash);
+        let mut at = self.chains.last(mark);
         while let Some(index) = at {
-            if self.groups.key(index) == key {
+            if is_sought(self.groups.key(index), sought) {
                 return Some(index);
             }
             at = self.chains.before(index);
@@ -119,8 +120,8 @@ impl KeyedGroups {
     }
 
     /// Appends a group without rows for a key that has none, and gives its index.
-    pub(crate) fn push(&mut self, hash: u64, key: &[u8]) -> Result<usize, AllocError>
-        requires { hash ≡ hash_of key.now }
+    pub(crate) fn push(&mut self, mark: u64, key: &[u8]) -> Result<usize, AllocError>
+        requires { IsMarkedKey self.old.shape.key_types key.now mark }
         ensures ok { OnOk result (HasGroups self.old self.new
             (self.old.groups ++ new_group self.old.shape.prototypes key.now ∷ [])) }
         ensures index { IfOk result (λ i. i ≡ length self.old.groups) }
@@ -131,13 +132,13 @@ impl KeyedGroups {
     {
         self.chains.reserve(1)?;
         let index = self.groups.push(key)?;
-        self.chains.push(hash).unwrap();
+        self.chains.push(mark).unwrap();
         Ok(index)
     }
 
     /// The index of the group of a key. Where there is none it is made, for which there is room.
-    pub(crate) fn cover(&mut self, hash: u64, key: &[u8]) -> usize
-        requires hash { hash ≡ hash_of key.now }
+    pub(crate) fn cover(&mut self, mark: u64, key: &[u8]) -> usize
+        requires marked { IsMarkedKey self.old.shape.key_types key.now mark }
         requires room { Covers self.old 1 (length key.now) }
         ensures groups { HasGroups self.old self.new
             (cover self.old.shape.prototypes key.now self.old.groups) }
@@ -145,12 +146,12 @@ impl KeyedGroups {
         ensures room { (g b : ℕ)
             → Covers self.old (g + 1) (b + length key.now) → Covers self.new g b }
     {
-        match self.find(hash, key) {
+        match self.find(mark, &Sought::Code(key)) {
             Some(index) => {
                 return index;
             }
             None => {
-                return self.push(hash, key).unwrap();
+                return self.push(mark, key).unwrap();
             }
         }
     }

@@ -4,25 +4,29 @@
 mod add_chunk;
 mod by_partition;
 mod by_row;
+mod key_runs;
+mod key_sink;
 mod key_table;
 mod keyed_feed;
 mod keyed_finish;
 mod keyed_groups;
 mod laws;
 mod merge;
-mod number_sink;
 mod run_finish;
 mod run_sink;
 mod sink_run;
 mod slices;
+mod sole_key;
+mod sought;
 mod take;
-mod text_sink;
 mod worked;
 
+pub use key_sink::KeySink;
 pub use laws::what_parts_keep;
-pub use number_sink::PrimitiveGroupbySink;
 pub use slices::{compute_slices, default_slices};
-pub use text_sink::StringGroupbySink;
+pub use sole_key::{
+    KeyNumber, NumberKey, PrimitiveGroupbySink, SoleKey, StringGroupbySink, TextKey, has_sole_key,
+};
 
 #[cfg(test)]
 mod slice_tests;

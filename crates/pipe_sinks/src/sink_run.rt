@@ -1,7 +1,9 @@
 //! What a sink of one key keeps of the chunks that it took.
 
-ghost use Rattle.std.specs.Prelude.{◌≡◌, ◌<◌, [], IfOk, length};
+ghost use Rattle.std.specs.Prelude.{◌≡◌, ◌<◌, [], IfOk};
 ghost use Rattle.pipe_aggs.specs.QueryTrees.{query_tree};
+ghost use Rattle.pipe_model.specs.Output.{key_types};
+ghost use Rattle.pipe_sinks.specs.Marks.{IsSole};
 ghost use Rattle.pipe_sinks.specs.Runs.{with_taken};
 
 use crate::key_table::KeyTable;
@@ -54,7 +56,7 @@ impl<'a> SinkRun<'a> {
         partitions: usize,
     ) -> Result<SinkRun<'a>, AllocError>
         requires some { 0 < partitions }
-        requires key { length (query_tree query.now).keys ≡ 1 }
+        requires key { IsSole (key_types (query_tree query.now)) }
         ensures { IfOk result
             (λ r. r ≡ record { query = query.now; partitions = partitions; taken = [] }) }
     {

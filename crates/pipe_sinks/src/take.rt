@@ -23,8 +23,8 @@ impl KeyedGroups {
         ensures room { (g b : ℕ) → Covers self.old (g + 1)
             (b + length (group_of other.old.groups from).key) → Covers self.new g b }
     {
-        let hash = other.chains.mark(from);
-        let index = self.cover(hash, other.groups.key(from));
+        let mark = other.chains.mark(from);
+        let index = self.cover(mark, other.groups.key(from));
         self.groups.join(index, &mut other.groups, from);
     }
 }

@@ -1,6 +1,15 @@
-use Rattle.std.proofs.Common.{◌+◌, length, arith, sym, subst}
-use Rattle.pipe_groups.specs.Groups.{Covers, Seen}
+use Rattle.std.proofs.Common.{◌≡◌, ◌∙◌, ◌+◌, ◌++◌, ◌∷◌, [], ℕ, List, length, ap, arith, sym, subst}
+use Rattle.pipe_groups.specs.Groups.{Covers, new_group, Seen}
+use Rattle.pipe_sinks.specs.Marks.{IsMarkedKey}
+use Rattle.pipe_sinks.proofs.KeyFacts.{marked-push}
 use Rattle.pipe_sinks.proofs.keyed_groups.KeyedGroups.push.Goals as goal
+
+pub invariant_of-self-2 : goal.invariant_of-self-2
+invariant_of-self-2 c =
+    let own = subst (λ (t : Seen). IsMarkedKey t.shape.key_types c.args.key.now c.args.mark) (sym c.self.view_is) c.requires in
+    let more : c.push-2.new.self.marks ≡ c.reserve.new.self.marks ++ c.args.mark ∷ [] = rw c.unwrap.ensures at c.push-2.ensures.ok in
+    marked-push c.self.inside.groups _ (new_group c.self.inside.groups.shape.prototypes c.args.key.now) c.self.inside.chains.marks _ c.args.mark c.self.invariant own c.in_ok-index.ensures.ok
+    (more ∙ ap (λ (ms : List ℕ). ms ++ c.args.mark ∷ []) c.reserve.ensures.marks)
 
 pub returns-clause-room : goal.returns-clause-room
 returns-clause-room c = λ g b h.

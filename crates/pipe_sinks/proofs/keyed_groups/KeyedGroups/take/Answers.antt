@@ -1,19 +1,23 @@
 use Rattle.std.proofs.Common.{refl, sym, ap, ◌∙◌, ◌+◌, length, subst, ℕ, List, arith, ◌<◌}
-use Rattle.pipe_chains.specs.Hash.{hash_of}
 use Rattle.pipe_groups.specs.Groups.{Covers, group_of, Seen}
-use Rattle.pipe_sinks.proofs.FindFacts.{mark-of}
+use Rattle.pipe_groups.specs.Shape.{Shape}
+use Rattle.pipe_sinks.specs.Marks.{IsMarkedKey}
+use Rattle.pipe_sinks.proofs.FindFacts.{marked-at}
 use Rattle.pipe_sinks.proofs.KeyFacts.{marked-set}
 use Rattle.pipe_sinks.proofs.keyed_groups.KeyedGroups.take.Goals as goal
 
-pub cover-index-requires-clause-hash : goal.cover-index-requires-clause-hash
-cover-index-requires-clause-hash c =
-    c.mark-hash.ensures ∙ mark-of c.other.inside.groups.groups _ c.other.invariant c.args.from (subst (λ (t : Seen). c.args.from < length t.groups) (sym c.other.view_is) c.requires.within) ∙ sym (ap hash_of c.key.ensures)
+pub cover-index-requires-clause-marked : goal.cover-index-requires-clause-marked
+cover-index-requires-clause-marked c =
+    let within = subst (λ (t : Seen). c.args.from < length t.groups) (sym c.other.view_is) c.requires.within in
+    let there = marked-at c.other.inside.groups.shape.key_types c.other.inside.groups.groups _ c.other.invariant.marked c.args.from within in
+    let types = ap (λ (t : Seen). t.shape.key_types) c.other.view_is ∙ ap (λ (s : Shape). s.key_types) c.requires.shape in
+    rw (c.mark-mark.ensures, c.key.ensures, ← types) there
 
 pub invariant_of-self : goal.invariant_of-self
-invariant_of-self c = marked-set c.self.inside.groups.groups _ c.cover-index.result _ c.join.ensures.groups.0 refl _ c.self.invariant
+invariant_of-self c = marked-set c.self.inside.groups _ _ c.cover-index.result _ c.join.ensures.groups refl c.self.invariant
 
 pub invariant_of-other : goal.invariant_of-other
-invariant_of-other c = marked-set c.other.inside.groups.groups _ c.args.from _ c.join.ensures.others.0 refl _ c.other.invariant
+invariant_of-other c = marked-set c.other.inside.groups _ _ c.args.from _ c.join.ensures.others refl c.other.invariant
 
 pub returns-clause-room : goal.returns-clause-room
 returns-clause-room c = λ g b h.

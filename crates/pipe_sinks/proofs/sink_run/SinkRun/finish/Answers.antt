@@ -5,10 +5,14 @@ use Rattle.pipe_aggs.specs.QueryTrees.{query_tree}
 use Rattle.pipe_model.specs.Answer.{answer_of}
 use Rattle.pipe_model.specs.Query.{QueryTree}
 use Rattle.pipe_sinks.specs.Runs.{placed_rows, Run}
+use Rattle.pipe_sinks.proofs.KeysFacts.{keys-one}
 use Rattle.pipe_sinks.proofs.MarkFacts.{marked}
 use Rattle.pipe_sinks.proofs.RunFacts.{run-given}
 use Rattle.pipe_sinks.proofs.sink_run.SinkRun.finish.Goals as goal
 use Rattle.pipe_sinks.proofs.sink_run.SinkRun.finish.Goals.{then-keeps_order, else-keeps_order}
+
+pub by_partition-frame-requires-clause-key : goal.by_partition-frame-requires-clause-key
+by_partition-frame-requires-clause-key c = keys-one (query_tree c.self.inside.query.now) _ c.self.invariant.keyed.is
 
 pub invariant_of-self-in-Ok : goal.invariant_of-self-in-Ok
 invariant_of-self-in-Ok c =

@@ -1,6 +1,0 @@
-use Rattle.pipe_aggs.specs.QueryTrees.{query_tree}
-use Rattle.pipe_sinks.proofs.KeysFacts.{keys-one}
-use Rattle.pipe_sinks.proofs.number_sink.PrimitiveGroupbySink.new.Goals as goal
-
-pub new-requires-clause-key : goal.new-requires-clause-key
-new-requires-clause-key g c = keys-one (query_tree c.args.query.now) _ c.requires.key

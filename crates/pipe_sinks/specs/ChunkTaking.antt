@@ -1,0 +1,61 @@
+-- Of the proofs alone: a chunk whose rows a table takes.
+use Rattle.std.specs.Prelude.{◌≡◌, ◌<◌, ◌^◌, ◌++◌, ℕ, All, List, length, map, Option, Some, None}
+use Rattle.std.specs.Borrow.{Bor}
+use Rattle.std.specs.List.{range_with_len}
+use Rattle.pipe_columns.specs.declared.any_value.AnyValue.{AnyValue}
+use Rattle.pipe_columns.specs.declared.data_chunk.DataChunk.{DataChunk}
+use Rattle.pipe_columns.specs.Frame.{FrameData, value_at}
+use Rattle.pipe_columns.specs.Row.{Row}
+use Rattle.pipe_aggs.specs.declared.query.Query.{Query}
+use Rattle.pipe_aggs.specs.CheckedQuery.{input_types}
+use Rattle.pipe_aggs.specs.QueryTrees.{query_tree}
+use Rattle.pipe_inputs.specs.ChunkRows.{row_at}
+use Rattle.pipe_inputs.specs.RowTypes.{IsRowOf}
+use Rattle.pipe_model.specs.Output.{key_types}
+use Rattle.pipe_model.specs.Query.{QueryTree}
+use Rattle.pipe_model.specs.Rows.{chunk_rows, row_of}
+use Rattle.pipe_spill.specs.SpillRow.{AreRows, spilled}
+use Rattle.pipe_spill.specs.declared.spill_row.SpillRow.{SpillRow}
+use Rattle.pipe_groups.specs.Holds.{HoldFewer, Holds}
+use Rattle.pipe_groups.specs.Shape.{shape_of}
+use Rattle.pipe_sinks.specs.Marks.{IsSole}
+use Rattle.pipe_sinks.specs.Tables.{Table}
+
+-- the first rows of a chunk
+abbrev pub rows_to : QueryTree → ℕ → FrameData → ℕ → List Row
+rows_to q i frame n = map (λ m. row_of q i frame m) (range_with_len 0 n)
+
+-- what is spilled of them
+abbrev pub spilled_to : QueryTree → ℕ → FrameData → ℕ → List SpillRow
+spilled_to q i frame n = map (spilled (key_types q)) (rows_to q i frame n)
+
+-- a table that took the first rows of a chunk
+pub record TookRows (q : QueryTree) (i : ℕ) (frame : FrameData) (n : ℕ) (old now : Table) : Type 0 where
+  pub shape : now.shape ≡ old.shape
+  pub holds : (taken : List SpillRow) → Holds old.shape.prototypes old.groups taken
+      → Holds old.shape.prototypes now.groups (taken ++ spilled_to q i frame n)
+
+-- values are the first ones of the keys of rows
+abbrev pub AreKeysOf : List Row → List AnyValue → Type 0
+AreKeysOf rows keys =
+    (n : ℕ) → n < length rows → value_at keys n ≡ value_at (row_at rows n).key 0
+
+-- the values of the keys of a chunk, if they are given
+abbrev pub AreGivenKeys : QueryTree → DataChunk → Option (Bor (List AnyValue)) → Type 0
+AreGivenKeys q c None = Unit {0}
+AreGivenKeys q c (Some keys) = AreKeysOf (chunk_rows q c.chunk_index c.frame) keys.now
+
+-- what a table of a query needs to take the rows of a chunk
+pub record TakesRows (query : Query) (c : DataChunk) (rows : List Row) (t : Table) : Type 0 where
+  pub rows_are : rows ≡ chunk_rows (query_tree query) c.chunk_index c.frame
+  pub typed : All (IsRowOf (query_tree query)) rows
+  pub index : c.chunk_index < 2 ^ 32
+  pub height : c.frame.height < 2 ^ 32
+  pub shape : t.shape ≡ shape_of (query_tree query)
+  pub sole : IsSole (key_types (query_tree query))
+  pub few : HoldFewer t.shape t.groups c.frame.height
+
+-- a table that took all rows of a chunk
+pub record TookChunk (q : QueryTree) (c : DataChunk) (old now : Table) : Type 0 where
+  pub took : TookRows q c.chunk_index c.frame c.frame.height old now
+  pub typed : AreRows (key_types q) (input_types q) (spilled_to q c.chunk_index c.frame c.frame.height)

@@ -1,0 +1,77 @@
+-- Of the proofs alone: keys of one value, and the marks that they are found by.
+use Rattle.std.specs.Prelude.{◌≡◌, ◌-◌, ◌^◌, ◌==◌, ℕ, ℤ, pos, negsuc, nat_lt, Bool, true, false, if◌then◌else◌, List, [], ◌∷◌, map, All}
+use Rattle.pipe_chains.specs.Hash.{hash_of}
+use Rattle.pipe_columns.specs.declared.any_value.AnyValue.{AnyValue}
+use Rattle.pipe_columns.specs.declared.any_value.AnyValue.TheVariants as av
+use Rattle.pipe_columns.specs.declared.data_type.DataType.{DataType}
+use Rattle.pipe_columns.specs.declared.data_type.DataType.TheVariants as dt
+use Rattle.pipe_columns.specs.Key.{code}
+use Rattle.pipe_groups.specs.Groups.{Group, keys_of}
+use Rattle.pipe_spill.specs.KeyTypes.{AreOfTypes}
+use Rattle.pipe_sinks.specs.declared.sought.Sought.{Sought}
+use Rattle.pipe_sinks.specs.declared.sought.Sought.TheVariants as sought
+
+-- whether a type has numbers of more than 64 bits
+abbrev pub is_wide : DataType → Bool
+is_wide dt.Int128 = true
+is_wide t = false
+
+-- whether a number lies between -2^64 and 2^64
+abbrev pub is_narrow : ℤ → Bool
+is_narrow (pos n) = nat_lt n (2 ^ 64)
+is_narrow (negsuc n) = nat_lt n (2 ^ 64)
+
+-- the mark of a number: itself, or, below 0, what it is more than -2^64
+abbrev pub number_mark : ℤ → ℕ
+number_mark (pos n) = n
+number_mark (negsuc n) = 2 ^ 64 - 1 - n
+
+-- the mark of a value: of a text a hash
+abbrev pub mark_of : AnyValue → ℕ
+mark_of av.Null = 0
+mark_of (av.Boolean b) = if b then 1 else 0
+mark_of (av.Int n) = number_mark n
+mark_of (av.Text s) = hash_of s
+
+-- one key, of numbers of 64 bits at most or of texts
+pub record IsSole (types : List DataType) : Type 0 where
+  pub dtype : DataType
+  pub is : types ≡ dtype ∷ []
+  pub narrow : is_wide dtype ≡ false
+
+-- the code of a key of one value
+abbrev pub sole_code : List DataType → AnyValue → List ℕ
+sole_code types v = code types (v ∷ [])
+
+-- a value that may be that key
+abbrev pub IsSoleValue : List DataType → AnyValue → Type 0
+IsSoleValue types v = AreOfTypes types (v ∷ [])
+
+-- the code of a value, and its mark
+pub record IsMarkedKey (types : List DataType) (key : List ℕ) (mark : ℕ) : Type 0 where
+  pub value : AnyValue
+  pub fit : IsSoleValue types value
+  pub key_is : key ≡ sole_code types value
+  pub mark_is : mark ≡ mark_of value
+
+-- each group has the code of a value as its key, and the mark of that value
+pub record AreMarked (types : List DataType) (gs : List Group) (marks : List ℕ) : Type 0 where
+  pub values : List AnyValue
+  pub fit : All (IsSoleValue types) values
+  pub keys : keys_of gs ≡ map (sole_code types) values
+  pub marked : marks ≡ map mark_of values
+
+-- the code that is looked for
+abbrev pub code_sought : List DataType → Sought → List ℕ
+code_sought types (sought.Value v) = sole_code types v.now
+code_sought types (sought.Code bytes) = bytes.now
+
+-- a value or a code that is looked for, and its mark
+abbrev pub IsSought : List DataType → Sought → ℕ → Type 0
+IsSought types (sought.Value v) mark = IsSoleValue types v.now × (mark ≡ mark_of v.now)
+IsSought types (sought.Code bytes) mark = IsMarkedKey types bytes.now mark
+
+-- whether bytes begin with one
+abbrev pub begins : ℕ → List ℕ → Bool
+begins byte [] = false
+begins byte (b ∷ bs) = b == byte
