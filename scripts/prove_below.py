@@ -1,15 +1,16 @@
 """Proves the crates below one, side by side where processors and memory allow.
 
-usage: scripts/prove_below.py CRATE [LOGS], where LOGS is a folder for what each crate's proof prints.
+usage: scripts/prove_below.py CRATE LOGS, where LOGS is a folder for what each crate's proof prints.
 A crate is begun as soon as all that it stands on is proved. The one with the most above it goes first, with a job for each processor; the others run beside it at a lower priority, so they take what it leaves.
+Two runs of rt in one tree wait for each other where they stand on one crate. So each runs in a copy of the tree below LOGS; what is proved in one is known in all trees of the machine, in this one too while LOGS is there.
 AT_ONCE in the environment is how many crates are proved at once: 1 is one after another.
 """
 
 import os
+import shutil
 import signal
 import subprocess
 import sys
-import tempfile
 import time
 
 ROOT = os.path.dirname(os.path.dirname(os.path.abspath(__file__)))
@@ -75,27 +76,36 @@ def at_once():
     return max(1, min((os.cpu_count() or 1) // 2 + 1, free // (GIB_A_CRATE << 30)))
 
 
-def start(crate, beside, logs):
+def copied(logs, number):
+    """A copy of the tree, without what is built and what git keeps."""
+    to = os.path.join(logs, f"tree-{number}")
+    return shutil.copytree(ROOT, to, symlinks=True, ignore=shutil.ignore_patterns("out", ".git"))
+
+
+def start(crate, tree, beside, logs):
     """Begins a proof in a process group of its own. All are of one session, in which priorities count."""
     log = open(os.path.join(logs, crate), "w", encoding="utf-8")
     jobs = 1 if beside else os.cpu_count() or 1
     command = (["nice", "-n", "15"] if beside else []) + ["rt", "lib", "--jobs", str(jobs)]
-    at = os.path.join(ROOT, "crates", crate)
+    at = os.path.join(tree, "crates", crate)
     return subprocess.Popen(command, cwd=at, stdin=subprocess.DEVNULL, stdout=log, stderr=log, process_group=0)
 
 
 def prove(wanted, known, height, logs):
     """Proves the crates, each after those that it stands on, and answers one that was not proved, if there is one."""
-    most, begun, done, running = at_once(), time.monotonic(), set(), {}
+    begun, done, running = time.monotonic(), set(), {}
+    free = [copied(logs, number) for number in range(at_once())]
     try:
         while len(done) < len(wanted):
             ready = [c for c in wanted if c not in done and c not in running and done.issuperset(known[c])]
-            for c in sorted(ready, key=lambda c: -height[c])[:most - len(running)]:
+            for c in sorted(ready, key=lambda c: -height[c])[:len(free)]:
                 first = height[c] == max(height[other] for other in wanted if other not in done)
-                running[c] = (start(c, not first, logs), time.monotonic())
+                tree = free.pop()
+                running[c] = (start(c, tree, not first, logs), time.monotonic(), tree)
             time.sleep(0.2)
-            for c in [c for c, (process, _) in running.items() if process.poll() is not None]:
-                process, since = running.pop(c)
+            for c in [c for c, (process, _, _) in running.items() if process.poll() is not None]:
+                process, since, tree = running.pop(c)
+                free.append(tree)
                 if process.returncode != 0:
                     return c
                 done.add(c)
@@ -104,14 +114,13 @@ def prove(wanted, known, height, logs):
                 print(f"proved {c}: {took}", file=sys.stderr)
         return None
     finally:
-        for process, _ in running.values():
+        for process, _, _ in running.values():
             os.killpg(process.pid, signal.SIGTERM)
 
 
 def main():
     known = crates()
-    crate = sys.argv[1]
-    logs = sys.argv[2] if len(sys.argv) > 2 else tempfile.mkdtemp()
+    crate, logs = sys.argv[1:]
     wanted = sorted(all_below(crate, known))
     failed = prove(wanted, known, heights(wanted + [crate], known), logs)
     if failed is None:
