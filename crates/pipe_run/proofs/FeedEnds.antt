@@ -1,11 +1,12 @@
 -- How a feed that is refused ends.
-use Rattle.std.proofs.Common.{◌≡◌, ◌∙◌, ◌<◌, ℕ, true, List, [], ◌∷◌, ◌++◌, length, map, refl, sym, ap, subst, arith}
+use Rattle.std.proofs.Common.{◌≡◌, ◌∙◌, ◌<◌, ◌≤◌, ℕ, true, List, [], ◌∷◌, ◌++◌, length, map, refl, sym, ap, subst, arith}
 use Rattle.std.specs.List.{slice_index_or}
 use Rattle.std.proofs.lemmas.List.{get_or-map, length-map}
 use Rattle.pipe_columns.specs.declared.data_chunk.DataChunk.{DataChunk}
 use Rattle.pipe_columns.specs.Causes.{Rose}
 use Rattle.pipe_aggs.specs.QueryTrees.{query_tree}
 use Rattle.pipe_model.specs.Rows.{AreChunksOf}
+use Rattle.pipe_plan.specs.declared.event.PartitionEvent.{PartitionEvent}
 use Rattle.pipe_plan.specs.Run.{StoreSeen}
 use Rattle.pipe_global.specs.Partition.{no_store, PartitionSeen}
 use Rattle.pipe_workers.specs.declared.paused.PausedWorker.{PausedWorker}
@@ -14,8 +15,8 @@ use Rattle.pipe_run.specs.declared.error.PipeError.TheVariants as error
 use Rattle.pipe_run.specs.declared.round.RoundStop.{RoundStop}
 use Rattle.pipe_run.specs.declared.round.RoundStop.TheVariants as stop
 use Rattle.pipe_run.specs.Answered.{HaveWholeFrames}
-use Rattle.pipe_run.specs.Fed.{AllStand, FedSeen, IsFed, IsFedRun, RoseFrom}
-use Rattle.pipe_run.specs.Feeding.{all_chunks, chunks_reached, IsBadChunks, IsFeedCause}
+use Rattle.pipe_run.specs.Fed.{AllStand, CountOn, FedSeen, IsFed, IsFedRun, RoseFrom}
+use Rattle.pipe_run.specs.Feeding.{all_chunks, chunks_reached, IsBadChunks, IsFeedCause, NoneFell}
 use Rattle.pipe_run.specs.Refusals.{AllFit, AreMany, CanFeed, IsFirstMisfit}
 use Rattle.pipe_run.specs.Setting.{run_of, Setting}
 use Rattle.pipe_run.specs.Stops.{error_of}
@@ -53,22 +54,27 @@ pub stop-reached : (s : FedSeen) (chunks : List DataChunk) (e : RoundStop) → c
 stop-reached s chunks (stop.Store p) = refl
 stop-reached s chunks stop.Memory = refl
 
+-- which was not for its chunks
+pub stop-fits : (e : RoundStop) → IsBadChunks (error_of e) → ⊥
+stop-fits (stop.Store p) bad = bad
+stop-fits stop.Memory bad = bad
+
 pub stop-cause : (s : FedSeen) (chunks : List DataChunk) (stores : List StoreSeen) (e : RoundStop) (closed after : List PartitionSeen) → CanFeed s.setting.query.schema (all_chunks s chunks)
-    → stores ≡ map (λ c. c.store) after → s.faults ≡ map (λ c. c.store.faults) closed → length closed ≡ length after
+    → stores ≡ map (λ c. c.store) after → s.stores ≡ map (λ c. c.store) closed → length closed ≡ length after
     → ((p : ℕ) → e ≡ stop.Store p → RoseFrom closed p after) → IsFeedCause s chunks stores (error_of e)
 stop-cause s chunks stores stop.Memory closed after can is counts long rose = tt
 stop-cause s chunks stores (stop.Store p) closed after can is counts long rose = by closed refl where
-  by : (ps : List PartitionSeen) → closed ≡ ps → CanFeed s.setting.query.schema (all_chunks s chunks) × (p < length stores) × Rose (slice_index_or s.faults p 0) (slice_index_or stores p no_store).faults
+  by : (ps : List PartitionSeen) → closed ≡ ps → CanFeed s.setting.query.schema (all_chunks s chunks) × (p < length stores) × Rose (slice_index_or s.stores p no_store).faults (slice_index_or stores p no_store).faults
   by [] none = absurd (omega (arith, (rose p refl).0, ap (λ (l : List PartitionSeen). length l) none))
   by (d ∷ ps) some =
       let lt : p < length closed = (rose p refl).0 in
       let below : p < length after = omega (arith, lt, long) in
       let high : length stores ≡ length after = ap (λ (l : List StoreSeen). length l) is ∙ length-map after (λ (c : PartitionSeen). c.store) in
-      let from : slice_index_or s.faults p 0 ≡ (slice_index_or closed p d).store.faults = ap (λ (l : List ℕ). slice_index_or l p 0) counts ∙ get_or-map (λ (c : PartitionSeen). c.store.faults) closed p d 0 lt in
+      let from : slice_index_or s.stores p no_store ≡ (slice_index_or closed p d).store = ap (λ (l : List StoreSeen). slice_index_or l p no_store) counts ∙ get_or-map (λ (c : PartitionSeen). c.store) closed p d no_store lt in
       let to : slice_index_or stores p no_store ≡ (slice_index_or after p d).store = ap (λ (l : List StoreSeen). slice_index_or l p no_store) is ∙ get_or-map (λ (c : PartitionSeen). c.store) after p d no_store below in (
         can,
         omega (arith, below, high),
-        subst (λ n. Rose n (slice_index_or stores p no_store).faults) (sym from) (subst (λ (x : StoreSeen). Rose (slice_index_or closed p d).store.faults x.faults) (sym to) ((rose p refl).1 d)),
+        subst (λ (x : StoreSeen). Rose x.faults (slice_index_or stores p no_store).faults) (sym from) (subst (λ (x : StoreSeen). Rose (slice_index_or closed p d).store.faults x.faults) (sym to) ((rose p refl).1 d)),
       )
 
 -- chunks of a query can be fed
@@ -84,7 +90,8 @@ stand-longer x before more closed rests fed =
 
 -- ---- what a refused feed leaves of the stores
 
-module _ (x : Setting) (taken : List DataChunk) (faults : List ℕ) (s : FedSeen) (view : record { setting = x; chunks = taken; faults = faults } ≡ s) (stores : List StoreSeen)
+module _ (x : Setting) (taken : List DataChunk) (journals : List (List PartitionEvent)) (seen : List StoreSeen) (s : FedSeen)
+    (view : record { setting = x; chunks = taken; journals = journals; stores = seen } ≡ s) (stores : List StoreSeen)
     (closed : List PartitionSeen) (rests : List PausedWorker) (rows : ℕ) (run : IsFedRun x taken closed rests rows) where
   -- where it is given up between its calls
   pub whole-back : stores ≡ map (λ c. c.store) closed → HaveWholeFrames (run_of s.setting true s.chunks) stores
@@ -97,7 +104,7 @@ module _ (x : Setting) (taken : List DataChunk) (faults : List ℕ) (s : FedSeen
   -- where its chunks can't be fed
   pub bad-back : (chunks : List DataChunk) (e : PipeError) → IsBadChunks e → stores ≡ map (λ c. c.store) closed → HaveWholeFrames (run_of s.setting true (chunks_reached s chunks e)) stores
   bad-back chunks e bad is = subst (λ (s : FedSeen). HaveWholeFrames (run_of s.setting true (chunks_reached s chunks e)) stores) view
-      (subst (λ l. HaveWholeFrames (run_of x true l) stores) (sym (bad-reached (record { setting = x; chunks = taken; faults = faults }) chunks e bad))
+      (subst (λ l. HaveWholeFrames (run_of x true l) stores) (sym (bad-reached (record { setting = x; chunks = taken; journals = journals; stores = seen }) chunks e bad))
       (stand-frames (run_of x true taken) closed stores some is (whole-stand (run_of x true taken) closed run.fed.partitions)))
 
   -- where there is no room for their marks
@@ -108,11 +115,33 @@ module _ (x : Setting) (taken : List DataChunk) (faults : List ℕ) (s : FedSeen
   -- where its round stops
   pub stop-back : (chunks : List DataChunk) (after : List PartitionSeen) (e : RoundStop) → stores ≡ map (λ c. c.store) after → AllStand (run_of x true (taken ++ chunks)) after → HaveWholeFrames (run_of s.setting true (chunks_reached s chunks (error_of e))) stores
   stop-back chunks after e is stand = subst (λ (s : FedSeen). HaveWholeFrames (run_of s.setting true (chunks_reached s chunks (error_of e))) stores) view
-      (subst (λ l. HaveWholeFrames (run_of x true l) stores) (sym (stop-reached (record { setting = x; chunks = taken; faults = faults }) chunks e))
+      (subst (λ l. HaveWholeFrames (run_of x true l) stores) (sym (stop-reached (record { setting = x; chunks = taken; journals = journals; stores = seen }) chunks e))
       (stand-frames (run_of x true (taken ++ chunks)) after stores some is stand))
 
   -- why its round stopped
-  pub stop-cause-of : (chunks : List DataChunk) (after : List PartitionSeen) (e : RoundStop) → AreChunksOf (query_tree x.query) (taken ++ chunks) → stores ≡ map (λ c. c.store) after → faults ≡ map (λ c. c.store.faults) closed
+  pub stop-cause-of : (chunks : List DataChunk) (after : List PartitionSeen) (e : RoundStop) → AreChunksOf (query_tree x.query) (taken ++ chunks) → stores ≡ map (λ c. c.store) after → seen ≡ map (λ c. c.store) closed
       → AllStand (run_of x true (taken ++ chunks)) after → ((p : ℕ) → e ≡ stop.Store p → RoseFrom closed p after) → IsFeedCause s chunks stores (error_of e)
   stop-cause-of chunks after e are is counts stand rose = subst (λ (s : FedSeen). IsFeedCause s chunks stores (error_of e)) view
-      (stop-cause (record { setting = x; chunks = taken; faults = faults }) chunks stores e closed after (can-feed x (taken ++ chunks) are) is counts (run.fed.partitions.count ∙ sym stand.count) rose)
+      (stop-cause (record { setting = x; chunks = taken; journals = journals; stores = seen }) chunks stores e closed after (can-feed x (taken ++ chunks) are) is counts (run.fed.partitions.count ∙ sym stand.count) rose)
+
+  -- what it leaves where it isn't refused: its chunks could be fed
+  pub fed-all : (chunks : List DataChunk) → AreChunksOf (query_tree x.query) (taken ++ chunks) → CanFeed s.setting.query.schema (s.chunks ++ chunks)
+  fed-all chunks are = subst (λ (s : FedSeen). CanFeed s.setting.query.schema (s.chunks ++ chunks)) view (can-feed x (taken ++ chunks) are)
+
+  -- where its chunks can't be fed, the stores are as they were
+  pub bad-untouched : stores ≡ map (λ c. c.store) closed → seen ≡ map (λ c. c.store) closed → stores ≡ s.stores
+  bad-untouched is found = is ∙ sym found ∙ ap (λ (s : FedSeen). s.stores) view
+
+  -- no count of faults fell
+  pub none-fell : (after : List PartitionSeen) → stores ≡ map (λ c. c.store) after → seen ≡ map (λ c. c.store) closed → length after ≡ length closed → CountOn closed after → NoneFell s.stores stores
+  none-fell after is found long on = subst (λ (s : FedSeen). NoneFell s.stores stores) view (subst (λ l. NoneFell l stores) (sym found) (subst (NoneFell (map (λ c. c.store) closed)) (sym is) (record { count = count; each = by closed refl }))) where
+    count : length (map (λ (c : PartitionSeen). c.store) after) ≡ length (map (λ (c : PartitionSeen). c.store) closed)
+    count = length-map after (λ (c : PartitionSeen). c.store) ∙ long ∙ sym (length-map closed (λ (c : PartitionSeen). c.store))
+
+    by : (ps : List PartitionSeen) → closed ≡ ps → (p : ℕ) → p < length (map (λ (c : PartitionSeen). c.store) closed)
+        → (slice_index_or (map (λ c. c.store) closed) p no_store).faults ≤ (slice_index_or (map (λ c. c.store) after) p no_store).faults
+    by [] e p lt = absurd (omega (arith, lt, length-map closed (λ (c : PartitionSeen). c.store), ap (λ (l : List PartitionSeen). length l) e))
+    by (d ∷ ps) e p lt =
+        let here : p < length closed = omega (arith, lt, length-map closed (λ (c : PartitionSeen). c.store)) in
+        subst (λ (a : StoreSeen). a.faults ≤ (slice_index_or (map (λ c. c.store) after) p no_store).faults) (sym (get_or-map (λ (c : PartitionSeen). c.store) closed p d no_store here))
+        (subst (λ (b : StoreSeen). (slice_index_or closed p d).store.faults ≤ b.faults) (sym (get_or-map (λ (c : PartitionSeen). c.store) after p d no_store (omega (arith, here, long)))) (on p d here))

@@ -59,6 +59,7 @@ pub fed-more : (x : Setting) (chunks : List DataChunk) (closed new : List Partit
     → AreWholePartitions (run_of x true chunks) new → HaveEnded (run_of x true chunks) left → IsFedRun x chunks new left all
 fed-more x chunks closed new rests left before rows all sound run are high whole ended = record {
   generic = run.generic;
+  few = run.few;
   chunks_are = are;
   fed = record {
     run = (takes-turns x.query (run_of x true chunks) sound run.fed.run.query refl run.fed.run.limits run.generic are run.fed.run.stores run.fed.run.former).runnable;
@@ -70,7 +71,7 @@ fed-more x chunks closed new rests left before rows all sound run are high whole
 
 -- ---- the stores of partitions that stand for a run
 
-stands-frames : (r : Run) (p : ℕ) (s : PartitionSeen) → 0 < r.limits.buffer_size → IsReplayed r p s → HasWholeFrames r p s.store
+pub stands-frames : (r : Run) (p : ℕ) (s : PartitionSeen) → 0 < r.limits.buffer_size → IsReplayed r p s → HasWholeFrames r p s.store
 stands-frames r p s some is = record {
   frames = (replay r p s.journal).frames;
   pieces = frames-apart r p s.journal some is.journal;

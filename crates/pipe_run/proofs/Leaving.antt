@@ -1,5 +1,5 @@
 -- What a round leaves is of the run as it was begun, whatever its stores' faults were counted from.
-use Rattle.std.proofs.Common.{◌≡◌, ◌∙◌, ◌+◌, ◌<◌, ℕ, List, length, map, ap, subst, arith}
+use Rattle.std.proofs.Common.{◌≡◌, ◌∙◌, ◌+◌, ◌<◌, ◌≤◌, ℕ, List, length, map, ap, subst, arith}
 use Rattle.std.specs.List.{slice_index_or}
 use Rattle.std.proofs.lemmas.List.{get_or-map, length-map}
 use Rattle.pipe_columns.specs.Causes.{Rose}
@@ -7,7 +7,7 @@ use Rattle.pipe_plan.specs.Replay.{replay}
 use Rattle.pipe_plan.specs.Run.{Run}
 use Rattle.pipe_global.specs.Partition.{bytes_of, IsReplayed, marks_from, PartitionSeen, with_frames}
 use Rattle.pipe_workers.specs.declared.paused.PausedWorker.{PausedWorker}
-use Rattle.pipe_run.specs.Fed.{AllStand, AreWholePartitions, HaveEnded, RoseAt, RoseFrom}
+use Rattle.pipe_run.specs.Fed.{AllStand, AreCounted, AreWholePartitions, CountOn, HaveEnded, RoseAt, RoseFrom}
 use Rattle.pipe_run.specs.Setting.{counted_from}
 use Rattle.pipe_run.proofs.Carrying.{counted-at, faults-at}
 
@@ -65,3 +65,12 @@ rose-uncounted r before after p same count rose =
           (faults-at r.stores (map (λ c. c.store.faults) before) p long lt ∙ get_or-map (λ (c : PartitionSeen). c.store.faults) before p d 0 here)
           (rose.1 d),
     )
+
+-- and one that is no lower than the round began is no lower than that of the partitions taken over
+pub counted-on : (r : Run) (before after : List PartitionSeen) → length before ≡ length r.stores → length after ≡ length before
+    → AreCounted (counted_from r (map (λ c. c.store.faults) before)) after → CountOn before after
+counted-on r before after same count counted p d lt =
+    let long : length (map (λ c. c.store.faults) before) ≡ length r.stores = length-map before (λ (c : PartitionSeen). c.store.faults) ∙ same in
+    subst (λ n. n ≤ (slice_index_or after p d).store.faults)
+    (faults-at r.stores (map (λ c. c.store.faults) before) p long (omega (arith, lt, same)) ∙ get_or-map (λ (c : PartitionSeen). c.store.faults) before p d 0 lt)
+    (counted p d (omega (arith, lt, count)))

@@ -15,3 +15,6 @@ pub mod LimitFacts
 pub mod Openings
 pub mod Feeding
 pub mod FeedEnds
+pub mod Answering
+pub mod Endings
+pub mod RunEnds

@@ -1,5 +1,5 @@
 -- What limits that fit give.
-use Rattle.std.proofs.Common.{◌≡◌, ◌∙◌, ◌<◌, ◌^◌, ◌==◌, ◌&&◌, ℕ, Bool, true, false, List, ap, length, map, refl, sym}
+use Rattle.std.proofs.Common.{arith, ◌≡◌, ◌∙◌, ◌<◌, ◌^◌, ◌==◌, ◌&&◌, ℕ, Bool, true, false, List, ap, length, map, refl, sym}
 use Rattle.std.specs.Prelude.{nat_le, nat_lt}
 use Rattle.std.specs.List.{All, list_all, slice_index_or}
 use Rattle.std.proofs.lemmas.Bool.{eqb-true, false≢true, leb-true, ltb-true}
@@ -33,6 +33,9 @@ module _ (l : Limits) (actions : ℕ) (held : List ℕ) (fit : limits_fit l acti
     buffer = ltb-true 0 l.buffer_size parts.2;
   }
 
+  pub fit-few : l.partitions < 2 ^ 32
+  fit-few = omega (arith, leb-true l.partitions 4096 (both (nat_le 1 l.partitions) (nat_le l.partitions 4096) parts.1).1)
+
   pub fit-count : length held ≡ l.partitions
   fit-count = eqb-true (length held) l.partitions parts.4
 
@@ -42,3 +45,6 @@ module _ (l : Limits) (actions : ℕ) (held : List ℕ) (fit : limits_fit l acti
 -- whether limits fit is what was asked of the same lists under other names
 pub fit-as : {A : Type 0} (held : A → ℕ) (l : Limits) (b : Bool) (n actions : ℕ) (seen stores : List A) → b ≡ limits_fit l n (map held seen) → n ≡ actions → seen ≡ stores → limits_fit l actions (map held stores) ≡ b
 fit-as held l b n actions seen stores is same alike = sym (is ∙ ap (λ m. limits_fit l m (map held seen)) same ∙ ap (λ s. limits_fit l actions (map held s)) alike)
+
+pub fit-same : {A : Type 0} (held : A → ℕ) (l : Limits) (n actions : ℕ) (seen stores : List A) → n ≡ actions → seen ≡ stores → limits_fit l actions (map held stores) ≡ limits_fit l n (map held seen)
+fit-same held l n actions seen stores same alike = fit-as held l (limits_fit l n (map held seen)) n actions seen stores refl same alike

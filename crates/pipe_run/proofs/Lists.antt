@@ -1,7 +1,9 @@
 -- Lists that are built from what is taken of others, one by one.
-use Rattle.std.proofs.Common.{◌≡◌, ◌∙◌, ◌+◌, ◌<◌, ◌≤◌, ℕ, zero, suc, Bool, true, false, ◌&&◌, List, [], ◌∷◌, ◌++◌, length, map, refl, sym, ap, append_assoc, arith, subst, take, drop}
+use Rattle.std.proofs.Common.{◌≡◌, ◌∙◌, ◌+◌, ◌<◌, ◌≤◌, ℕ, zero, suc, Bool, true, false, ◌&&◌, List, [], ◌∷◌, ◌++◌, length, map, refl, sym, ap, append_assoc, arith, length-append, subst, take, drop}
 use Rattle.std.specs.List.{All, list_all, slice_index_or}
+use Rattle.std.proofs.lemmas.List.{append-nil, map-append}
 use Rattle.std.proofs.lemmas.List.Elements.{All-push}
+use Rattle.pipe_plan.specs.Rounds.{IsFront}
 
 -- what is left completes what was built, with one more
 pub built-more : {A B : Type 0} (f : A → B) (xs now : List B) (x : B) (a : A) (old new : List A) (all : List B)
@@ -12,6 +14,12 @@ built-more {B = B} f xs now x a old new all is more same so_far =
     ∙ ap (λ (y : B). xs ++ y ∷ map f new) same
     ∙ ap (λ l. xs ++ map f l) (sym is)
     ∙ so_far
+
+-- the same where both are seen as something else
+pub built-all : {A B C : Type 0} (g : B → C) (f : A → C) (xs now : List B) (x : B) (a : A) (old new : List A) (all : List C)
+    → old ≡ a ∷ new → now ≡ xs ++ x ∷ [] → g x ≡ f a → map g xs ++ map f old ≡ all → map g now ++ map f new ≡ all
+built-all {B = B} {C = C} g f xs now x a old new all is more same so_far =
+    built-more f (map g xs) (map g now) (g x) a old new all is (ap (λ (l : List B). map g l) more ∙ map-append g xs (x ∷ [])) same so_far
 
 -- and whether all have passed
 pub passed-more : {A : Type 0} (test : A → Bool) (b : Bool) (a : A) (old new : List A) (all : Bool)
@@ -42,3 +50,10 @@ take-past zero [] le = refl
 take-past zero (x ∷ xs) le = absurd (omega (arith, le))
 take-past (suc n) [] le = refl
 take-past (suc n) (x ∷ xs) le = ap (λ l. x ∷ l) (take-past n xs (omega (arith, le)))
+
+-- a front as long as the list is the list
+pub front-all : {A : Type 0} (xs ys : List A) → IsFront xs ys → length xs ≡ length ys → xs ≡ ys
+front-all {A = A} xs ys f same = by f.rest f.is where
+  by : (rest : List A) → ys ≡ xs ++ rest → xs ≡ ys
+  by [] is = sym (is ∙ append-nil xs)
+  by (x ∷ rest) is = absurd (omega (arith, same, ap (λ (l : List A). length l) is, length-append xs (x ∷ rest)))

@@ -1,9 +1,9 @@
 -- A run before its first chunk.
-use Rattle.std.proofs.Common.{◌≡◌, ◌∙◌, ◌^◌, ◌<◌, ℕ, zero, suc, Bool, true, false, List, [], ◌∷◌, length, refl, sym, ap, subst, arith, ◌||◌}
+use Rattle.std.proofs.Common.{◌≡◌, ◌∙◌, ◌^◌, ◌<◌, ◌≤◌, ℕ, zero, suc, Bool, true, false, List, [], ◌∷◌, length, map, refl, sym, ap, subst, arith, ◌||◌}
 use Rattle.std.specs.Prelude.{replicate}
 use Rattle.std.specs.List.{All, slice_index_or, sum}
 use Rattle.std.proofs.lemmas.Bool.{false≢true}
-use Rattle.std.proofs.lemmas.List.{get_or-replicate, length-replicate}
+use Rattle.std.proofs.lemmas.List.{get_or-map, get_or-replicate, length-map, length-replicate}
 use Rattle.std.proofs.lemmas.List.Elements.{All-nil}
 use Rattle.std.proofs.lemmas.List.Sums.{sum_by-cons}
 use Rattle.pipe_columns.specs.declared.data_chunk.DataChunk.{DataChunk}
@@ -13,6 +13,8 @@ use Rattle.pipe_aggs.specs.QueryTrees.{query_tree}
 use Rattle.pipe_groups.specs.Shape.{shape_of}
 use Rattle.pipe_model.specs.Groupable.{IsGroupable}
 use Rattle.pipe_model.specs.Output.{key_types}
+use Rattle.pipe_model.specs.Query.{QueryTree}
+use Rattle.pipe_model.specs.Rows.{AreChunksOf}
 use Rattle.pipe_plan.specs.declared.event.PartitionEvent.{PartitionEvent}
 use Rattle.pipe_plan.specs.Plan.{plan}
 use Rattle.pipe_plan.specs.Run.{AreLimits, is_generic, Run, StoreSeen}
@@ -20,10 +22,11 @@ use Rattle.pipe_plan.proofs.Fronts.{plan-open}
 use Rattle.pipe_spill.specs.SpillRow.{HasValues}
 use Rattle.pipe_global.specs.Closed.{all_events, all_faults, all_shares, AreClosed, AreFailed, has_failed}
 use Rattle.pipe_global.specs.Opening.{AreUnused}
-use Rattle.pipe_global.specs.Partition.{IsRunnable, PartitionSeen}
+use Rattle.pipe_global.specs.Partition.{IsRunnable, no_store, PartitionSeen}
 use Rattle.pipe_global.specs.Shares.{share_of, SharesSeen}
 use Rattle.pipe_workers.specs.declared.paused.PausedWorker.{PausedWorker}
-use Rattle.pipe_run.specs.Fed.{AreRested, AreWholePartitions, IsFedRun, IsUnused}
+use Rattle.pipe_run.specs.Fed.{AreCounted, AreRested, AreWholePartitions, IsFedRun, IsUnused}
+use Rattle.pipe_run.specs.Feeding.{NoneFell}
 use Rattle.pipe_run.specs.Rounds.{AreWholeShares}
 use Rattle.pipe_run.specs.Setting.{run_of, Setting}
 use Rattle.pipe_run.proofs.Ended.{all-partitions}
@@ -106,17 +109,31 @@ unused-rested x rests count all = record {
   each = λ w d lt. let one = all w d lt in record { table = one.table; turns = one.turns; picks = one.picks };
 }
 
+-- no chunk can be fed
+pub no-chunks : (q : QueryTree) → AreChunksOf q []
+no-chunks q = record {
+  columns = All-nil (λ (c : DataChunk). FitsSchema q.schema c.frame);
+  typed = All-nil (λ (c : DataChunk). HoldsTypes c.frame);
+  rows = omega arith;
+  number = omega arith;
+}
+
 -- what a run keeps before its first chunk
-pub begun-fed : (x : Setting) (closed : List PartitionSeen) (rests : List PausedWorker) → is_generic x.limits.sink ≡ true → AreLimits x.limits → IsGroupable (query_tree x.query) → length x.stores ≡ x.limits.partitions
+pub begun-fed : (x : Setting) (closed : List PartitionSeen) (rests : List PausedWorker) → is_generic x.limits.sink ≡ true → x.limits.partitions < 2 ^ 32 → AreLimits x.limits → IsGroupable (query_tree x.query) → length x.stores ≡ x.limits.partitions
     → All (λ (s : StoreSeen). s.held < 2 ^ 63) x.stores → AreWholePartitions (run_of x true []) closed → length rests ≡ x.limits.workers → All (IsUnused x.limits (shape_of (query_tree x.query))) rests → IsFedRun x [] closed rests 0
-begun-fed x closed rests generic limits groupable stores former whole count unused = record {
+begun-fed x closed rests generic few limits groupable stores former whole count unused = record {
   generic = generic;
-  chunks_are = record {
-    columns = All-nil (λ (c : DataChunk). FitsSchema x.query.schema c.frame);
-    typed = All-nil (λ (c : DataChunk). HoldsTypes c.frame);
-    rows = omega arith;
-    number = omega arith;
-  };
+  few = few;
+  chunks_are = no-chunks (query_tree x.query);
   fed = record { run = runnable-none x limits groupable stores former; partitions = whole; workers = unused-rested x rests count unused };
   rows_are = refl;
 }
+
+-- no count of faults is lower than the stores had
+pub none-fallen : (x : Setting) (closed : List PartitionSeen) → length closed ≡ length x.stores → AreCounted (run_of x true []) closed → NoneFell x.stores (map (λ c. c.store) closed)
+none-fallen x closed long counted = record { count = length-map closed (λ (c : PartitionSeen). c.store) ∙ long; each = by closed refl } where
+  by : (ps : List PartitionSeen) → closed ≡ ps → (p : ℕ) → p < length x.stores → (slice_index_or x.stores p no_store).faults ≤ (slice_index_or (map (λ c. c.store) closed) p no_store).faults
+  by [] e p lt = absurd (omega (arith, lt, long, ap (λ (l : List PartitionSeen). length l) e))
+  by (d ∷ ps) e p lt =
+      let here : p < length closed = omega (arith, lt, long) in
+      subst (λ (b : StoreSeen). (slice_index_or x.stores p no_store).faults ≤ b.faults) (sym (get_or-map (λ (c : PartitionSeen). c.store) closed p d no_store here)) (counted p d here)

@@ -1,6 +1,5 @@
--- What a run answers, which no clause says yet, and what it leaves of its stores, which those of runs in rounds say.
+-- What a run answers, and what it leaves of its stores.
 use Rattle.std.specs.Prelude.{◌≡◌, ◌+◌, ◌<◌, ℕ, true, List, All, length, map, slice_index_or}
-use Rattle.pipe_columns.specs.Frame.{FrameData}
 use Rattle.pipe_columns.specs.Row.{Row}
 use Rattle.pipe_model.specs.Answer.{answer}
 use Rattle.pipe_plan.specs.declared.event.PartitionEvent.{PartitionEvent}
@@ -10,12 +9,7 @@ use Rattle.pipe_plan.specs.Overflow.{overflow_count}
 use Rattle.pipe_plan.specs.Replay.{replay}
 use Rattle.pipe_plan.specs.Run.{Run, StoreSeen, tells}
 use Rattle.pipe_global.specs.Partition.{bytes_of, no_store, store_of, with_frames}
-
--- what a run gives: the frame, the journal of each partition, how many rows overflowed
-pub record OutputSeen : Type 0 where
-  pub frame : FrameData
-  pub journals : List (List PartitionEvent)
-  pub overflow : ℕ
+use Rattle.pipe_run.specs.declared.output.GroupByOutput.{GroupByOutput}
 
 -- a store has the frames that were there before the run, and then these
 pub record HasFrames (before : StoreSeen) (r : Run) (frames : List (List Row)) (s : StoreSeen)
@@ -32,10 +26,10 @@ pub record HaveReplayedFrames (r : Run) (journals : List (List PartitionEvent))
       → HasFrames (store_of r p) r (replay r p (journal_of journals p)).frames
       (slice_index_or stores p no_store)
 
--- what it means that a run was answered (no clause says it yet): the journals hold every worker's plan whole, and no event
--- of another; each store has its former frames, and then those of the replay; so many rows overflowed
--- as the definition says; and where all stores tell, the frame is the answer over the chunks
-pub record IsAnswered (r : Run) (out : OutputSeen) (stores : List StoreSeen) : Type 0 where
+-- what it means that a run was answered: the journals hold every worker's plan whole, and no event of
+-- another; each store has its former frames, and then those of the replay; as many rows overflowed as
+-- the definition says; and where all stores tell, the frame is the answer over the chunks
+pub record IsAnswered (r : Run) (out : GroupByOutput) (stores : List StoreSeen) : Type 0 where
   pub plans : AreWhole r out.journals
   pub count : length out.journals ≡ r.limits.partitions
   pub frames : HaveReplayedFrames r out.journals stores

@@ -1,14 +1,15 @@
 -- What a run that is fed in rounds keeps between its calls.
-use Rattle.std.specs.Prelude.{◌≡◌, ◌<◌, ℕ, false, true, List, [], length, slice_index_or}
+use Rattle.std.specs.Prelude.{◌≡◌, ◌<◌, ◌≤◌, ◌^◌, ℕ, false, true, List, [], length, slice_index_or}
 use Rattle.pipe_columns.specs.declared.data_chunk.DataChunk.{DataChunk}
 use Rattle.pipe_aggs.specs.QueryTrees.{query_tree}
 use Rattle.pipe_model.specs.Rows.{AreChunksOf, total_height}
 use Rattle.pipe_columns.specs.Causes.{Rose}
 use Rattle.pipe_groups.specs.Holds.{Holds}
 use Rattle.pipe_groups.specs.Shape.{Shape, shape_of}
+use Rattle.pipe_plan.specs.declared.event.PartitionEvent.{PartitionEvent}
 use Rattle.pipe_plan.specs.declared.limits.Limits.{Limits}
 use Rattle.pipe_plan.specs.Plan.{picks_before, plan, turns_before}
-use Rattle.pipe_plan.specs.Run.{is_generic, of_worker, Run}
+use Rattle.pipe_plan.specs.Run.{is_generic, of_worker, Run, StoreSeen}
 use Rattle.pipe_plan.specs.Whole.{kept_rows}
 use Rattle.pipe_tables.specs.After.{IsAfter}
 use Rattle.pipe_tables.specs.LocalTable.{NoneWaits}
@@ -16,11 +17,12 @@ use Rattle.pipe_global.specs.Partition.{IsReplayed, IsRunnable, PartitionSeen, s
 use Rattle.pipe_workers.specs.declared.paused.PausedWorker.{PausedWorker}
 use Rattle.pipe_run.specs.Setting.{run_of, Setting}
 
--- how a run was begun, the chunks that were fed, and each store's count of faults
+-- how a run was begun, the chunks that were fed, and each partition's journal and store
 pub record FedSeen : Type 0 where
   pub setting : Setting
   pub chunks : List DataChunk
-  pub faults : List ℕ
+  pub journals : List (List PartitionEvent)
+  pub stores : List StoreSeen
 
 -- a worker has taken all its chunks
 pub record IsRested (r : Run) (w : ℕ) (rest : PausedWorker) : Type 0 where
@@ -64,6 +66,7 @@ pub record IsFed (r : Run) (closed : List PartitionSeen) (rests : List PausedWor
 pub record IsFedRun (x : Setting) (chunks : List DataChunk) (closed : List PartitionSeen)
     (rests : List PausedWorker) (rows : ℕ) : Type 0 where
   pub generic : is_generic x.limits.sink ≡ true
+  pub few : x.limits.partitions < 2 ^ 32
   pub chunks_are : AreChunksOf (query_tree x.query) chunks
   pub fed : IsFed (run_of x true chunks) closed rests
   pub rows_are : rows ≡ total_height chunks
@@ -104,3 +107,17 @@ RoseAt r p closed = (p < r.limits.partitions) × ((d : PartitionSeen)
 abbrev pub RoseFrom : List PartitionSeen → ℕ → List PartitionSeen → Type 0
 RoseFrom before p closed = (p < length before) × ((d : PartitionSeen)
     → Rose (slice_index_or before p d).store.faults (slice_index_or closed p d).store.faults)
+
+-- ---- counts of faults
+
+-- no store's count of faults is lower than the run found it
+abbrev pub AreCounted : Run → List PartitionSeen → Type 0
+AreCounted r closed =
+    (p : ℕ) (d : PartitionSeen) → p < length closed
+    → (store_of r p).faults ≤ (slice_index_or closed p d).store.faults
+
+-- none is lower than it was before
+abbrev pub CountOn : List PartitionSeen → List PartitionSeen → Type 0
+CountOn before closed =
+    (p : ℕ) (d : PartitionSeen) → p < length before
+    → (slice_index_or before p d).store.faults ≤ (slice_index_or closed p d).store.faults

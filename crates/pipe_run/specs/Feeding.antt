@@ -1,5 +1,5 @@
 -- Why a feed was refused, and what it leaves of the stores.
-use Rattle.std.specs.Prelude.{◌<◌, List, ◌++◌, length, slice_index_or, ⊤}
+use Rattle.std.specs.Prelude.{◌≡◌, ◌<◌, ◌≤◌, ℕ, List, ◌++◌, length, slice_index_or, ⊤}
 use Rattle.pipe_columns.specs.declared.data_chunk.DataChunk.{DataChunk}
 use Rattle.pipe_columns.specs.Causes.{Rose}
 use Rattle.pipe_plan.specs.Run.{StoreSeen}
@@ -22,7 +22,7 @@ IsFeedCause s chunks stores error.TooLarge =
     AllFit s.setting.query.schema (all_chunks s chunks) × AreMany (all_chunks s chunks)
 IsFeedCause s chunks stores (error.Store p) =
     CanFeed s.setting.query.schema (all_chunks s chunks) × (p < length stores)
-    × Rose (slice_index_or s.faults p 0) (slice_index_or stores p no_store).faults
+    × Rose (slice_index_or s.stores p no_store).faults (slice_index_or stores p no_store).faults
 IsFeedCause s chunks stores error.Memory = ⊤
 IsFeedCause s chunks stores error.Limits = ⊥
 IsFeedCause s chunks stores (error.Query f) = ⊥
@@ -50,3 +50,9 @@ IsBadChunks error.Limits = ⊥
 IsBadChunks (error.Query f) = ⊥
 IsBadChunks error.Sink = ⊥
 IsBadChunks (error.Damaged p n) = ⊥
+
+-- there are as many stores, and none's count of faults fell
+pub record NoneFell (before after : List StoreSeen) : Type 0 where
+  pub count : length after ≡ length before
+  pub each : (p : ℕ) → p < length before
+      → (slice_index_or before p no_store).faults ≤ (slice_index_or after p no_store).faults

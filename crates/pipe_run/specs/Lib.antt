@@ -7,3 +7,5 @@ pub mod Ending
 pub mod Feeding
 pub mod Rounds
 pub mod Stops
+pub mod Finish
+pub mod WholeRun

@@ -1,9 +1,10 @@
 -- Why a run is refused before any worker starts.
-use Rattle.std.specs.Prelude.{◌≡◌, ◌<◌, ◌≤◌, ◌^◌, ◌==◌, ◌&&◌, ℕ, Bool, true, false, nat_le, nat_lt, List, All, length, take, slice_get, Some, ◌⊎◌}
+use Rattle.std.specs.Prelude.{◌≡◌, ◌<◌, ◌≤◌, ◌^◌, ◌==◌, ◌&&◌, ℕ, Bool, true, false, nat_le, nat_lt, List, All, length, take, slice_get, Option, Some, ◌⊎◌}
 use Rattle.std.specs.List.{list_all}
 use Rattle.pipe_columns.specs.declared.data_chunk.DataChunk.{DataChunk}
 use Rattle.pipe_columns.specs.declared.schema.Field.{Field}
 use Rattle.pipe_columns.specs.Frame.{FitsSchema}
+use Rattle.pipe_aggs.specs.declared.query_fault.QueryFault.{QueryFault}
 use Rattle.pipe_model.specs.Rows.{total_height}
 use Rattle.pipe_plan.specs.declared.limits.Limits.{Limits}
 use Rattle.pipe_run.specs.declared.error.PipeError.{PipeError}
@@ -40,16 +41,17 @@ AreFew chunks = (total_height chunks < 2 ^ 32) × (length chunks < 2 ^ 32)
 abbrev pub AreMany : List DataChunk → Type 0
 AreMany chunks = (2 ^ 32 ≤ total_height chunks) ⊎ (2 ^ 32 ≤ length chunks)
 
--- why a run is not begun: its limits don't fit, or they do and memory ran out
-abbrev pub IsBeginCause : Bool → PipeError → Type 0
-IsBeginCause fit error.Limits = fit ≡ false
-IsBeginCause fit error.Memory = fit ≡ true
-IsBeginCause fit (error.Query f) = ⊥
-IsBeginCause fit error.Sink = ⊥
-IsBeginCause fit (error.Schema i) = ⊥
-IsBeginCause fit error.TooLarge = ⊥
-IsBeginCause fit (error.Store p) = ⊥
-IsBeginCause fit (error.Damaged p n) = ⊥
+-- why a run is not begun: its limits don't fit, or they do, and the query has a fault or memory ran
+-- out
+abbrev pub IsBeginCause : Bool → Option QueryFault → PipeError → Type 0
+IsBeginCause fit fault error.Limits = fit ≡ false
+IsBeginCause fit fault (error.Query f) = (fit ≡ true) × (fault ≡ Some f)
+IsBeginCause fit fault error.Memory = fit ≡ true
+IsBeginCause fit fault error.Sink = ⊥
+IsBeginCause fit fault (error.Schema i) = ⊥
+IsBeginCause fit fault error.TooLarge = ⊥
+IsBeginCause fit fault (error.Store p) = ⊥
+IsBeginCause fit fault (error.Damaged p n) = ⊥
 
 -- chunks can be fed: all fit, and they are few
 pub record CanFeed (fields : List Field) (chunks : List DataChunk) : Type 0 where

@@ -1,11 +1,18 @@
 //! Whether chunks can be fed.
 
-ghost use Rattle.std.specs.Prelude.{◌≡◌, ◌+◌, ◌<◌, ◌≤◌, ◌^◌, All, IfNone, IfSome};
+ghost use Rattle.std.specs.Prelude.{◌≡◌, ◌+◌, ◌<◌, ◌≤◌, ◌^◌, ◌++◌, ℕ, All, IfErr, IfNone, IfOk, IfSome, OnOk, map};
+ghost use Rattle.pipe_aggs.specs.CheckedQuery.{IsSound};
+ghost use Rattle.pipe_aggs.specs.QueryTrees.{query_tree};
 ghost use Rattle.pipe_columns.specs.Frame.{HoldsTypes};
-ghost use Rattle.pipe_model.specs.Rows.{total_height};
-ghost use Rattle.pipe_run.specs.Refusals.{AllFit, IsFirstMisfit};
+ghost use Rattle.pipe_model.specs.Rows.{AreChunksOf, total_height};
+ghost use Rattle.pipe_run.specs.Feeding.{IsBadChunks};
+ghost use Rattle.pipe_run.specs.Refusals.{AllFit, AreMany, IsFirstMisfit};
+ghost use Rattle.pipe_run.specs.declared.error.PipeError.TheVariants as error;
 
+use crate::error::PipeError;
+use pipe_aggs::CheckedQuery;
 use pipe_columns::{DataChunk, Schema};
+use std::snapshot::Snapshot;
 
 /// The position of the first of some chunks that has other columns than a schema.
 pub(crate) fn first_misfit(chunks: &[DataChunk], schema: &Schema) -> Option<usize>
@@ -37,4 +44,39 @@ pub(crate) fn rows_with(rows: u64, chunks: &[DataChunk]) -> Option<u64>
         all += height;
     }
     Some(all)
+}
+
+/// Whether chunks can be fed behind those taken, and then how many rows there are in all.
+pub(crate) fn checked_rows(
+    query: &CheckedQuery<'_>,
+    taken: &[Snapshot<DataChunk>],
+    rows: u64,
+    chunks: &[DataChunk],
+) -> Result<u64, PipeError>
+    requires taken { AreChunksOf (query_tree query.now) (map (λ c. c.value) taken.now) }
+    requires rows { rows ≡ total_height (map (λ c. c.value) taken.now) }
+    ensures rows { IfOk result
+        (λ n. n ≡ total_height (map (λ c. c.value) taken.now ++ chunks.now)) }
+    ensures chunks { OnOk result (AreChunksOf (query_tree query.now)
+        (map (λ c. c.value) taken.now ++ chunks.now)) }
+    ensures misfit { IfErr result (λ e. (i : ℕ) → e ≡ error.Schema i
+        → IsFirstMisfit query.now.schema (map (λ c. c.value) taken.now ++ chunks.now) i) }
+    ensures large { IfErr result (λ e. e ≡ error.TooLarge
+        → AllFit query.now.schema (map (λ c. c.value) taken.now ++ chunks.now)
+        × AreMany (map (λ c. c.value) taken.now ++ chunks.now)) }
+    ensures kinds { IfErr result (λ e. IsBadChunks e) }
+    ensures sound { OnOk result (IsSound query.now) }
+{
+    let query = query.query();
+    if let Some(position) = first_misfit(chunks, &query.schema) {
+        let chunk = taken.len() + position;
+        return Err(PipeError::Schema { chunk });
+    }
+    let Some(all) = rows_with(rows, chunks) else {
+        return Err(PipeError::TooLarge);
+    };
+    if chunks.len() >= (1 << 32) - taken.len() {
+        return Err(PipeError::TooLarge);
+    }
+    Ok(all)
 }

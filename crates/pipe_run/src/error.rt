@@ -1,6 +1,10 @@
 //! Why a run was refused.
 
+ghost use Rattle.std.specs.Prelude.{◌≡◌};
+ghost use Rattle.pipe_run.specs.Stops.{error_of_groups};
+
 use pipe_aggs::QueryFault;
+use pipe_global::BatchError;
 
 /// Why a run was refused.
 #[derive(Debug, Drop, PartialEq, Eq)]
@@ -22,4 +26,17 @@ pub enum PipeError {
     Damaged { partition: usize, number: u64 },
     /// Memory ran out.
     Memory,
+}
+
+impl PipeError {
+    /// The error of a run whose partitions give no groups.
+    pub(crate) fn of_groups(error: BatchError) -> PipeError
+        ensures { result ≡ error_of_groups error }
+    {
+        match error {
+            BatchError::Store { partition } => PipeError::Store { partition },
+            BatchError::Damaged { partition, number } => PipeError::Damaged { partition, number },
+            BatchError::Memory => PipeError::Memory,
+        }
+    }
 }

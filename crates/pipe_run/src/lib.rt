@@ -2,22 +2,27 @@
 #![tactic(auto)]
 
 mod answer;
+mod begin;
 mod begun;
 mod chunk_check;
 mod error;
 mod failed;
+mod finish;
 mod group_source;
 mod laws;
 mod limits;
 mod opening;
+mod output;
+mod parts;
 mod round;
 mod round_of;
 mod run;
-#[cfg(test)]
-mod run_tests;
 mod stores;
+mod whole_run;
 
 pub use error::PipeError;
 pub use group_source::GroupBySource;
 pub use laws::what_a_group_source_gives;
+pub use output::GroupByOutput;
 pub use run::GenericRun;
+pub use whole_run::run_generic;

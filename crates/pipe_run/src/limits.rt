@@ -41,3 +41,17 @@ pub(crate) fn limits_fit<S: SpillStore + Drop>(
         && stores.len() == limits.partitions
         && have_numbers(stores)
 }
+
+/// Limits that are as others.
+pub(crate) fn copy_of(limits: &Limits) -> Limits
+    ensures { result ≡ limits.now }
+{
+    Limits {
+        sink: limits.sink,
+        workers: limits.workers,
+        partitions: limits.partitions,
+        spill_size: limits.spill_size,
+        buffer_size: limits.buffer_size,
+        payload_limit: limits.payload_limit,
+    }
+}

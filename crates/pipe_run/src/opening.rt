@@ -1,11 +1,10 @@
 //! What a run holds before its first chunk.
 
 ghost use Rattle.std.specs.Prelude.{◌≡◌, ◌<◌, ◌^◌, [], All, IfErr, IfOk, map, true, vec_len};
-ghost use Rattle.pipe_model.specs.Groupable.{IsGroupable};
 ghost use Rattle.pipe_aggs.specs.QueryTrees.{query_tree};
 ghost use Rattle.pipe_groups.specs.Shape.{shape_of};
 ghost use Rattle.pipe_plan.specs.Run.{AreLimits, is_generic};
-ghost use Rattle.pipe_run.specs.Fed.{AreRested, AreWholePartitions, IsUnused};
+ghost use Rattle.pipe_run.specs.Fed.{AreCounted, AreWholePartitions, IsUnused};
 ghost use Rattle.pipe_run.specs.Setting.{run_of};
 
 use crate::begun::Begun;
@@ -110,6 +109,7 @@ fn opened_named<S: SpillStore + Drop, R: Naming, H: Wait>(
     }) stores.items }
     requires former { All (λ s. s.held < 2 ^ 63) begun.now.stores }
     ensures whole { IfOk result (λ v. AreWholePartitions R.run v.items) }
+    ensures counted { IfOk result (λ v. AreCounted R.run v.items) }
     ensures back { IfErr result (λ e. e.1.items ≡ stores.items) }
 {
     let _schema = begun.query.output_schema();
@@ -139,6 +139,7 @@ pub(crate) fn opened<S: SpillStore + Drop, H: Wait>(
     }) stores.items }
     requires former { All (λ s. s.held < 2 ^ 63) begun.now.stores }
     ensures whole { IfOk result (λ v. AreWholePartitions (run_of begun.now true []) v.items) }
+    ensures counted { IfOk result (λ v. AreCounted (run_of begun.now true []) v.items) }
     ensures back { IfErr result (λ e. e.1.items ≡ stores.items) }
 {
     let blanks = Blanks {

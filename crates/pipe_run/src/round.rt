@@ -6,7 +6,7 @@ ghost use Rattle.pipe_aggs.specs.QueryTrees.{query_tree};
 ghost use Rattle.pipe_workers.specs.Rounds.{IsRoundOf};
 ghost use Rattle.pipe_workers.specs.Workers.{TakesTurns};
 ghost use Rattle.pipe_run.specs.Stops.{error_of};
-ghost use Rattle.pipe_run.specs.Fed.{AllStand, AreWholePartitions, HaveEnded, RoseAt};
+ghost use Rattle.pipe_run.specs.Fed.{AllStand, AreCounted, AreWholePartitions, HaveEnded, RoseAt};
 ghost use Rattle.pipe_run.specs.Rounds.{AreWholeShares, has_gone_on, jobs_of, rest_of, shares_of, StandReady};
 ghost use Rattle.pipe_run.specs.declared.round.RoundStop.TheVariants as stop;
 
@@ -227,6 +227,7 @@ pub(crate) fn drive<
     ensures back { IfErr result (λ e. AllStand R.run e.1.items) }
     ensures store { IfErr result (λ e. (p : ℕ) → e.0 ≡ stop.Store p → RoseAt R.run p e.1.items) }
     ensures whole { IfOk result (λ e. AreWholePartitions R.run e.closed.items) }
+    ensures counted { IfOk result (λ e. AreCounted R.run e.closed.items) }
     ensures ended { IfOk result (λ e. HaveEnded R.run e.rested.items) }
 {
     let worked = work_all(

@@ -4,7 +4,7 @@ ghost use Rattle.std.specs.Prelude.{◌≡◌, ◌++◌, ℕ, IfErr, IfOk, map, 
 ghost use Rattle.pipe_aggs.specs.QueryTrees.{query_tree};
 ghost use Rattle.pipe_model.specs.Rows.{AreChunksOf};
 ghost use Rattle.pipe_plan.specs.Run.{is_generic};
-ghost use Rattle.pipe_run.specs.Fed.{AllStand, AreWholePartitions, HaveEnded, IsFed, RoseAt, RoseFrom};
+ghost use Rattle.pipe_run.specs.Fed.{AllStand, AreCounted, AreWholePartitions, CountOn, HaveEnded, IsFed, RoseAt, RoseFrom};
 ghost use Rattle.pipe_run.specs.Setting.{counted_from, run_of};
 ghost use Rattle.pipe_run.specs.declared.round.RoundStop.TheVariants as stop;
 
@@ -58,6 +58,7 @@ fn round_named<
     ensures back { IfErr result (λ e. AllStand R.run e.1.items) }
     ensures store { IfErr result (λ e. (p : ℕ) → e.0 ≡ stop.Store p → RoseAt R.run p e.1.items) }
     ensures whole { IfOk result (λ e. AreWholePartitions R.run e.closed.items) }
+    ensures counted { IfOk result (λ e. AreCounted R.run e.closed.items) }
     ensures ended { IfOk result (λ e. HaveEnded R.run e.rested.items) }
 {
     let _query = begun.query.query();
@@ -111,6 +112,7 @@ pub(crate) fn round<S: SpillStore + Drop + Send, G: Gate + Sync, H: Threads + Wa
         → RoseFrom closed.items p e.1.items) }
     ensures whole { IfOk result (λ e. AreWholePartitions
         (run_of begun.now is_open (map (λ s. s.value) taken.now ++ chunks.now)) e.closed.items) }
+    ensures counted { IfOk result (λ e. CountOn closed.items e.closed.items) }
     ensures ended { IfOk result (λ e. HaveEnded
         (run_of begun.now is_open (map (λ s. s.value) taken.now ++ chunks.now)) e.rested.items) }
 {

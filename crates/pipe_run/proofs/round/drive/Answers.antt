@@ -38,3 +38,6 @@ pub returns-clause-ended : goal.returns-clause-ended
 returns-clause-ended g c =
     let all : c.in-Ok.gathered.all ≡ true = search (rules, c.if-not-all.false) in
     c.in-Ok.ensures.ended all
+
+pub returns-clause-counted : goal.returns-clause-counted
+returns-clause-counted g c = λ p d lt. (c.into_partitions-closed.ensures.closed p d lt).count

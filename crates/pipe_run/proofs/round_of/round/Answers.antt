@@ -1,6 +1,6 @@
 use Rattle.std.proofs.Common.{◌∙◌, ◌++◌, map, sym}
 use Rattle.pipe_run.specs.Setting.{run_of}
-use Rattle.pipe_run.proofs.Leaving.{ended-uncounted, rose-uncounted, stand-uncounted, whole-uncounted}
+use Rattle.pipe_run.proofs.Leaving.{counted-on, ended-uncounted, rose-uncounted, stand-uncounted, whole-uncounted}
 use Rattle.pipe_run.proofs.Taking.{faults_of, same}
 use Rattle.pipe_run.proofs.round_of.round.Goals as goal
 
@@ -19,3 +19,8 @@ returns-in-Err-clause-back g c =
 pub returns-in-Err-clause-store : goal.returns-in-Err-clause-store
 returns-in-Err-clause-store g c =
     λ p is. rose-uncounted (run_of c.args.begun.now c.args.is_open (map (λ s. s.value) c.args.taken.now ++ c.args.chunks.now)) c.args.closed.items c.in-Err.refusal.1.items p (c.requires.fed.partitions.count ∙ sym c.requires.fed.run.stores) c.requires.fed.run.stores (c.in-Err.ensures.store p is)
+
+pub returns-in-Ok-clause-counted : goal.returns-in-Ok-clause-counted
+returns-in-Ok-clause-counted g c =
+    let r = run_of c.args.begun.now c.args.is_open (map (λ s. s.value) c.args.taken.now ++ c.args.chunks.now) in
+    counted-on r c.args.closed.items c.in-Ok.ended.closed.items (c.requires.fed.partitions.count ∙ sym c.requires.fed.run.stores) (c.in-Ok.ensures.whole.count ∙ sym c.requires.fed.partitions.count) c.in-Ok.ensures.counted

@@ -1,0 +1,167 @@
+//! A run before its first chunk.
+
+ghost use Rattle.std.specs.Prelude.{◌≡◌, ◌<◌, ◌≤◌, ◌^◌, [], All, IfErr, IfOk, None, OnOk, map, true, vec_capacity, vec_len};
+ghost use Rattle.pipe_aggs.specs.Faults.{first_fault};
+ghost use Rattle.pipe_plan.specs.Run.{AreLimits, is_generic};
+ghost use Rattle.pipe_run.specs.Feeding.{NoneFell};
+ghost use Rattle.pipe_run.specs.Refusals.{IsBeginCause, limits_fit};
+
+use crate::begun::Begun;
+use crate::error::PipeError;
+use crate::limits::{copy_of, limits_fit};
+use crate::opening::{marks_of, opened, unused_workers};
+use crate::run::GenericRun;
+use pipe_aggs::{CheckError, CheckedQuery, Query};
+use pipe_plan::{Limits, SpillAction};
+use pipe_spill::SpillStore;
+use std::alloc::{AllocError, Global};
+use std::sync::Wait;
+
+/// The query of a run without fault, where its limits fit.
+pub(crate) fn checked_query<'a, S: SpillStore + Drop>(
+    alloc: Global,
+    query: &'a Query,
+    limits: &Limits,
+    actions: usize,
+    stores: &[S],
+) -> Result<CheckedQuery<'a>, PipeError>
+    ensures query { IfOk result (λ q. q ≡ query.now) }
+    ensures fit { OnOk result
+        (limits_fit limits.now actions (map (λ s. S.held s) stores.now) ≡ true) }
+    ensures faultless { OnOk result (first_fault query.now ≡ None) }
+    ensures cause { IfErr result (λ e. IsBeginCause
+        (limits_fit limits.now actions (map (λ s. S.held s) stores.now))
+        (first_fault query.now) e) }
+{
+    if !limits_fit(limits, actions, stores) {
+        return Err(PipeError::Limits);
+    }
+    match query.check(alloc) {
+        Ok(checked) => Ok(checked),
+        Err(CheckError::Fault(fault)) => Err(PipeError::Query(fault)),
+        Err(CheckError::Memory) => Err(PipeError::Memory),
+    }
+}
+
+impl<'a, S: SpillStore + Drop + Send> GenericRun<'a, S> {
+    /// A run before its first chunk, one partition for each store. It is refused with `Limits` where the
+    /// limits don't fit, with `Query` where the query has a fault, or with `Memory`; the stores come
+    /// back as they were.
+    pub fn begin<H: Wait>(
+        rt: &H,
+        alloc: Global,
+        query: &'a Query,
+        limits: &Limits,
+        actions: Vec<Vec<SpillAction>>,
+        stores: Vec<S>,
+    ) -> Result<GenericRun<'a, S>, (PipeError, Vec<S>)>
+        requires generic { is_generic limits.now.sink ≡ true }
+        ensures fit { OnOk result
+            (limits_fit limits.now (vec_len actions) (map (λ s. S.held s) stores.items) ≡ true) }
+        ensures faultless { OnOk result (first_fault query.now ≡ None) }
+        ensures setting { IfOk result (λ r. r.setting ≡ record {
+          query = query.now;
+          limits = limits.now;
+          actions = map (λ v. v.items) actions.items;
+          stores = map (λ s. record {
+            held = S.held s;
+            told = S.told s;
+            faults = S.faults s;
+            sure = S.sure s;
+          }) stores.items;
+        }) }
+        ensures chunks { IfOk result (λ r. r.chunks ≡ []) }
+        ensures counted { IfOk result (λ r. NoneFell (map (λ s. record {
+          held = S.held s;
+          told = S.told s;
+          faults = S.faults s;
+          sure = S.sure s;
+        }) stores.items) r.stores) }
+        ensures cause { IfErr result (λ e. IsBeginCause
+            (limits_fit limits.now (vec_len actions) (map (λ s. S.held s) stores.items))
+            (first_fault query.now) e.0) }
+        ensures back { IfErr result (λ e. e.1.items ≡ stores.items) }
+    {
+        let checked = match checked_query(alloc, query, limits, actions.len(), &stores) {
+            Ok(checked) => checked,
+            Err(error) => return Err((error, stores)),
+        };
+        match GenericRun::before_chunks(rt, alloc, checked, limits, actions, stores) {
+            Ok(run) => Ok(run),
+            Err((AllocError, stores)) => Err((PipeError::Memory, stores)),
+        }
+    }
+
+    /// A run before its first chunk, whose limits fit.
+    pub(crate) fn before_chunks<H: Wait>(
+        rt: &H,
+        alloc: Global,
+        query: CheckedQuery<'a>,
+        limits: &Limits,
+        actions: Vec<Vec<SpillAction>>,
+        stores: Vec<S>,
+    ) -> Result<GenericRun<'a, S>, (AllocError, Vec<S>)>
+        requires limits { AreLimits limits.now }
+        requires generic { is_generic limits.now.sink ≡ true }
+        requires few { limits.now.partitions < 2 ^ 32 }
+        requires count { vec_len stores ≡ limits.now.partitions }
+        requires former { All (λ s. S.held s < 2 ^ 63) stores.items }
+        ensures setting { IfOk result (λ r. r.setting ≡ record {
+          query = query.entry;
+          limits = limits.now;
+          actions = map (λ v. v.items) actions.items;
+          stores = map (λ s. record {
+            held = S.held s;
+            told = S.told s;
+            faults = S.faults s;
+            sure = S.sure s;
+          }) stores.items;
+        }) }
+        ensures chunks { IfOk result (λ r. r.chunks ≡ []) }
+        ensures counted { IfOk result (λ r. NoneFell (map (λ s. record {
+          held = S.held s;
+          told = S.told s;
+          faults = S.faults s;
+          sure = S.sure s;
+        }) stores.items) r.stores) }
+        ensures back { IfErr result (λ e. e.1.items ≡ stores.items) }
+    {
+        let _query = query.query();
+        let Ok(former) = marks_of(alloc, &stores) else {
+            return Err((AllocError, stores));
+        };
+        let Ok(room) = room_for(alloc, stores.len()) else {
+            return Err((AllocError, stores));
+        };
+        let Ok(rested) = unused_workers(alloc, &query, limits) else {
+            return Err((AllocError, stores));
+        };
+        let begun = Begun {
+            query,
+            limits: copy_of(limits),
+            actions,
+            former,
+        };
+        match opened(rt, alloc, &begun, stores) {
+            Ok(closed) => Ok(GenericRun {
+                begun,
+                closed,
+                rested,
+                chunks: Vec::new(alloc),
+                rows: 0,
+                room,
+            }),
+            Err(refusal) => Err(refusal),
+        }
+    }
+}
+
+/// Room for so many stores.
+fn room_for<S: SpillStore + Drop>(alloc: Global, count: usize) -> Result<Vec<S>, AllocError>
+    ensures none { IfOk result (λ v. vec_len v ≡ 0) }
+    ensures room { IfOk result (λ v. count ≤ vec_capacity v) }
+{
+    let mut room = Vec::new(alloc);
+    room.reserve(count)?;
+    Ok(room)
+}

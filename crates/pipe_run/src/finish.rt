@@ -1,0 +1,104 @@
+//! The end of a run that was fed.
+
+ghost use Rattle.std.specs.Prelude.{◌≡◌, ◌≤◌, IfErr, IfOk, false, map, vec_capacity, vec_len};
+ghost use Rattle.pipe_run.specs.Answered.{HaveWholeFrames, IsAnswered};
+ghost use Rattle.pipe_run.specs.Finish.{IsFinishCause};
+ghost use Rattle.pipe_run.specs.Setting.{run_of};
+
+use crate::answer::answer_of_run;
+use crate::error::PipeError;
+use crate::output::GroupByOutput;
+use crate::parts::{Parts, parts_of};
+use crate::round::Ended;
+use crate::round_of::round;
+use crate::run::GenericRun;
+use crate::stores::stores_of;
+use pipe_global::{Gate, Journal, Journals};
+use pipe_spill::SpillStore;
+use std::alloc::{AllocError, Global};
+use std::sync::Wait;
+use std::thread::Threads;
+
+/// Room for so many journals.
+fn journal_room(alloc: Global, count: usize) -> Result<Vec<Journal>, AllocError>
+    ensures none { IfOk result (λ v. vec_len v ≡ 0) }
+    ensures room { IfOk result (λ v. count ≤ vec_capacity v) }
+{
+    let mut room = Vec::new(alloc);
+    room.reserve(count)?;
+    Ok(room)
+}
+
+impl<'a, S: SpillStore + Drop + Send> GenericRun<'a, S> {
+    /// Ends the run: the workers close, and the partitions and what the workers kept give the groups.
+    /// The stores come back in order.
+    pub fn finish<G: Gate + Sync, H: Threads + Wait + Sync>(
+        self,
+        rt: &H,
+        alloc: Global,
+        gate: &G,
+    ) -> (Result<GroupByOutput, PipeError>, Vec<S>)
+        ensures answered { IfOk result.0 (λ out. IsAnswered
+            (run_of self.entry.setting false self.entry.chunks) out (map (λ s. record {
+              held = S.held s;
+              told = S.told s;
+              faults = S.faults s;
+              sure = S.sure s;
+            }) result.1.items)) }
+        ensures cause { IfErr result.0 (λ e. IsFinishCause self.entry (map (λ s. record {
+          held = S.held s;
+          told = S.told s;
+          faults = S.faults s;
+          sure = S.sure s;
+        }) result.1.items) e) }
+        ensures back { IfErr result.0 (λ _. HaveWholeFrames
+            (run_of self.entry.setting false self.entry.chunks) (map (λ s. record {
+              held = S.held s;
+              told = S.told s;
+              faults = S.faults s;
+              sure = S.sure s;
+            }) result.1.items)) }
+    {
+        let GenericRun {
+            begun,
+            closed,
+            rested,
+            chunks,
+            rows: _,
+            room,
+        } = self;
+        let Ok(journals) = journal_room(alloc, closed.len()) else {
+            return (Err(PipeError::Memory), stores_of(closed, room));
+        };
+        let Ended { closed, rested } = match round(
+            rt,
+            alloc,
+            gate,
+            &begun,
+            false,
+            &chunks,
+            &[],
+            closed,
+            rested,
+        ) {
+            Ok(ended) => ended,
+            Err((stop, closed)) => return (Err(stop.error()), stores_of(closed, room)),
+        };
+        let (groups, closed) = answer_of_run(alloc, &begun, &chunks, closed, rested);
+        let frame = match groups {
+            Ok(frame) => frame,
+            Err(error) => return (Err(PipeError::of_groups(error)), stores_of(closed, room)),
+        };
+        let Parts {
+            journals,
+            stores,
+            arrived,
+        } = parts_of(closed, journals, room);
+        let output = GroupByOutput {
+            frame,
+            journals: Journals::new(journals),
+            overflow: arrived,
+        };
+        (Ok(output), stores)
+    }
+}
