@@ -29,4 +29,6 @@ pub use sole_key::{
 };
 
 #[cfg(test)]
+mod sink_tests;
+#[cfg(test)]
 mod slice_tests;
