@@ -10,3 +10,4 @@ pub mod RowEnds
 pub mod Answering
 pub mod Sinking
 pub mod Runs
+pub mod TestedTurns

@@ -1,11 +1,10 @@
 -- A run over chunks that its query may be asked of.
-use Rattle.std.proofs.Common.{◌≡◌, ◌∙◌, ◌+◌, ◌≤◌, ◌<◌, ◌^◌, ℕ, true, List, [], ◌∷◌, ◌++◌, length, sym, ap, subst, arith, length-append, refl}
-use Rattle.std.specs.List.{All, sum_by}
+use Rattle.std.proofs.Common.{◌≡◌, ◌+◌, ◌<◌, ◌^◌, ℕ, true, List, [], ◌∷◌, length, sym, subst, arith, length-append, refl}
+use Rattle.std.specs.List.{All}
 use Rattle.std.proofs.lemmas.List.Elements.{All-append, All-nil}
 use Rattle.std.proofs.lemmas.List.FromFn.{length-map-range_with_len}
 use Rattle.std.proofs.lemmas.List.Sums.{sum_by-cons}
 use Rattle.pipe_columns.specs.declared.data_chunk.DataChunk.{DataChunk}
-use Rattle.pipe_columns.specs.Row.{Row}
 use Rattle.pipe_aggs.specs.CheckedQuery.{input_types, IsSound}
 use Rattle.pipe_aggs.specs.QueryTrees.{query_tree}
 use Rattle.pipe_aggs.specs.declared.query.Query.{Query}
@@ -18,7 +17,6 @@ use Rattle.pipe_model.specs.Rows.{AreChunksOf, chunk_rows, row_of, rows_from, to
 use Rattle.pipe_plan.specs.Run.{AreLimits, is_generic, Run}
 use Rattle.pipe_spill.specs.SpillRow.{HasValues}
 use Rattle.pipe_tables.proofs.ChunkValues.{chunk-values}
-use Rattle.pipe_global.specs.Partition.{IsRunnable}
 use Rattle.pipe_global.proofs.Covering.{all-left, all-right}
 use Rattle.pipe_workers.specs.Workers.{TakesTurns}
 

@@ -2,3 +2,4 @@ pub mod Workers
 pub mod Turns
 pub mod Steps
 pub mod Rounds
+pub mod TestedRuns
