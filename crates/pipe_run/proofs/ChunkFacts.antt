@@ -1,38 +1,43 @@
 -- The chunk that a group source gives of a partition.
-use Rattle.std.proofs.Common.{◌≡◌, ◌∙◌, ◌+◌, ◌<◌, ◌==◌, ℕ, List, ◌++◌, length, map, sym, ap, subst, Option}
-use Rattle.std.specs.List.{All, IsDistinct, slice_index_or}
+use Rattle.std.proofs.Common.{◌≡◌, ◌∙◌, ◌+◌, ◌<◌, ◌==◌, ℕ, suc, List, [], ◌∷◌, ◌++◌, length, map, refl, sym, ap, subst, Option, Some}
+use Rattle.std.specs.List.{All, AllZip, IsDistinct, slice_index_or}
 use Rattle.std.specs.Str.{bytes_eq}
 use Rattle.std.proofs.lemmas.List.{length-map}
 use Rattle.std.proofs.lemmas.Simd.{map-map}
 use Rattle.std.proofs.lemmas.List.Elements.{All-filter, All-map, All-weaker}
-use Rattle.pipe_columns.specs.Frame.{FrameData}
+use Rattle.pipe_columns.specs.declared.place.Place.{Place}
+use Rattle.pipe_columns.specs.Frame.{fields_of, FitsSchema, FrameData}
 use Rattle.pipe_columns.specs.Groups.{sorted_keys}
 use Rattle.pipe_columns.specs.Key.{code, partition}
 use Rattle.pipe_columns.specs.Row.{Row}
+use Rattle.pipe_columns.specs.Slice.{sliced}
 use Rattle.pipe_aggs.specs.HashAggs.{prototypes}
 use Rattle.pipe_aggs.specs.QueryTrees.{query_tree}
 use Rattle.pipe_inputs.specs.RowTypes.{IsRowOf}
 use Rattle.pipe_model.specs.Answer.{tuple_cmp}
-use Rattle.pipe_model.specs.Output.{key_types}
+use Rattle.pipe_model.specs.Output.{key_types, output_schema}
 use Rattle.pipe_model.specs.Partitions.{groups_in, rows_in}
 use Rattle.pipe_model.specs.Query.{QueryTree}
 use Rattle.pipe_model.specs.Rows.{keys_of}
 use Rattle.pipe_spill.specs.KeyTypes.{AreOfTypes}
 use Rattle.pipe_spill.specs.SpillRow.{spilled}
 use Rattle.pipe_spill.specs.declared.spill_row.SpillRow.{SpillRow}
-use Rattle.pipe_groups.specs.Given.{in_order, IsFrameOfGroups, key_cmp, slice_after}
+use Rattle.pipe_groups.specs.declared.placed_groups.PlacedGroups.{PlacedGroups}
+use Rattle.pipe_groups.specs.Given.{in_order, IsFrameOfGroups, IsRowOfGroup, key_cmp, slice_after}
 use Rattle.pipe_groups.specs.Groups.{count_held, Group}
 use Rattle.pipe_groups.specs.Holds.{Holds}
-use Rattle.pipe_groups.specs.QueryRows.{HoldRowsOf}
-use Rattle.pipe_groups.specs.Shape.{Shape}
+use Rattle.pipe_groups.specs.QueryRows.{ArePlaced, ArePlacedRows, HoldRowsOf}
+use Rattle.pipe_groups.specs.Shape.{Shape, shape_of}
 use Rattle.pipe_groups.proofs.CodedFacts.{sorted-codes}
 use Rattle.pipe_groups.proofs.HoldFacts.{holds-moved}
 use Rattle.pipe_groups.proofs.KeyFacts.{held-counted}
-use Rattle.pipe_groups.proofs.PartsFacts.{part-answer}
+use Rattle.pipe_groups.proofs.FrameRows.{frame-fields}
+use Rattle.pipe_groups.proofs.PartsFacts.{part-answer, part-placed}
 use Rattle.pipe_tables.specs.Tables.{Table}
-use Rattle.pipe_global.specs.Finishing.{GivesGroups, KeepsRest, own_rows, StandFor}
+use Rattle.pipe_global.specs.Finishing.{GivesGroups, GivesOwn, GivesOwnPlaced, GivesPlaced, KeepsRest, own_rows, StandFor}
 use Rattle.pipe_global.specs.Partition.{PartitionSeen, spilled_all}
 use Rattle.pipe_run.specs.Given.{frame_of_keys, HasGiven, HasRows, IsSource, SourceSeen, StandsForPart}
+use Rattle.pipe_run.specs.Sources.{IsPlacedFrame}
 use Rattle.pipe_run.proofs.SourceFacts.{asked, both, mine}
 
 -- as many groups hold rows as the rows have keys
@@ -87,3 +92,46 @@ module _ (s : SourceSeen) (y : PartitionSeen) (local : Table) (slice : Option (�
         chunk = ap (λ (g : FrameData). record { chunk_index = s.given + 1; frame = g }) frame;
         slice = gives.left_is ∙ ap (λ k. slice_after k s.slice) (count-groups q (rows_in n q s.given rs) gives.groups hold);
       }
+
+  -- and what it gives with least places are the placed rows of its keys
+  pub given-placed : (g : PlacedGroups)
+      → ((rows locals : List SpillRow) → StandFor here s.local rows locals → GivesPlaced here.table.shape (rows ++ own_rows here locals) g.frame g.firsts)
+      → ArePlacedRows q rs (groups_in n q s.given rs) g.frame g.firsts
+  given-placed g clause =
+      let at = is.each s.given y lt in
+      let gives = clause part.rows h.stands.locals (both s y local slice is lt kept rs h.stands) in
+      part-placed q n s.given rs gives.groups (hold-part gives.groups gives.apart gives.holds) h.apart g.frame g.firsts
+      (subst (λ (sh : Shape). ArePlaced sh gives.groups g.frame g.firsts) at.shape gives.placed)
+
+-- ---- what every partition gives, whatever its store tells
+
+-- a frame of groups has the columns of their shape
+fields-of-groups : (sh : Shape) (gs : List Group) (f : FrameData) → IsFrameOfGroups sh gs f → FitsSchema sh.fields f
+fields-of-groups sh gs f is = ap (λ (g : FrameData). fields_of g.columns) is.frame_is ∙ frame-fields 0 sh.fields is.rows
+
+-- so a partition gives a frame of the query's columns
+pub own-fields : (q : QueryTree) (x : PartitionSeen) (slice left : Option (ℕ × ℕ)) (f : FrameData) → x.table.shape ≡ shape_of q → GivesOwn x slice left f → FitsSchema (output_schema q) f
+own-fields q x slice left f shape own =
+    fields-of-groups x.table.shape (sliced slice (in_order own.gives.groups)) f own.gives.frame_is ∙ ap (λ (sh : Shape). sh.fields) shape
+
+-- lists that go pair by pair are as long
+zip-length : {A B : Type 0} (R : A → B → Type 0) (xs : List A) (ys : List B) → AllZip R xs ys → length xs ≡ length ys
+zip-length R [] [] z = refl
+zip-length R [] (y ∷ ys) z = absurd z
+zip-length R (x ∷ xs) [] z = absurd z
+zip-length R (x ∷ xs) (y ∷ ys) z = ap suc (zip-length R xs ys z.1)
+
+-- with a place for each row
+pub own-placed : (q : QueryTree) (x : PartitionSeen) (g : PlacedGroups) → x.table.shape ≡ shape_of q → GivesOwnPlaced x g.frame g.firsts → IsPlacedFrame q g
+own-placed q x g shape own =
+    let gs = in_order own.gives.groups in
+    let is = own.gives.placed.frame_is in
+    record {
+      fields = fields-of-groups x.table.shape gs g.frame is ∙ ap (λ (sh : Shape). sh.fields) shape;
+      places =
+          sym (length-map g.firsts (λ (p : Place). Some p))
+          ∙ ap (λ (l : List (Option Place)). length l) own.gives.placed.firsts_are
+          ∙ length-map gs (λ (e : Group). e.first)
+          ∙ zip-length (λ e row. IsRowOfGroup x.table.shape e row) gs is.rows is.each
+          ∙ sym (ap (λ (f : FrameData). f.height) is.frame_is);
+    }

@@ -8,7 +8,8 @@ use Rattle.pipe_columns.specs.declared.any_value.AnyValue.{AnyValue}
 use Rattle.pipe_columns.specs.Frame.{frame_of, FrameData, stacked}
 use Rattle.pipe_columns.specs.Row.{Row}
 use Rattle.pipe_columns.specs.Slice.{sliced}
-use Rattle.pipe_model.specs.Answer.{answer_of, answer_row}
+use Rattle.pipe_columns.specs.declared.data_chunk.DataChunk.{DataChunk}
+use Rattle.pipe_model.specs.Answer.{answer_of, answer_row, groups}
 use Rattle.pipe_model.specs.Output.{output_schema}
 use Rattle.pipe_model.specs.Partitions.{groups_in}
 use Rattle.pipe_model.specs.Query.{QueryTree}
@@ -16,6 +17,7 @@ use Rattle.pipe_model.proofs.PartitionFacts.{groups-joined}
 use Rattle.pipe_groups.specs.Given.{slice_after}
 use Rattle.pipe_groups.proofs.PartsFacts.{stacked-frame}
 use Rattle.pipe_run.specs.Given.{chunk_at, chunks_from, is_used_up, joined_frames}
+use Rattle.pipe_run.specs.Sources.{chunks_in_all, whole_chunk}
 use Rattle.pipe_run.proofs.Slicing.{sliced-append}
 
 -- a slice without length keeps nothing
@@ -64,7 +66,23 @@ module _ (q : QueryTree) (rs : List Row) (partitions : ℕ) where
         ∙ ap (λ l. above ++ l) (sym (map-append (answer_row q rs) (sliced slice own) (sliced left (keys_from (p + 1) n))) ∙ ap rows_of (sym (sliced-append slice own (keys_from (p + 1) n)))))
 
   -- so all of them are the answer
-  pub joined-all : 0 < partitions → q.keeps_order ≡ false → joined_frames q (chunks_from q rs partitions q.slice 0 partitions) ≡ answer_of rs q partitions
+  joined-all : 0 < partitions → q.keeps_order ≡ false → joined_frames q (chunks_from q rs partitions q.slice 0 partitions) ≡ answer_of rs q partitions
   joined-all some unordered =
       joined-from q.slice 0 partitions []
       ∙ ap (λ keys. frame (rows_of (sliced q.slice keys))) (sym (groups-joined rs q partitions unordered some))
+
+  -- so the one chunk of all groups is
+  joined-whole : (b : Bool) → is_used_up q.slice ≡ b → joined_frames q (if b then [] else whole_chunk q rs partitions q.slice ∷ []) ≡ answer_of rs q partitions
+  joined-whole true e = ap (λ keys. frame (rows_of keys)) (sym (used-up q.slice (groups rs q partitions) e))
+  joined-whole false e = stacked-frame (output_schema q) [] (rows_of (sliced q.slice (groups rs q partitions)))
+
+  -- all chunks, by whether order is kept
+  abbrev chunks_by : Bool → List DataChunk
+  chunks_by b = if b then (if is_used_up q.slice then [] else whole_chunk q rs partitions q.slice ∷ []) else chunks_from q rs partitions q.slice 0 partitions
+
+  -- in either order
+  pub joined-chunks : 0 < partitions → joined_frames q (chunks_in_all q rs partitions) ≡ answer_of rs q partitions
+  joined-chunks some = by q.keeps_order refl where
+    by : (b : Bool) → q.keeps_order ≡ b → joined_frames q (chunks_by q.keeps_order) ≡ answer_of rs q partitions
+    by true e = ap (λ b. joined_frames q (chunks_by b)) e ∙ joined-whole (is_used_up q.slice) refl
+    by false e = ap (λ b. joined_frames q (chunks_by b)) e ∙ joined-all some e

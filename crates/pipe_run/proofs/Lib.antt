@@ -6,6 +6,13 @@ pub mod SourceFacts
 pub mod PartRows
 pub mod ChunkFacts
 pub mod Joining
+pub mod Asking
+pub mod Apart
+pub mod ByPlace
+pub mod Sourcing
+pub mod KeptTables
+pub mod EndedSource
+pub mod AnswerOfRun
 pub mod Ready
 pub mod Ended
 pub mod Running

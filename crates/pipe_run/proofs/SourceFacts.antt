@@ -1,9 +1,9 @@
 -- What a group source keeps as partitions give their groups.
-use Rattle.std.proofs.Common.{◌≡◌, ◌≢◌, ◌∙◌, ◌+◌, ◌%◌, ◌<◌, ◌≤◌, ℕ, Bool, true, false, not, List, [], ◌∷◌, ◌++◌, length, refl, sym, ap, subst, arith, cond, Option, None, ◌⊎◌, inl, inr, ⊎_elim, ◌||◌}
+use Rattle.std.proofs.Common.{◌≡◌, ◌≢◌, ◌∙◌, ◌+◌, ◌%◌, ◌<◌, ◌≤◌, ℕ, Bool, true, false, not, List, [], ◌∷◌, ◌++◌, length, refl, sym, ap, subst, arith, cond, Option, None, ◌⊎◌, inl, inr}
 use Rattle.std.specs.Prelude.{if◌then◌else◌}
 use Rattle.std.specs.List.{filter, slice_index_or, slice_set}
 use Rattle.std.specs.List.Sorted.{IsPermutation}
-use Rattle.std.proofs.lemmas.Bool.{cases_eq, eq-eqb, eqb-true, false≢true, ne_eqb}
+use Rattle.std.proofs.lemmas.Bool.{cases_eq, eqb-true, false≢true, ne_eqb}
 use Rattle.std.proofs.lemmas.Grind.{get_or-set_at}
 use Rattle.std.proofs.lemmas.List.{append-nil, get_or_default, get_or-set_other, length-set}
 use Rattle.std.proofs.lemmas.List.Elements.{All-filter}
@@ -23,7 +23,7 @@ use Rattle.pipe_global.specs.declared.batch_error.BatchError.{BatchError}
 use Rattle.pipe_global.specs.Finishing.{CanFinish, CanGather, IsCause, IsLeftOf, IsRestOf, KeepsRest, other_rows, own_rows, StandAsBefore, StandFor, StandMoved, StandsForRows, StandTogether}
 use Rattle.pipe_global.specs.Partition.{PartitionSeen, spilled_all}
 use Rattle.pipe_global.proofs.RunFacts.{length-kept}
-use Rattle.pipe_run.specs.Given.{IsAt, is_over, is_used_up, IsSource, KeepsSource, SourceSeen, StandsForPart, StandsForParts}
+use Rattle.pipe_run.specs.Given.{HasRows, IsAt, IsSource, KeepsSource, SourceSeen, StandsForPart, StandsForParts}
 
 -- ---- a local table without the rows of a partition
 
@@ -112,13 +112,6 @@ part-moved q rs locals rows s new same is all stands = record {
 
 -- ---- a source whose next partition was asked
 
--- where something is left to give, a partition is
-pub not-over : (s : SourceSeen) → IsSource s → is_over s ≡ false → s.given < length s.partitions
-not-over s is left = ⊎_elim
-    (λ e. absurd (false≢true (sym left ∙ ap (λ b. b || is_used_up s.slice) (eq-eqb s.given (length s.partitions) e))))
-    (λ apart. omega (arith, is.given, apart))
-    (cases_eq s.given (length s.partitions))
-
 -- the source with the partition as it is then
 abbrev pub asked : SourceSeen → PartitionSeen → Table → Option (ℕ × ℕ) → ℕ → SourceSeen
 asked s y local slice given = record {
@@ -129,9 +122,28 @@ asked s y local slice given = record {
   given = given;
 }
 
--- its query and the number of its partitions stay
-pub keeps-asked : (s : SourceSeen) (y : PartitionSeen) (local : Table) (slice : Option (ℕ × ℕ)) (given : ℕ) → KeepsSource s (asked s y local slice given) given
-keeps-asked s y local slice given = record { query = refl; partitions = length-set s.partitions s.given y; given_is = refl }
+-- a partition that wasn't asked is as before
+pub keeps-itself : (x : PartitionSeen) → KeepsRest x x
+keeps-itself x = record {
+  shape = (refl, refl);
+  store = record { told = refl; held = refl; sure = refl; faults = omega arith };
+  others = refl;
+}
+
+-- the query stays, and the other partitions
+pub keeps-asked : (s : SourceSeen) (y : PartitionSeen) (local : Table) (slice : Option (ℕ × ℕ)) (given : ℕ) → s.given < length s.partitions → KeepsRest (slice_index_or s.partitions s.given y) y
+    → KeepsSource s (asked s y local slice given) given
+keeps-asked s y local slice given lt kept = record {
+  query = refl;
+  partitions = record { count = length-set s.partitions s.given y; each = λ p d below. one p d below (cases_eq p s.given) };
+  others = λ p d apart. get_or-set_other s.partitions s.given p y d apart;
+  given_is = refl;
+} where
+  one : (p : ℕ) (d : PartitionSeen) → p < length s.partitions → (p ≡ s.given) ⊎ (p ≢ s.given) → KeepsRest (slice_index_or s.partitions p d) (slice_index_or (slice_set s.partitions s.given y) p d)
+  one p d below (inl e) =
+      subst (KeepsRest (slice_index_or s.partitions p d)) (sym (get_or-set_at s.partitions s.given p y d e lt))
+      (subst (λ (x : PartitionSeen). KeepsRest x y) (ap (λ k. slice_index_or s.partitions k y) (sym e) ∙ get_or_default s.partitions p y d below) kept)
+  one p d below (inr apart) = subst (KeepsRest (slice_index_or s.partitions p d)) (sym (get_or-set_other s.partitions s.given p y d apart)) (keeps-itself (slice_index_or s.partitions p d))
 
 module _ (s : SourceSeen) (y : PartitionSeen) (local : Table) (slice : Option (ℕ × ℕ)) (is : IsSource s) (lt : s.given < length s.partitions)
     (kept : KeepsRest (slice_index_or s.partitions s.given y) y) where
@@ -285,6 +297,13 @@ module _ (s : SourceSeen) (y : PartitionSeen) (local : Table) (slice : Option (�
     pub refused-stands : StandTogether x y s.local local → StandsForParts rs (asked s y local slice s.given)
     refused-stands (inl stay) = kept-stands stay
     refused-stands (inr moved) = moved-stands moved
+
+  -- and over rows of the query, no place of which stands twice
+  pub given-rows : (rs : List Row) → HasRows rs s → IsRestOf x s.local local → HasRows rs (asked s y local slice (s.given + 1))
+  given-rows rs rows rest = record { typed = rows.typed; apart = rows.apart; stands = given-stands rs rows.stands rest }
+
+  pub refused-rows : (rs : List Row) → HasRows rs s → StandTogether x y s.local local → HasRows rs (asked s y local slice s.given)
+  refused-rows rs rows together = record { typed = rows.typed; apart = rows.apart; stands = refused-stands rs rows.stands together }
 
 -- why the partition gave nothing is told of it where it stands
 pub refused-cause : (s : SourceSeen) (y d : PartitionSeen) (e : BatchError) → s.given < length s.partitions → IsCause (slice_index_or s.partitions s.given y) y e

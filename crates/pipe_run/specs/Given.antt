@@ -1,5 +1,5 @@
--- What a group source has, and what it still has to give.
-use Rattle.std.specs.Prelude.{◌≡◌, ◌+◌, ◌-◌, ◌^◌, ◌==◌, ◌<◌, ◌≤◌, ◌||◌, ℕ, zero, suc, Bool, false, List, [], ◌∷◌, ◌++◌, All, length, map, slice_index_or, Option, None, Some, fold, if◌then◌else◌}
+-- Closed partitions that are asked for their groups, one after another, and what each gives.
+use Rattle.std.specs.Prelude.{◌≡◌, ◌≢◌, ◌+◌, ◌^◌, ◌==◌, ◌<◌, ◌≤◌, ℕ, zero, suc, Bool, false, List, [], ◌∷◌, ◌++◌, All, length, map, slice_index_or, Option, None, Some, fold, if◌then◌else◌}
 use Rattle.std.specs.List.Sorted.{IsPermutation}
 use Rattle.pipe_columns.specs.declared.any_value.AnyValue.{AnyValue}
 use Rattle.pipe_columns.specs.declared.data_chunk.DataChunk.{DataChunk}
@@ -22,6 +22,7 @@ use Rattle.pipe_groups.specs.Shape.{shape_of}
 use Rattle.pipe_tables.specs.Tables.{Table}
 use Rattle.pipe_global.specs.Finishing.{CanFinish, own_rows, StandsForRows}
 use Rattle.pipe_global.specs.Partition.{PartitionSeen, spilled_all}
+use Rattle.pipe_run.specs.Ending.{AreKept}
 
 -- its query, the partitions, the local table, what is left of the slice, how many partitions it gave
 pub record SourceSeen : Type 0 where
@@ -73,10 +74,6 @@ abbrev pub is_used_up : Option (ℕ × ℕ) → Bool
 is_used_up None = false
 is_used_up (Some s) = s.1 == 0
 
--- whether nothing is left to give
-abbrev pub is_over : SourceSeen → Bool
-is_over s = (s.given == length s.partitions) || is_used_up s.slice
-
 -- the frame of some keys under a slice, each with the aggregates of its rows
 abbrev pub frame_of_keys :
     QueryTree → List Row → Option (ℕ × ℕ) → List (List AnyValue) → FrameData
@@ -99,16 +96,6 @@ chunks_from q rs partitions slice p (suc n) =
     ∷ chunks_from q rs partitions
     (slice_after (length (groups_in partitions q p rs)) slice) (p + 1) n
 
--- chunks are what is left to give: those of some rows of the query, which it stands for
-pub record AreLeft (s : SourceSeen) (chunks : List DataChunk) : Type 0 where
-  pub rs : List Row
-  pub typed : All (IsRowOf (query_tree s.query)) rs
-  pub apart : HaveDistinctPlaces rs
-  pub stands : StandsForParts rs s
-  pub chunks_are :
-      chunks ≡ chunks_from (query_tree s.query) rs (length s.partitions) s.slice s.given
-      (length s.partitions - s.given)
-
 -- ---- what a call does
 
 -- rows of the query, no place of which stands twice, for which the source stands
@@ -124,10 +111,13 @@ pub record HasGiven (rs : List Row) (s new : SourceSeen) (c : DataChunk) : Type 
       ≡ slice_after (length (groups_in (length s.partitions) (query_tree s.query) s.given rs))
       s.slice
 
--- the query and the number of partitions stay, and so many partitions were given
+-- the query stays, the partitions are kept, those that weren't asked are as before, and so many
+-- partitions were given
 pub record KeepsSource (s new : SourceSeen) (given : ℕ) : Type 0 where
   pub query : new.query ≡ s.query
-  pub partitions : length new.partitions ≡ length s.partitions
+  pub partitions : AreKept s.partitions new.partitions
+  pub others : (p : ℕ) (d : PartitionSeen) → p ≢ s.given
+      → slice_index_or new.partitions p d ≡ slice_index_or s.partitions p d
   pub given_is : new.given ≡ given
 
 -- the rows of the frames of chunks, one below the other

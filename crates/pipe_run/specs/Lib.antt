@@ -4,6 +4,8 @@ pub mod Fed
 pub mod Answered
 pub mod Given
 pub mod Ending
+pub mod Sources
+pub mod Stacking
 pub mod Feeding
 pub mod Rounds
 pub mod Stops

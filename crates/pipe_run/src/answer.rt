@@ -1,22 +1,71 @@
 //! The answer of a run that has ended.
 
-ghost use Rattle.std.specs.Prelude.{◌≡◌, ◌<◌, ◌^◌, All, IfErr, IfOk, false, map, true};
+ghost use Rattle.std.specs.Prelude.{◌≡◌, ◌<◌, ◌^◌, All, IfErr, IfOk, List, ℕ, false, length, map, slice_index_or, true};
 ghost use Rattle.pipe_aggs.specs.QueryTrees.{query_tree};
+ghost use Rattle.pipe_columns.specs.Row.{Row};
 ghost use Rattle.pipe_model.specs.Answer.{answer};
 ghost use Rattle.pipe_model.specs.Rows.{AreChunksOf};
 ghost use Rattle.pipe_plan.specs.Run.{tells};
+ghost use Rattle.pipe_spill.specs.Store.{HasHeld};
 ghost use Rattle.pipe_global.specs.Partition.{IsRunnable};
 ghost use Rattle.pipe_run.specs.Ending.{AreKept, IsAnswerCause};
 ghost use Rattle.pipe_run.specs.Fed.{AreWholePartitions, HaveKept};
+ghost use Rattle.pipe_run.specs.Given.{joined_frames};
 ghost use Rattle.pipe_run.specs.Setting.{run_of};
+ghost use Rattle.pipe_run.specs.Sources.{chunks_left, HasAllRows, IsGiveCause, KeepsAsked};
 
 use crate::begun::Begun;
+use crate::group_source::GroupBySource;
+use crate::kept_table::kept_table;
+use crate::stacking::put_below;
+use pipe_aggs::CheckedQuery;
 use pipe_columns::{DataChunk, DataFrame};
 use pipe_global::{BatchError, ClosedPartition};
 use pipe_spill::SpillStore;
 use pipe_workers::PausedWorker;
-use std::alloc::Global;
+use std::alloc::{AllocError, Global};
 use std::snapshot::Snapshot;
+
+/// The look at partitions that shows that their stores tell no more and no fewer frames than they hold.
+fn recall_told<S: SpillStore + Drop>(closed: &[ClosedPartition<S>])
+    ensures { (p : ℕ) (d : _) → p < length closed.now → HasHeld
+        (slice_index_or closed.now p d).store.told (slice_index_or closed.now p d).store.held }
+{
+    for partition in 0..closed.len() {
+        let _journal = closed[partition].journal();
+    }
+}
+
+/// The chunks that are left in a source, below one another.
+fn joined_chunks<S: SpillStore + Drop>(
+    alloc: Global,
+    query: &CheckedQuery<'_>,
+    source: &mut GroupBySource<'_, S>,
+) -> Result<DataFrame, BatchError>
+    requires { source.old.asked.query ≡ query.now }
+    ensures frame { IfOk result (λ f. (rs : List Row) → HasAllRows rs source.old
+        → f ≡ joined_frames (query_tree query.now) (chunks_left rs source.old)) }
+    ensures kept { KeepsAsked source.old.asked source.new.asked }
+    ensures cause { IfErr result (λ e. IsGiveCause source.old.asked source.new.asked e) }
+{
+    let Ok(mut frame) = DataFrame::empty_with_schema(alloc, query.output_schema()) else {
+        return Err(BatchError::Memory);
+    };
+    'chunks: loop {
+        let given = match source.next_chunk() {
+            Ok(given) => given,
+            Err(error) => return Err(error),
+        };
+        let chunk = match given {
+            Some(chunk) => chunk,
+            None => return Ok(frame),
+        };
+        match put_below(&mut frame, chunk.frame) {
+            Ok(()) => {}
+            Err(AllocError) => return Err(BatchError::Memory),
+        }
+    }
+}
 
 /// The groups of a run that has ended, from its closed partitions and what its workers kept. The
 /// partitions come back, in order.
@@ -42,5 +91,15 @@ pub(crate) fn answer_of_run<S: SpillStore + Drop>(
         (run_of begun.now false (map (λ c. c.value) chunks.now)) closed.items result.1.items e) }
 {
     let _query = begun.query.query();
-    (Err(BatchError::Memory), closed)
+    recall_told(closed.as_slice());
+    let Ok(local) = kept_table(alloc, begun, chunks, rests) else {
+        return (Err(BatchError::Memory), closed);
+    };
+    let slice = begun.query.slice();
+    let mut source = GroupBySource::new(alloc, &begun.query, closed, local, slice);
+    let frame = match joined_chunks(alloc, &begun.query, &mut source) {
+        Ok(frame) => frame,
+        Err(error) => return (Err(error), source.into_parts()),
+    };
+    (Ok(frame), source.into_parts())
 }

@@ -2,13 +2,16 @@
 #![tactic(auto)]
 
 mod answer;
+mod asked;
 mod begin;
 mod begun;
+mod by_place;
 mod chunk_check;
 mod error;
 mod failed;
 mod finish;
 mod group_source;
+mod kept_table;
 mod laws;
 mod limits;
 mod opening;
@@ -17,6 +20,7 @@ mod parts;
 mod round;
 mod round_of;
 mod run;
+mod stacking;
 mod stores;
 mod whole_run;
 
