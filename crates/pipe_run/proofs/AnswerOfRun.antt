@@ -1,11 +1,11 @@
 -- The answer of a run that has ended: the chunks of its source below one another, and why there is none.
-use Rattle.std.proofs.Common.{◌≡◌, ◌∙◌, ◌+◌, ◌^◌, ◌<◌, ◌≤◌, ℕ, zero, suc, true, false, not, List, [], ◌∷◌, ◌++◌, length, map, fold, refl, sym, ap, subst, arith, Option, Some, None, ⊎_elim}
+use Rattle.std.proofs.Common.{◌≡◌, ◌∙◌, ◌+◌, ◌<◌, ◌≤◌, ℕ, zero, suc, true, false, not, List, [], ◌∷◌, length, map, fold, refl, sym, ap, subst, arith, Option, Some, None}
 use Rattle.std.specs.Prelude.{is_some}
-use Rattle.std.specs.List.{All, Contains, slice_index_or}
+use Rattle.std.specs.List.{Contains, slice_index_or}
 use Rattle.std.proofs.lemmas.Bool.{false≢true}
 use Rattle.std.proofs.lemmas.List.{get_or_default}
 use Rattle.pipe_columns.specs.declared.data_chunk.DataChunk.{DataChunk}
-use Rattle.pipe_columns.specs.Causes.{one_more, Rose}
+use Rattle.pipe_columns.specs.Causes.{Rose}
 use Rattle.pipe_columns.specs.Frame.{FitsSchema, frame_of, FrameData, stacked}
 use Rattle.pipe_columns.specs.Row.{Row}
 use Rattle.pipe_aggs.specs.declared.query.Query.{Query}
@@ -18,12 +18,11 @@ use Rattle.pipe_tables.specs.Tables.{Table}
 use Rattle.pipe_global.specs.declared.batch_error.BatchError.{BatchError}
 use Rattle.pipe_global.specs.declared.batch_error.BatchError.TheVariants as batch_error
 use Rattle.pipe_global.specs.declared.mark.Mark.{Mark}
-use Rattle.pipe_global.specs.Finishing.{KeepsRest}
 use Rattle.pipe_global.specs.Partition.{IsReplayed, marks_from, PartitionSeen, store_of, with_frames}
-use Rattle.pipe_run.specs.Ending.{AreKept, IsAnswerCause}
+use Rattle.pipe_run.specs.Ending.{IsAnswerCause}
 use Rattle.pipe_run.specs.Fed.{AreWholePartitions}
 use Rattle.pipe_run.specs.Given.{HasRows, joined_frames}
-use Rattle.pipe_run.specs.Sources.{chunks_in_all, chunks_left, GroupSourceSeen, HasAllRows, is_over, IsGiveCause, KeepsAsked, LeavesOthers, query_of, unasked}
+use Rattle.pipe_run.specs.Sources.{chunks_left, GroupSourceSeen, HasAllRows, is_over, IsGiveCause, KeepsAsked, LeavesOthers, query_of, unasked}
 use Rattle.pipe_run.proofs.Asking.{asked-same, asked-trans, others-same, others-trans}
 use Rattle.pipe_run.proofs.ByPlace.{stacked-fields}
 use Rattle.pipe_run.proofs.Joining.{joined-chunks}

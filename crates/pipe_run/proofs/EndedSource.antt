@@ -1,9 +1,8 @@
 -- The source of a run that has ended: it can be asked, and over telling stores it stands for the rows of the run.
-use Rattle.std.proofs.Common.{◌≡◌, ◌∙◌, ◌+◌, ◌^◌, ◌<◌, ◌≤◌, ℕ, zero, suc, false, true, List, [], ◌∷◌, ◌++◌, length, refl, sym, ap, subst, arith, is_some, length-append, Option, Some, None, ⊎_elim, map}
-use Rattle.std.specs.List.{All, count_by, flat_map, range_with_len, slice_index_or}
-use Rattle.std.proofs.lemmas.Bool.{cases_eq, false≢true}
-use Rattle.std.proofs.lemmas.List.{append-nil, get_or_default, length-map}
-use Rattle.pipe_columns.specs.declared.data_chunk.DataChunk.{DataChunk}
+use Rattle.std.proofs.Common.{◌≡◌, ◌∙◌, ◌+◌, ◌^◌, ◌<◌, ◌≤◌, ℕ, zero, suc, false, true, List, [], ◌∷◌, length, refl, sym, ap, subst, arith, is_some, Option, Some, None, ⊎_elim}
+use Rattle.std.specs.List.{All, count_by, range_with_len, slice_index_or}
+use Rattle.std.proofs.lemmas.Bool.{cases_eq}
+use Rattle.std.proofs.lemmas.List.{get_or_default, length-map}
 use Rattle.pipe_columns.specs.Row.{Row}
 use Rattle.pipe_aggs.specs.declared.query.Query.{Query}
 use Rattle.pipe_aggs.specs.CheckedQuery.{IsSound}
@@ -16,7 +15,7 @@ use Rattle.pipe_plan.specs.declared.event.PartitionEvent.{PartitionEvent}
 use Rattle.pipe_plan.specs.Journals.{AreWhole, IsWhole, journal_of}
 use Rattle.pipe_plan.specs.Plan.{plan}
 use Rattle.pipe_plan.specs.Replay.{events_by, replay}
-use Rattle.pipe_plan.specs.Run.{all_rows, Run, StoreSeen, tells}
+use Rattle.pipe_plan.specs.Run.{all_rows, Run, tells}
 use Rattle.pipe_plan.specs.Whole.{all_kept, replayed_rows, rows_of}
 use Rattle.pipe_plan.proofs.Adding.{count-over, sum_to}
 use Rattle.pipe_plan.proofs.AllRows.{all-held}
@@ -31,7 +30,6 @@ use Rattle.pipe_global.specs.Partition.{IsReplayed, IsRunnable, no_store, Partit
 use Rattle.pipe_global.proofs.ClosedFacts.{finish-replayed, stands-replayed}
 use Rattle.pipe_run.specs.Fed.{AreWholePartitions, IsWholePartition}
 use Rattle.pipe_run.specs.Given.{HasRows, IsSource, StandsForPart}
-use Rattle.pipe_run.specs.Setting.{run_of, Setting}
 use Rattle.pipe_run.specs.Sources.{unasked}
 use Rattle.pipe_run.proofs.KeptTables.{kept-typed}
 use Rattle.pipe_run.proofs.Lists.{front-all}

@@ -16,7 +16,7 @@ use Rattle.pipe_model.specs.Rows.{HaveDistinctPlaces}
 use Rattle.pipe_groups.specs.Given.{slice_after}
 use Rattle.pipe_groups.specs.declared.placed_groups.PlacedGroups.{PlacedGroups}
 use Rattle.pipe_global.specs.Partition.{PartitionSeen}
-use Rattle.pipe_run.specs.Given.{chunk_at, chunks_from, frame_of_keys, HasGiven, HasRows, is_used_up, IsSource, KeepsSource, SourceSeen}
+use Rattle.pipe_run.specs.Given.{chunk_at, chunks_from, frame_of_keys, HasGiven, HasRows, is_used_up, KeepsSource, SourceSeen}
 use Rattle.pipe_run.specs.Sources.{chunks_in_all, ArePlacedParts, chunks_left, count_of, GroupSourceSeen, HasAllRows, is_over, IsGroupSource, IsPlacedFrame, KeepsAsked, most_left, query_of, whole_chunk}
 
 -- neither of two, where not one of both

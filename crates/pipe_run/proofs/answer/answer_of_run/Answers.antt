@@ -1,4 +1,4 @@
-use Rattle.std.proofs.Common.{rules, ◌≡◌, ◌∙◌, ◌<◌, ◌^◌, [], ℕ, List, Option, ap, arith, false, length, map, refl, slice_index_or, subst, sym}
+use Rattle.std.proofs.Common.{◌≡◌, ◌∙◌, ◌<◌, ◌^◌, [], ℕ, List, Option, ap, arith, false, length, map, refl, slice_index_or, subst, sym}
 use Rattle.pipe_aggs.specs.declared.query.Query.{Query}
 use Rattle.pipe_aggs.specs.CheckedQuery.{IsSound}
 use Rattle.pipe_aggs.specs.QueryTrees.{query_tree}

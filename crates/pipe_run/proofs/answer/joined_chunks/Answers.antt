@@ -1,4 +1,4 @@
-use Rattle.std.proofs.Common.{rules, ◌≡◌, ◌∙◌, [], ◌∷◌, ◌++◌, List, Some, ap, refl, subst, sym, true}
+use Rattle.std.proofs.Common.{rules, ◌≡◌, ◌∙◌, [], ◌++◌, List, ap, sym}
 use Rattle.std.specs.Option.{option_to_list}
 use Rattle.pipe_aggs.specs.declared.query.Query.{Query}
 use Rattle.pipe_aggs.specs.QueryTrees.{query_tree}
@@ -8,7 +8,7 @@ use Rattle.pipe_columns.specs.Frame.{fields_of, frame_of, FrameData, stacked}
 use Rattle.pipe_model.specs.Output.{output_schema}
 use Rattle.pipe_groups.proofs.FrameRows.{frame-fields}
 use Rattle.pipe_run.specs.Given.{joined_frames}
-use Rattle.pipe_run.specs.Sources.{chunks_left, HasAllRows, query_of}
+use Rattle.pipe_run.specs.Sources.{chunks_left, query_of}
 use Rattle.pipe_run.proofs.AnswerOfRun.{joining-all, joining-more, joining-none}
 use Rattle.pipe_run.proofs.Asking.{cause-later}
 use Rattle.pipe_run.proofs.answer.joined_chunks.Goals as goal

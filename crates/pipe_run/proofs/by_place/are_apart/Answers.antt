@@ -1,4 +1,4 @@
-use Rattle.std.proofs.Common.{◌∙◌, ◌≡◌, ◌≤◌, ◌<◌, List, arith, false, length, refl, subst, sym, true}
+use Rattle.std.proofs.Common.{◌∙◌, ◌≤◌, ◌<◌, List, arith, length, refl, subst, sym}
 use Rattle.std.specs.List.Sorted.{IsPermutation}
 use Rattle.std.proofs.lemmas.Bool.{false≢true}
 use Rattle.pipe_columns.specs.declared.place.Place.{Place}

@@ -1,9 +1,8 @@
-use Rattle.std.proofs.Common.{rules, ◌≡◌, ◌∙◌, List, ap, false, subst, sym, true}
+use Rattle.std.proofs.Common.{rules, ◌≡◌, ◌∙◌, List, ap, false, subst, sym}
 use Rattle.std.specs.List.{IsDistinct}
 use Rattle.std.specs.Ordering.{eq_by_cmp}
 use Rattle.std.proofs.lemmas.Bool.{false≢true}
 use Rattle.pipe_aggs.specs.QueryTrees.{query_tree}
-use Rattle.pipe_columns.specs.declared.place.Place.{Place}
 use Rattle.pipe_columns.specs.Frame.{fields_of, frame_of, FrameData}
 use Rattle.pipe_columns.specs.Place.{place_cmp}
 use Rattle.pipe_columns.specs.Slice.{sliced}

@@ -1,4 +1,4 @@
-use Rattle.std.proofs.Common.{rules, ◌≡◌, ◌∙◌, ◌∷◌, ◌+◌, false, List, map, refl, subst, sym, ap, arith, length, []}
+use Rattle.std.proofs.Common.{rules, ◌≡◌, ◌∙◌, ◌∷◌, ◌+◌, false, List, map, subst, sym, ap, arith, length, []}
 use Rattle.std.specs.Vec.Iter.{into_iter_items, into_iter_len}
 use Rattle.pipe_plan.specs.Run.{Run}
 use Rattle.pipe_workers.specs.declared.paused.PausedWorker.{PausedWorker}

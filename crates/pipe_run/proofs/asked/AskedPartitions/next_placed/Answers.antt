@@ -1,17 +1,14 @@
-use Rattle.std.proofs.Common.{◌≡◌, ◌∙◌, ◌<◌, sym, ap, subst, length, slice_index_or, slice_set, ◌+◌, ◌++◌, List}
+use Rattle.std.proofs.Common.{◌∙◌, ◌<◌, sym, subst, length, slice_index_or, slice_set, ◌+◌, ◌++◌, List}
 use Rattle.std.proofs.lemmas.List.{get_or_default}
 use Rattle.pipe_aggs.specs.QueryTrees.{query_tree}
-use Rattle.pipe_columns.specs.Frame.{FitsSchema}
-use Rattle.pipe_model.specs.Output.{output_schema}
 use Rattle.pipe_model.specs.Partitions.{groups_in}
 use Rattle.pipe_groups.specs.QueryRows.{ArePlacedRows}
-use Rattle.pipe_groups.specs.Shape.{shape_of}
 use Rattle.pipe_spill.specs.declared.spill_row.SpillRow.{SpillRow}
-use Rattle.pipe_global.specs.Finishing.{GivesGroups, GivesOwn, GivesOwnPlaced, GivesPlaced, IsCause, IsLeftOf, IsRestOf, KeepsRest, own_rows, StandFor, StandTogether}
+use Rattle.pipe_global.specs.Finishing.{GivesOwnPlaced, GivesPlaced, IsCause, IsLeftOf, IsRestOf, KeepsRest, own_rows, StandFor, StandTogether}
 use Rattle.pipe_global.specs.Partition.{PartitionSeen}
-use Rattle.pipe_run.specs.Given.{HasGiven, HasRows, KeepsSource, SourceSeen}
+use Rattle.pipe_run.specs.Given.{HasRows, KeepsSource, SourceSeen}
 use Rattle.pipe_run.specs.Sources.{IsPlacedFrame}
-use Rattle.pipe_run.proofs.ChunkFacts.{given-chunk, given-placed, own-fields, own-placed}
+use Rattle.pipe_run.proofs.ChunkFacts.{given-placed, own-placed}
 use Rattle.pipe_run.proofs.SourceFacts.{asked, given-rows, given-source, keeps-asked, refused-cause, refused-rows, refused-source}
 use Rattle.pipe_run.proofs.asked.AskedPartitions.next_placed.Goals as goal
 

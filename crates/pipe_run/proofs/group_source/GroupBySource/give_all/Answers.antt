@@ -1,6 +1,4 @@
-use Rattle.std.proofs.Common.{rules, ◌≡◌, ◌∙◌, ◌∷◌, List, ap, arith, false, length, refl, subst, sym, true, vec_len}
-use Rattle.pipe_aggs.specs.declared.query.Query.{Query}
-use Rattle.pipe_groups.specs.declared.placed_groups.PlacedGroups.{PlacedGroups}
+use Rattle.std.proofs.Common.{rules, ◌≡◌, ◌∙◌, ◌∷◌, arith, false, length, refl, subst, sym, true}
 use Rattle.pipe_run.specs.Sources.{chunks_left, count_of, GroupSourceSeen, HasAllRows, is_over, query_of}
 use Rattle.pipe_run.proofs.Sourcing.{stands-waiting, waiting-left, whole-frame, whole-left}
 use Rattle.pipe_run.proofs.group_source.GroupBySource.give_all.Goals as goal
