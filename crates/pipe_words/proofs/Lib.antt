@@ -1,0 +1,4 @@
+pub mod DigitFacts
+pub mod EachFacts
+pub mod ActionFacts
+pub mod CommandFacts

@@ -1,0 +1,8 @@
+use Rattle.std.proofs.Common.{map}
+use Rattle.pipe_words.specs.Actions.{list_of}
+use Rattle.pipe_words.proofs.EachFacts.{HasGiven}
+use Rattle.pipe_words.proofs.actions.read_lists.Given as goal
+
+-- the lists so far
+abbrev pub invariant-loop-i : goal.invariant-loop-i
+invariant-loop-i l = HasGiven (λ x. list_of x.now) l.parts l.i (map (λ v. v.items) l.lists.items)

@@ -1,0 +1,35 @@
+-- The numbers that options have.
+use Rattle.std.specs.Prelude.{ℕ, ◌+◌, ◌*◌, ◌-◌, ◌&&◌, nat_le, Bool, List, length, fold, Option, Some, None, option_and_then, if◌then◌else◌}
+use Rattle.std.specs.List.{list_all}
+use Rattle.std.specs.Char.{is_ascii_digit}
+use Rattle.clap.specs.Words.{Row, first_of}
+
+-- the number that digits write
+abbrev pub number_of : List ℕ → ℕ
+number_of digits = fold (λ n d. n * 10 + (d - 48)) 0 digits
+
+-- whether a text is 1 to 20 digits
+abbrev pub is_number : List ℕ → Bool
+is_number text = nat_le 1 (length text) && (nat_le (length text) 20 && list_all is_ascii_digit text)
+
+-- the number that a text writes
+abbrev pub read_number : List ℕ → Option ℕ
+read_number text = if is_number text then Some (number_of text) else None
+
+-- a number from one to another
+abbrev pub within : ℕ → ℕ → ℕ → Option ℕ
+within low high n = if nat_le low n && nat_le n high then Some n else None
+
+-- the number of an option that may be from one number to another, or what stands where there is none
+abbrev pub number_or : ℕ → ℕ → ℕ → Option (List ℕ) → Option ℕ
+number_or absent low high None = Some absent
+number_or absent low high (Some text) = option_and_then (within low high) (read_number text)
+
+-- the greatest number of 64 bits
+abbrev pub most : ℕ
+most = 18446744073709551615
+
+-- a number that may be left away
+abbrev pub limit_of : Option (List ℕ) → Option (Option ℕ)
+limit_of None = Some None
+limit_of (Some text) = option_and_then (λ n. Some (Some n)) (option_and_then (within 0 most) (read_number text))

@@ -1,0 +1,15 @@
+//! What the words of a command say: its options, and the words that belong to none.
+#![tactic(auto)]
+
+mod actions;
+mod command;
+mod numbers;
+mod options;
+mod plan;
+mod words;
+
+pub use plan::Plan;
+pub use words::read_words;
+
+#[cfg(test)]
+mod tests;

@@ -1,0 +1,20 @@
+//! What the words of a command say.
+
+use pipe_columns::Text;
+use pipe_plan::{Limits, SpillAction};
+
+/// What the words of a command say: its options, and the words that belong to none.
+#[derive(Drop)]
+pub struct Plan {
+    pub limits: Limits,
+    /// The most rows of a chunk.
+    pub chunk: usize,
+    /// What follows the turns of each worker.
+    pub actions: Vec<Vec<SpillAction>>,
+    /// The folder of spilled frames, where they don't stay in memory.
+    pub spill_dir: Option<Text>,
+    /// The most rows that are read of all files together, where there is a limit.
+    pub rows: Option<usize>,
+    /// The query, and the names of files.
+    pub words: Vec<Text>,
+}

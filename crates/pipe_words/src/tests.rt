@@ -1,0 +1,182 @@
+//! What words say, word by word.
+
+use crate::plan::Plan;
+use crate::words::read_words;
+use pipe_columns::Text;
+use pipe_plan::SpillAction;
+use std::alloc::{AllocError, Global};
+use std::fmt::Write;
+use std::process::Abort;
+use std::test::Fail;
+
+/// The letters of lists of actions, joined by commas.
+fn show_actions(shown: &mut String, lists: &[Vec<SpillAction>]) -> Result<(), AllocError> {
+    for list in lists {
+        for action in list {
+            match action {
+                SpillAction::None => write!(shown, "n")?,
+                SpillAction::EarlyMerge => write!(shown, "m")?,
+                SpillAction::Dump => write!(shown, "d")?,
+            }
+        }
+        write!(shown, ",")?;
+    }
+    Ok(())
+}
+
+/// What a plan has, in one line.
+fn show_plan(alloc: Global, plan: &Plan) -> Result<String, AllocError> {
+    let mut shown = String::new(alloc);
+    let limits = &plan.limits;
+    write!(
+        shown,
+        "{:?} {} {} {} {} {} {} [",
+        limits.sink,
+        limits.workers,
+        limits.partitions,
+        limits.spill_size,
+        limits.buffer_size,
+        limits.payload_limit,
+        plan.chunk
+    )?;
+    show_actions(&mut shown, &plan.actions)?;
+    write!(shown, "]")?;
+    if let Some(dir) = &plan.spill_dir {
+        write!(shown, " dir={}", dir.as_str())?;
+    }
+    if let Some(rows) = plan.rows {
+        write!(shown, " rows={rows}")?;
+    }
+    for word in &plan.words {
+        write!(shown, " {}", word.as_str())?;
+    }
+    Ok(shown)
+}
+
+/// What words say, in one line; nothing where they are refused.
+fn show_words(alloc: Global, words: &[&str]) -> Result<String, AllocError> {
+    let mut texts = Vec::new(alloc);
+    for word in words {
+        texts.push(Text::new(alloc, word)?)?;
+    }
+    match read_words(alloc, &texts)? {
+        Some(plan) => show_plan(alloc, &plan),
+        None => Ok(String::new(alloc)),
+    }
+}
+
+const TAKEN: [(&[&str], &str); 9] = [
+    (&["Q"], "Generic 1 1 10000 2048 64 50000 [,] Q"),
+    (
+        &["Q", "a", "b", "a"],
+        "Generic 1 1 10000 2048 64 50000 [,] Q a b a",
+    ),
+    (
+        &[
+            "--workers",
+            "2",
+            "--partitions=3",
+            "Q",
+            "--spill-size",
+            "0",
+            "a",
+            "--buffer",
+            "1",
+            "--payloads",
+            "0",
+        ],
+        "Generic 2 3 0 1 0 50000 [,,] Q a",
+    ),
+    (
+        &[
+            "--sink", "number", "--chunk", "7", "--rows", "0", "--format", "csv", "Q",
+        ],
+        "Primitive 1 1 10000 2048 64 7 [,] rows=0 Q",
+    ),
+    (
+        &[
+            "--workers",
+            "3",
+            "--actions",
+            "nmd,,m",
+            "--spill-dir",
+            "x y",
+            "--sink=text",
+            "Q",
+        ],
+        "Text 3 1 10000 2048 64 50000 [nmd,,m,] dir=x y Q",
+    ),
+    (
+        &["--workers", "3", "--actions", "d,", "Q"],
+        "Generic 3 1 10000 2048 64 50000 [d,,,] Q",
+    ),
+    (
+        &["--actions", "", "Q"],
+        "Generic 1 1 10000 2048 64 50000 [,] Q",
+    ),
+    (
+        &[
+            "--rows",
+            "18446744073709551615",
+            "--partitions",
+            "04096",
+            "Q",
+        ],
+        "Generic 1 4096 10000 2048 64 50000 [,] rows=18446744073709551615 Q",
+    ),
+    (
+        &["--chunk", "1", "--", "--rows", "-"],
+        "Generic 1 1 10000 2048 64 1 [,] --rows -",
+    ),
+];
+
+#[test]
+fn words_that_are_taken(rt: HostRuntime) -> Result<(), Fail> {
+    for case in TAKEN {
+        let shown = show_words(rt.alloc(), case.0)?;
+        assert!(rt; shown.as_str() == case.1);
+    }
+    Ok(())
+}
+
+const REFUSED: [&[&str]; 30] = [
+    &[],
+    &["--help"],
+    &["-h", "Q"],
+    &["--version", "Q"],
+    &["--unknown", "1", "Q"],
+    &["-x", "Q"],
+    &["--workers", "0", "Q"],
+    &["--workers", "257", "Q"],
+    &["--workers", "1", "--workers", "1", "Q"],
+    &["--workers", "Q"],
+    &["Q", "--workers"],
+    &["--workers", "", "Q"],
+    &["--workers", "+1", "Q"],
+    &["--workers", "1x", "Q"],
+    &["--partitions", "4097", "Q"],
+    &["--partitions", "0", "Q"],
+    &["--buffer", "0", "Q"],
+    &["--chunk", "0", "Q"],
+    &["--chunk", "-1", "Q"],
+    &["--rows", "18446744073709551616", "Q"],
+    &["--rows", "000000000000000000001", "Q"],
+    &["--spill-size", "99999999999999999999", "Q"],
+    &["--payloads", "\u{0661}", "Q"],
+    &["--sink", "Generic", "Q"],
+    &["--format", "json", "Q"],
+    &["--actions", "n,", "Q"],
+    &["--actions", "x", "Q"],
+    &["--actions", "n, m", "--workers", "2", "Q"],
+    &["--generate", "7"],
+    &["--rows", "1"],
+];
+
+#[test]
+fn words_that_are_refused(rt: HostRuntime) -> Result<(), Fail> {
+    for words in REFUSED {
+        let shown = show_words(rt.alloc(), words)?;
+        assert!(rt; shown.is_empty());
+    }
+    Ok(())
+}

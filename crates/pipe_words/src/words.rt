@@ -1,0 +1,84 @@
+//! What the words of a command say.
+
+ghost use Rattle.std.specs.Prelude.{◌≡◌, ◌<◌, IfOk, IfSome, map, option_map};
+ghost use Rattle.clap.specs.Words.{found_of, rows_of};
+ghost use Rattle.pipe_words.specs.Plans.{plan_of, plan_seen, rows_plan};
+
+use crate::actions::actions_of;
+use crate::command::{find_in, value_of, words_of};
+use crate::numbers::{limit_of, number_or};
+use crate::options::{is_format, limits_of};
+use crate::plan::Plan;
+use clap::ArgMatches;
+use pipe_columns::Text;
+use std::alloc::{AllocError, Global};
+
+/// A copy of a text, if there is one.
+fn copy_of(alloc: Global, value: Option<&str>) -> Result<Option<Text>, AllocError>
+    ensures { IfOk result (λ o. o ≡ option_map (λ s. s.now) value.entry) }
+{
+    match value {
+        Some(text) => Ok(Some(Text::new(alloc, text)?)),
+        None => Ok(None),
+    }
+}
+
+/// What matches say, where each value is one of its option and there is a word.
+fn read_matches(alloc: Global, matches: &ArgMatches<'_>) -> Result<Option<Plan>, AllocError>
+    ensures plan { IfOk result (λ o. option_map plan_seen o
+        ≡ rows_plan (rows_of (found_of matches.now))) }
+    ensures chunk { IfOk result (λ o. IfSome o (λ p. 0 < p.chunk)) }
+{
+    let Some(limits) = limits_of(matches) else {
+        return Ok(None);
+    };
+    let Some(chunk) = number_or(50000, 1, usize::MAX, value_of(matches, "chunk")) else {
+        return Ok(None);
+    };
+    let Some(rows) = limit_of(value_of(matches, "rows")) else {
+        return Ok(None);
+    };
+    let Some(actions) = actions_of(alloc, limits.workers, value_of(matches, "actions"))? else {
+        return Ok(None);
+    };
+    if !is_format(value_of(matches, "format")) {
+        return Ok(None);
+    }
+    let spill_dir = copy_of(alloc, value_of(matches, "spill-dir"))?;
+    let words = words_of(alloc, matches)?;
+    if words.is_empty() {
+        return Ok(None);
+    }
+    Ok(Some(Plan {
+        limits,
+        chunk,
+        actions,
+        spill_dir,
+        rows,
+        words,
+    }))
+}
+
+/// The words as they are lent.
+fn lend<'a>(alloc: Global, words: &'a [Text]) -> Result<Vec<&'a str>, AllocError>
+    ensures { IfOk result (λ v. map (λ w. w.now) v.items ≡ words.now) }
+{
+    let mut lent = Vec::new(alloc);
+    for word in words {
+        lent.push(word.as_str())?;
+    }
+    Ok(lent)
+}
+
+/// What the words of a command say; `None` where they are refused: where the command doesn't take
+/// them, a value isn't one of its option, or no word belongs to none.
+pub fn read_words(alloc: Global, words: &[Text]) -> Result<Option<Plan>, AllocError>
+    ensures plan { IfOk result (λ o. option_map plan_seen o ≡ plan_of words.now) }
+    ensures chunk { IfOk result (λ o. IfSome o (λ p. 0 < p.chunk)) }
+{
+    let lent = lend(alloc, words)?;
+    match find_in(alloc, &lent)? {
+        Some(matches) => read_matches(alloc, &matches),
+        None => Ok(None),
+    }
+}
