@@ -17,11 +17,19 @@ mod limits;
 mod opening;
 mod output;
 mod parts;
+#[cfg(test)]
+mod refusal_tests;
 mod round;
 mod round_of;
+#[cfg(test)]
+mod row_tests;
 mod run;
+#[cfg(test)]
+mod run_tests;
 mod stacking;
 mod stores;
+#[cfg(test)]
+mod test_runs;
 mod whole_run;
 
 pub use error::PipeError;
