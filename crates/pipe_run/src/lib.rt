@@ -26,6 +26,8 @@ mod row_tests;
 mod run;
 #[cfg(test)]
 mod run_tests;
+#[cfg(test)]
+mod spill_tests;
 mod stacking;
 mod stores;
 #[cfg(test)]
