@@ -1,0 +1,154 @@
+-- A run that is fed what was read, round by round.
+use Rattle.std.proofs.Common.{◌≡◌, ◌∙◌, ◌+◌, ◌<◌, ◌^◌, ◌++◌, ℕ, Bool, if◌then◌else◌, List, [], length, Option, Some, None, refl, sym, ap, subst, arith, length-append, ⊎_elim}
+use Rattle.std.specs.Prelude.{get_or}
+use Rattle.std.specs.Option.{IfSome}
+use Rattle.std.specs.List.{All, slice_index_or}
+use Rattle.std.proofs.lemmas.Bool.{cases_lt}
+use Rattle.std.proofs.lemmas.List.{append-nil, append_assoc}
+use Rattle.std.proofs.Math.ListN.{get_or-eq_default}
+use Rattle.std.proofs.lemmas.List.Elements.{All-append, All-get_or, All-nil}
+use Rattle.std.proofs.lemmas.Option.{get_or_from_slice_get, slice_get_within}
+use Rattle.pipe_columns.specs.declared.data_chunk.DataChunk.{DataChunk}
+use Rattle.pipe_columns.specs.declared.schema.Field.{Field}
+use Rattle.pipe_columns.specs.Causes.{Rose}
+use Rattle.pipe_columns.specs.Frame.{FitsSchema}
+use Rattle.pipe_csv.specs.declared.csv_error.CsvError.{CsvError}
+use Rattle.pipe_io.specs.Files.{Files}
+use Rattle.pipe_model.specs.Rows.{total_height}
+use Rattle.pipe_plan.specs.Run.{StoreSeen}
+use Rattle.pipe_global.specs.Partition.{no_store}
+use Rattle.pipe_run.specs.declared.error.PipeError.{PipeError}
+use Rattle.pipe_run.specs.declared.error.PipeError.TheVariants as pipe_error
+use Rattle.pipe_run.specs.Fed.{FedSeen}
+use Rattle.pipe_run.specs.Feeding.{IsFeedCause, NoneFell}
+use Rattle.pipe_run.specs.Finish.{IsFinishCause}
+use Rattle.pipe_run.specs.Refusals.{AreMany, IsFirstMisfit}
+use Rattle.pipe_run.proofs.Feeding.{height-append}
+use Rattle.pipe_source.specs.CsvChunks.{chunks_then, CsvChunks, Stop, too_large}
+use Rattle.pipe_source.specs.Reader.{left_of, ReaderState}
+use Rattle.tool_run.specs.declared.counted.Counted.{Counted}
+use Rattle.tool_run.specs.Reading.{AreAll, are_few, EndsBy, end_of, stop_of}
+use Rattle.tool_run.specs.Rounds.{AreTaken, are_few_behind, EndsBehind, end_behind, HasNone}
+
+-- ---- what was read
+
+-- chunks read behind others
+pub taken-then : (told : Option Files) (first old new : ReaderState) (taken more now : List DataChunk) → now ≡ taken ++ more
+    → AreTaken told first taken old → AreTaken told old more new → AreTaken told first now new
+taken-then None first old new taken more now is h g = tt
+taken-then (Some files) first old new taken more now is h g =
+    subst (λ (cs : List DataChunk). left_of files first ≡ chunks_then cs (left_of files new)) (sym is)
+    (h ∙ ap (chunks_then taken) g ∙ ap (λ (cs : List DataChunk). record { chunks = cs; stop = (left_of files new).stop }) (sym (append_assoc taken more (left_of files new).chunks)))
+
+-- once none is left, all were read
+pub taken-all : (told : Option Files) (first now : ReaderState) (taken : List DataChunk) → AreTaken told first taken now → HasNone told now → AreAll told first taken
+taken-all None first now taken h none = tt
+taken-all (Some files) first now taken h none = h ∙ ap (chunks_then taken) none ∙ ap (λ (cs : List DataChunk). record { chunks = cs; stop = None }) (append-nil taken)
+
+-- chunks are few behind others where all are
+few-then : (before : Counted) (taken more : List DataChunk) → before.chunks ≡ length taken → before.rows ≡ total_height taken → are_few (taken ++ more) ≡ are_few_behind before more
+few-then before taken more chunks rows =
+    let tall : total_height (taken ++ more) ≡ before.rows + total_height more = height-append taken more ∙ ap (λ n. n + total_height more) (sym rows) in
+    let long : length (taken ++ more) ≡ before.chunks + length more = length-append taken more ∙ ap (λ n. n + length more) (sym chunks) in
+    rw (tall, long) refl
+
+-- a reading ends behind chunks as it ends with them
+ends-then : (before : Counted) (taken : List DataChunk) (rest : CsvChunks) → before.chunks ≡ length taken → before.rows ≡ total_height taken
+    → end_of (chunks_then taken rest) ≡ end_behind before rest
+ends-then before taken rest chunks rows = ap (λ (b : Bool). if b then rest.stop else Some too_large) (few-then before taken rest.chunks chunks rows)
+
+-- an optional stop that is told of one is told of the other
+told-alike : (stop : Option Stop) (one other : Option Stop) → one ≡ other → IfSome stop (λ s. other ≡ Some s) → IfSome stop (λ s. one ≡ Some s)
+told-alike None one other is h = tt
+told-alike (Some s) one other is h = is ∙ h
+
+-- an error that says why the reading of the rest ends says why that of all ends
+pub ends-behind : (before : Counted) (told : Option Files) (first old : ReaderState) (taken : List DataChunk) (err : CsvError) → before.chunks ≡ length taken → before.rows ≡ total_height taken
+    → AreTaken told first taken old → EndsBehind before told old err → EndsBy told first err
+ends-behind before None first old taken err chunks rows h ends = tt
+ends-behind before (Some files) first old taken err chunks rows h ends =
+    told-alike (stop_of err) (end_of (left_of files first)) (end_behind before (left_of files old)) (ap end_of h ∙ ends-then before taken (left_of files old) chunks rows) ends
+
+-- ---- why a run is refused
+
+-- chunks that fit have no misfit
+no-misfit : (fields : List Field) (chunks : List DataChunk) (i : ℕ) → All (λ (c : DataChunk). FitsSchema fields c.frame) chunks → IsFirstMisfit fields chunks i → ⊥
+no-misfit fields chunks i fit is =
+    let at : get_or chunks i is.chunk ≡ is.chunk = get_or_from_slice_get chunks i is.chunk is.chunk is.at in
+    is.misfit (subst (λ (c : DataChunk). FitsSchema fields c.frame) at (All-get_or (λ (c : DataChunk). FitsSchema fields c.frame) chunks i is.chunk (slice_get_within chunks i is.chunk is.at) fit))
+
+-- and few chunks are not many
+not-many : (chunks : List DataChunk) → total_height chunks < 2 ^ 32 → length chunks < 2 ^ 32 → AreMany chunks → ⊥
+not-many chunks rows number many = ⊎_elim (λ m. omega (arith, m, rows)) (λ m. omega (arith, m, number)) many
+
+-- a count that rose since rose before
+rose-before : (before now after : List StoreSeen) (p : ℕ) → NoneFell before now
+    → Rose (slice_index_or now p no_store).faults (slice_index_or after p no_store).faults → Rose (slice_index_or before p no_store).faults (slice_index_or after p no_store).faults
+rose-before before now after p fell rose = ⊎_elim
+    (λ within. omega (arith, fell.each p within, rose))
+    (λ beyond.
+    let none : (slice_index_or before p no_store).faults ≡ 0 = ap (λ (s : StoreSeen). s.faults) (get_or-eq_default before no_store beyond) in
+    omega (arith, none, rose))
+    (cases_lt p (length before))
+
+-- a feed of few chunks that fit is refused for a store or for want of memory
+pub feed-cause : (first s : FedSeen) (chunks : List DataChunk) (stores : List StoreSeen) (err : PipeError) → NoneFell first.stores s.stores
+    → All (λ (c : DataChunk). FitsSchema s.setting.query.schema c.frame) (s.chunks ++ chunks) → total_height (s.chunks ++ chunks) < 2 ^ 32 → length (s.chunks ++ chunks) < 2 ^ 32
+    → IsFeedCause s chunks stores err → IsFinishCause first stores err
+feed-cause first s chunks stores (pipe_error.Schema i) fell fit rows number cause = absurd (no-misfit s.setting.query.schema (s.chunks ++ chunks) i fit cause)
+feed-cause first s chunks stores pipe_error.TooLarge fell fit rows number cause = absurd (not-many (s.chunks ++ chunks) rows number cause.1)
+feed-cause first s chunks stores (pipe_error.Store p) fell fit rows number cause = (cause.1, rose-before first.stores s.stores stores p fell cause.2)
+feed-cause first s chunks stores pipe_error.Memory fell fit rows number cause = tt
+feed-cause first s chunks stores pipe_error.Limits fell fit rows number cause = absurd cause
+feed-cause first s chunks stores (pipe_error.Query f) fell fit rows number cause = absurd cause
+feed-cause first s chunks stores pipe_error.Sink fell fit rows number cause = absurd cause
+feed-cause first s chunks stores (pipe_error.Damaged p n) fell fit rows number cause = absurd cause
+
+-- why a run that was fed is refused at its end, counted from where it began
+pub finish-cause : (first s : FedSeen) (stores : List StoreSeen) (err : PipeError) → NoneFell first.stores s.stores → s.setting ≡ first.setting
+    → IsFinishCause s stores err → IsFinishCause first stores err
+finish-cause first s stores (pipe_error.Store p) fell same cause = (cause.0, rose-before first.stores s.stores stores p fell cause.1)
+finish-cause first s stores (pipe_error.Damaged p n) fell same cause = rw (← same) cause
+finish-cause first s stores pipe_error.Memory fell same cause = tt
+finish-cause first s stores pipe_error.Limits fell same cause = absurd cause
+finish-cause first s stores (pipe_error.Query f) fell same cause = absurd cause
+finish-cause first s stores pipe_error.Sink fell same cause = absurd cause
+finish-cause first s stores (pipe_error.Schema i) fell same cause = absurd cause
+finish-cause first s stores pipe_error.TooLarge fell same cause = absurd cause
+
+-- none fell over two calls
+pub fell-then : (before now after : List StoreSeen) → NoneFell before now → NoneFell now after → NoneFell before after
+fell-then before now after one two = record {
+  count = two.count ∙ one.count;
+  each = λ p within. omega (arith, one.each p within, two.each p (omega (arith, within, one.count)));
+}
+
+-- nor over none
+pub fell-none : (stores : List StoreSeen) → NoneFell stores stores
+fell-none stores = record { count = refl; each = λ p within. omega arith }
+
+-- ---- before the first round
+
+-- nothing is taken yet
+pub taken-none : (told : Option Files) (r : ReaderState) (taken : List DataChunk) → taken ≡ [] → AreTaken told r taken r
+taken-none None r taken none = tt
+taken-none (Some files) r taken none = subst (λ (cs : List DataChunk). left_of files r ≡ chunks_then cs (left_of files r)) (sym none) refl
+
+-- no chunk is a misfit
+pub fit-none : (fields : List Field) (taken : List DataChunk) → taken ≡ [] → All (λ (c : DataChunk). FitsSchema fields c.frame) taken
+fit-none fields taken none = subst (All (λ (c : DataChunk). FitsSchema fields c.frame)) (sym none) (All-nil (λ (c : DataChunk). FitsSchema fields c.frame))
+
+-- ---- one round more
+
+-- chunks that fit the columns that are read, behind those that fit those of the query
+pub fit-more : (fields read : List Field) (taken more : List DataChunk) → read ≡ fields → All (λ (c : DataChunk). FitsSchema fields c.frame) taken → All (λ (c : DataChunk). FitsSchema read c.frame) more
+    → All (λ (c : DataChunk). FitsSchema fields c.frame) (taken ++ more)
+fit-more fields read taken more same one two =
+    All-append (λ (c : DataChunk). FitsSchema fields c.frame) taken more one (subst (λ (f : List Field). All (λ (c : DataChunk). FitsSchema f c.frame) more) same two)
+
+-- so many chunks of so many rows
+pub rows-more : (before after : Counted) (taken more now : List DataChunk) → now ≡ taken ++ more → before.rows ≡ total_height taken → after.rows ≡ before.rows + total_height more → after.rows ≡ total_height now
+rows-more before after taken more now is rows next = next ∙ ap (λ n. n + total_height more) rows ∙ sym (height-append taken more) ∙ ap total_height (sym is)
+
+pub chunks-more : (before after : Counted) (taken more now : List DataChunk) → now ≡ taken ++ more → before.chunks ≡ length taken → after.chunks ≡ before.chunks + length more → after.chunks ≡ length now
+chunks-more before after taken more now is chunks next = next ∙ ap (λ n. n + length more) chunks ∙ sym (length-append taken more) ∙ ap (λ (l : List DataChunk). length l) (sym is)

@@ -1,0 +1,89 @@
+use Rattle.std.proofs.Common.{rules, ◌≡◌, ◌∙◌, ◌<◌, ◌≤◌, ◌^◌, ◌++◌, List, [], length, refl, sym, ap, subst, arith, Option}
+use Rattle.std.specs.List.{All}
+use Rattle.pipe_columns.specs.declared.data_chunk.DataChunk.{DataChunk}
+use Rattle.pipe_columns.specs.Frame.{FitsSchema}
+use Rattle.pipe_io.specs.Files.{Files}
+use Rattle.pipe_model.specs.Rows.{total_height}
+use Rattle.pipe_run.specs.Setting.{Setting}
+use Rattle.pipe_source.specs.CsvChunks.{source_fields}
+use Rattle.tool_run.specs.Rounds.{AreTaken, EndsBehind, HasNone}
+use Rattle.tool_run.proofs.FeedFacts.{chunks-more, ends-behind, feed-cause, fell-none, fell-then, fit-more, fit-none, rows-more, taken-all, taken-none, taken-then}
+use Rattle.tool_run.proofs.feed_files.feed_files.Goals as goal
+
+pub loop-init : goal.loop-init
+loop-init g c =
+    let none : c.args.run.chunks ≡ [] = c.requires.none in
+    record {
+      told = refl;
+      later = omega arith;
+      setting = refl;
+      fields = c.requires.fits;
+      chunks = sym (ap (λ (l : List DataChunk). length l) none);
+      rows = sym (ap total_height none);
+      few_chunks = omega arith;
+      few_rows = omega arith;
+      rounds = omega arith;
+      fit = fit-none c.args.run.setting.query.schema c.args.run.chunks none;
+      counted = fell-none c.args.run.stores;
+      taken = taken-none (g.I.InputFiles.told c.args.input.now) c.args.reader.now c.args.run.chunks none;
+    }
+
+pub returns-in-Err-clause-cause : goal.returns-in-Err-clause-cause
+returns-in-Err-clause-cause g c =
+    let inv = c.loop.invariant in
+    ends-behind c.loop.before (g.I.InputFiles.told c.args.input.now) c.args.reader.now c.loop.reader c.loop.run.chunks c.in-Err.error inv.chunks inv.rows inv.taken
+    (subst (λ (t : Option Files). EndsBehind c.loop.before t c.loop.reader c.in-Err.error) inv.told c.in-Err.ensures.ends)
+
+pub returns-in-Err-feed-clause-cause : goal.returns-in-Err-feed-clause-cause
+returns-in-Err-feed-clause-cause g c =
+    let inv = c.loop.invariant in
+    let more : List DataChunk = c.in-Ok.read.0.items in
+    let all : List DataChunk = c.loop.run.chunks ++ more in
+    let rows : c.in-Ok.read.1.rows ≡ total_height all = rows-more c.loop.before c.in-Ok.read.1 c.loop.run.chunks more all refl inv.rows c.in-Ok.ensures.rows in
+    let chunks : c.in-Ok.read.1.chunks ≡ length all = chunks-more c.loop.before c.in-Ok.read.1 c.loop.run.chunks more all refl inv.chunks c.in-Ok.ensures.chunks in
+    let fit : All (λ (x : DataChunk). FitsSchema c.args.run.setting.query.schema x.frame) all =
+    fit-more c.args.run.setting.query.schema (source_fields c.loop.reader.options c.loop.reader.schema) c.loop.run.chunks more inv.fields inv.fit c.in-Ok.ensures.fit in
+    feed-cause c.args.run c.loop.run more _ c.in-Err-feed.error inv.counted
+    (subst (λ (s : Setting). All (λ (x : DataChunk). FitsSchema s.query.schema x.frame) all) (sym inv.setting) fit)
+    (subst (λ n. n < 2 ^ 32) rows c.in-Ok.ensures.few.1) (subst (λ n. n < 2 ^ 32) chunks c.in-Ok.ensures.few.0)
+    c.in-Err-feed.ensures.cause
+
+pub returns-then-is_last-clause-all : goal.returns-then-is_last-clause-all
+returns-then-is_last-clause-all g c =
+    let inv = c.loop.invariant in
+    let told : Option Files = g.I.InputFiles.told c.args.input.now in
+    let more : List DataChunk = c.in-Ok.read.0.items in
+    let step : AreTaken told c.loop.reader more c.read_round.new.reader = subst (λ (t : Option Files). AreTaken t c.loop.reader more c.read_round.new.reader) inv.told c.in-Ok.ensures.taken in
+    let last : length more < c.args.most = search rules in
+    let none : HasNone told c.read_round.new.reader = subst (λ (t : Option Files). HasNone t c.read_round.new.reader) inv.told (c.in-Ok.ensures.over last) in
+    taken-all told c.args.reader.now c.read_round.new.reader c.in-Ok-feed.run'.chunks
+    (taken-then told c.args.reader.now c.loop.reader c.read_round.new.reader c.loop.run.chunks more c.in-Ok-feed.run'.chunks c.in-Ok-feed.ensures.chunks inv.taken step) none
+
+pub returns-then-is_last-clause-counted : goal.returns-then-is_last-clause-counted
+returns-then-is_last-clause-counted g c = fell-then c.args.run.stores c.loop.run.stores c.in-Ok-feed.run'.stores c.loop.invariant.counted c.in-Ok-feed.ensures.counted
+
+pub loop-preserved : goal.loop-preserved
+loop-preserved g c =
+    let inv = c.loop.invariant in
+    let told : Option Files = g.I.InputFiles.told c.args.input.now in
+    let more : List DataChunk = c.in-Ok.read.0.items in
+    let now : List DataChunk = c.in-Ok-feed.run'.chunks in
+    let is : now ≡ c.loop.run.chunks ++ more = c.in-Ok-feed.ensures.chunks in
+    let step : AreTaken told c.loop.reader more c.read_round.new.reader = subst (λ (t : Option Files). AreTaken t c.loop.reader more c.read_round.new.reader) inv.told c.in-Ok.ensures.taken in
+    let fit : All (λ (x : DataChunk). FitsSchema c.args.run.setting.query.schema x.frame) (c.loop.run.chunks ++ more) =
+    fit-more c.args.run.setting.query.schema (source_fields c.loop.reader.options c.loop.reader.schema) c.loop.run.chunks more inv.fields inv.fit c.in-Ok.ensures.fit in
+    let full : c.args.most ≤ length more = search rules in
+    record {
+      told = search rules;
+      later = search rules;
+      setting = c.in-Ok-feed.ensures.setting ∙ inv.setting;
+      fields = search rules;
+      chunks = chunks-more c.loop.before c.in-Ok.read.1 c.loop.run.chunks more now is inv.chunks c.in-Ok.ensures.chunks;
+      rows = rows-more c.loop.before c.in-Ok.read.1 c.loop.run.chunks more now is inv.rows c.in-Ok.ensures.rows;
+      few_chunks = c.in-Ok.ensures.few.0;
+      few_rows = c.in-Ok.ensures.few.1;
+      rounds = omega (arith, inv.rounds, c.in-Ok.ensures.chunks, full, c.requires.most);
+      fit = subst (All (λ (x : DataChunk). FitsSchema c.args.run.setting.query.schema x.frame)) (sym is) fit;
+      counted = fell-then c.args.run.stores c.loop.run.stores c.in-Ok-feed.run'.stores inv.counted c.in-Ok-feed.ensures.counted;
+      taken = taken-then told c.args.reader.now c.loop.reader c.read_round.new.reader c.loop.run.chunks more now is inv.taken step;
+    }

@@ -1,0 +1,27 @@
+use Rattle.std.proofs.Common.{◌≡◌, ◌<◌, ◌≤◌, ◌^◌, length}
+use Rattle.std.specs.List.{All}
+use Rattle.pipe_columns.specs.Frame.{FitsSchema}
+use Rattle.pipe_model.specs.Rows.{total_height}
+use Rattle.pipe_run.specs.Feeding.{NoneFell}
+use Rattle.pipe_source.specs.CsvChunks.{source_fields}
+use Rattle.tool_run.specs.Rounds.{AreTaken}
+use Rattle.tool_run.proofs.feed_files.feed_files.Given as goal
+
+-- the chunks that were read so far are those that the run was fed, and each round read one or more
+abbrev pub invariant-loop : goal.invariant-loop
+invariant-loop g l =
+    let input = g.I.InputFiles in
+    record {
+      told : input.told l.input ≡ input.told l.fn.input;
+      later : input.faults l.fn.input ≤ input.faults l.input;
+      setting : l.run.setting ≡ l.fn.run.setting;
+      fields : source_fields l.reader.options l.reader.schema ≡ l.fn.run.setting.query.schema;
+      chunks : l.before.chunks ≡ length l.run.chunks;
+      rows : l.before.rows ≡ total_height l.run.chunks;
+      few_chunks : l.before.chunks < 2 ^ 32;
+      few_rows : l.before.rows < 2 ^ 32;
+      rounds : l.counter ≤ l.before.chunks;
+      fit : All (λ c. FitsSchema l.fn.run.setting.query.schema c.frame) l.run.chunks;
+      counted : NoneFell l.fn.run.stores l.run.stores;
+      taken : AreTaken (input.told l.fn.input) l.fn.reader l.run.chunks l.reader;
+    }

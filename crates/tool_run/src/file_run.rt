@@ -1,0 +1,73 @@
+//! A run over the chunks of files.
+
+ghost use Rattle.std.specs.Prelude.{◌≡◌, ◌<◌, [], IfErr, IfOk, map};
+ghost use Rattle.pipe_columns.specs.Causes.{Rose};
+ghost use Rattle.pipe_csv.specs.declared.csv_error.CsvError.TheVariants as csv_error;
+ghost use Rattle.pipe_source.specs.CsvChunks.{source_fields};
+ghost use Rattle.tool_run.specs.Answering.{HaveFront, IsAnsweredFrom, IsRunEnd};
+ghost use Rattle.tool_run.specs.declared.error.FileRunError.TheVariants as error;
+
+use crate::error::FileRunError;
+use crate::feed_files::feed_files;
+use pipe_global::Gate;
+use pipe_io::InputFiles;
+use pipe_run::{GenericRun, GroupByOutput};
+use pipe_source::ChunkReader;
+use pipe_spill::SpillStore;
+use std::alloc::Global;
+use std::sync::Wait;
+use std::thread::Threads;
+
+/// Feeds all chunks that a reader has left into a run that was fed none, so many at a time, and ends
+/// the run. The stores come back in order.
+pub fn run_files<
+    'a,
+    S: SpillStore + Drop + Send,
+    I: InputFiles,
+    G: Gate + Sync,
+    H: Threads + Wait + Sync,
+>(
+    rt: &H,
+    alloc: Global,
+    gate: &G,
+    run: GenericRun<'a, S>,
+    input: &mut I,
+    reader: &mut ChunkReader,
+    most: usize,
+) -> (Result<GroupByOutput, FileRunError>, Vec<S>)
+    requires most { 0 < most }
+    requires none { run.chunks ≡ [] }
+    requires fits { source_fields reader.old.options reader.old.schema
+        ≡ run.setting.query.schema }
+    ensures answered { IfOk result.0 (λ out. IsAnsweredFrom run.entry.setting
+        (I.told input.old) reader.old out (map (λ s. record {
+          held = S.held s;
+          told = S.told s;
+          faults = S.faults s;
+          sure = S.sure s;
+        }) result.1.items)) }
+    ensures cause { IfErr result.0 (λ e. IsRunEnd run.entry (I.told input.old) reader.old (map (λ s. record {
+      held = S.held s;
+      told = S.told s;
+      faults = S.faults s;
+      sure = S.sure s;
+    }) result.1.items) e) }
+    ensures failed { IfErr result.0 (λ e. e ≡ error.Read csv_error.Input
+        → Rose (I.faults input.old) (I.faults input.new)) }
+    ensures back { IfErr result.0 (λ _. HaveFront run.entry.setting (map (λ s. record {
+      held = S.held s;
+      told = S.told s;
+      faults = S.faults s;
+      sure = S.sure s;
+    }) result.1.items)) }
+{
+    let run = match feed_files(rt, alloc, gate, run, input, reader, most) {
+        Ok(run) => run,
+        Err((error, stores)) => return (Err(error), stores),
+    };
+    let (ended, stores) = run.finish(rt, alloc, gate);
+    match ended {
+        Ok(output) => (Ok(output), stores),
+        Err(error) => (Err(FileRunError::Run(error)), stores),
+    }
+}
