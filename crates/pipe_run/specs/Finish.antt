@@ -13,8 +13,8 @@ pub record HasPutUntold (former now : StoreSeen) (n : ℕ) : Type 0 where
   pub first : former.held ≤ n
   pub last : n < now.held
 
--- why a run that was fed gives no answer: a store's faults rose since, or a store that doesn't tell gave
--- another frame than the run put
+-- why a run that was fed gives no answer: a store's faults rose since; or a store doesn't tell, and the
+-- frame that is named is one that the run put there; or memory ran out
 abbrev pub IsFinishCause : FedSeen → List StoreSeen → PipeError → Type 0
 IsFinishCause s stores (error.Store p) = (p < length stores)
     × Rose (slice_index_or s.stores p no_store).faults (slice_index_or stores p no_store).faults

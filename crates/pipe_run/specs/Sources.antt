@@ -121,8 +121,8 @@ abbrev pub LeavesOthers : SourceSeen → SourceSeen → Type 0
 LeavesOthers s new = (p : ℕ) (d : PartitionSeen) → new.given ≤ p
     → slice_index_or new.partitions p d ≡ slice_index_or s.partitions p d
 
--- why nothing was given: of a partition that was still to be asked the store's faults rose, or the
--- store doesn't tell and what it gave for a mark is another frame; or memory ran out
+-- why nothing was given: of a partition that was still to be asked the store's faults rose; or the
+-- store doesn't tell, and the frame that is named has a mark; or memory ran out
 abbrev pub IsGiveCause : SourceSeen → SourceSeen → BatchError → Type 0
 IsGiveCause s new (batch_error.Store p) = (s.given ≤ p) × RoseFrom s.partitions p new.partitions
 IsGiveCause s new (batch_error.Damaged p n) =

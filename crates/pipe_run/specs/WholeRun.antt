@@ -28,8 +28,8 @@ pub record CanRun (x : Setting) (chunks : List DataChunk) : Type 0 where
   pub feed : CanFeed x.query.schema chunks
 
 -- why a run over chunks was refused. Limits, a fault of the query, a chunk that doesn't fit and too
--- many rows or chunks are told in this order, each only where it is so; then a store's faults rose, or a
--- store that doesn't tell gave another frame than the run put
+-- many rows or chunks are told in this order, each only where it is so; then a store's faults rose; or a
+-- store doesn't tell, and the frame that is named is one that the run put there; or memory ran out
 abbrev pub IsRunCause : Setting → List DataChunk → List StoreSeen → PipeError → Type 0
 IsRunCause x chunks stores error.Limits = setting_fits x ≡ false
 IsRunCause x chunks stores (error.Query f) =

@@ -22,8 +22,8 @@ pub record IsAnsweredFrom
   pub few : are_few chunks ≡ true
   pub answered : IsAnswered (run_of x false chunks) out stores
 
--- why a run over files ends early: their reading does; or a store's faults rose, or a store that
--- doesn't tell gave another frame than the run put, or memory ran out
+-- why a run over files ends early: their reading does; or a store's faults rose; or a store doesn't
+-- tell, and the frame that is named is one that the run put there; or memory ran out
 abbrev pub IsRunEnd :
     FedSeen → Option Files → ReaderState → List StoreSeen → FileRunError → Type 0
 IsRunEnd s told first stores (error.Read e) = EndsBy told first e
