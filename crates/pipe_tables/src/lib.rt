@@ -21,6 +21,7 @@ mod part_size;
 mod parts;
 mod query_groups;
 mod reserve;
+mod spares;
 mod spill_partitions;
 mod spot;
 mod take;
@@ -41,9 +42,13 @@ mod key_tests;
 #[cfg(test)]
 mod local_tests;
 #[cfg(test)]
+mod memory_tests;
+#[cfg(test)]
 mod placed_tests;
 #[cfg(test)]
 mod slice_tests;
+#[cfg(test)]
+mod step_tests;
 #[cfg(test)]
 mod table_tests;
 #[cfg(test)]

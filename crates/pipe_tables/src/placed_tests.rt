@@ -9,7 +9,7 @@ use crate::{AggHashTable, LentEnd};
 use pipe_aggs::{AExpr, CheckedQuery};
 use pipe_columns::{AnyValue, DataChunk, DataFrame, DataType, Place};
 use pipe_groups::{PlacedGroups, Places};
-use std::alloc::Global;
+use std::alloc::{AllocError, Global};
 use std::process::Abort;
 use std::test::Fail;
 
@@ -57,8 +57,9 @@ fn stacked(
     Ok((frame, firsts))
 }
 
-/// The rows of a frame of four in the order of their first places, under a slice.
-fn ordered(
+/// The rows of a frame of four in the order of their first places, under a slice. They are asked for
+/// again where memory was wanting.
+pub(crate) fn ordered(
     alloc: Global,
     frame: DataFrame,
     slice: &mut Option<(usize, usize)>,
@@ -67,7 +68,11 @@ fn ordered(
         return Err("not four groups".into());
     }
     let firsts = Places::new(Vec::from_array(alloc, FIRSTS)?);
-    Ok(PlacedGroups { frame, firsts }.in_order_of_rows(alloc, slice)?)
+    let placed = PlacedGroups { frame, firsts };
+    match placed.in_order_of_rows(alloc, slice) {
+        Ok(frame) => Ok(frame),
+        Err(AllocError) => Ok(placed.in_order_of_rows(alloc, slice)?),
+    }
 }
 
 fn assert_ordered(

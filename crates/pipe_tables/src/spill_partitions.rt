@@ -74,6 +74,11 @@ impl SpillPartitions {
         *self.buffers.allocator()
     }
 
+    /// The partition of a key.
+    pub(crate) fn partition(&self, key: &[u8]) -> usize {
+        partition_of(key, self.buffers.len())
+    }
+
     /// Puts a row behind those of its key's partition. Where it fills the buffer, the rows leave.
     pub fn insert(&mut self, row: SpillRow) -> LocalEnd
         ensures taken { is_taken result ≡ true → self.new ≡ buffered row self.old }
@@ -87,7 +92,7 @@ impl SpillPartitions {
             Err(row) => LocalEnd::Memory(row),
             Ok(count) if count < self.buffer_size => LocalEnd::Done,
             Ok(_) => {
-                let rows = take_at(&mut self.buffers, partition);
+                let rows = take_at(&mut self.buffers, partition, self.buffer_size);
                 LocalEnd::Payload(partition, SpillPayload { rows })
             }
         }
@@ -109,7 +114,7 @@ impl SpillPartitions {
         ensures emptied { self.new ≡ with_rows partition [] self.old }
         ensures buffers { AreBuffers self.new }
     {
-        let rows = take_at(&mut self.buffers, partition);
+        let rows = take_at(&mut self.buffers, partition, 0);
         if rows.is_empty() {
             return None;
         }
@@ -154,13 +159,23 @@ fn push_at(
     }
 }
 
-/// Takes the rows of a buffer, which is then empty.
-fn take_at(buffers: &mut Vec<Vec<SpillRow>>, partition: usize) -> Vec<SpillRow>
+/// No rows, with room for so many where memory can be had.
+fn room_for(alloc: Global, rows: usize) -> Vec<SpillRow>
+    ensures { result.items ≡ [] }
+{
+    match Vec::with_capacity(alloc, rows) {
+        Ok(none) => none,
+        Err(AllocError) => Vec::new(alloc),
+    }
+}
+
+/// Takes the rows of a buffer, which is then empty, with room for so many where memory can be had.
+fn take_at(buffers: &mut Vec<Vec<SpillRow>>, partition: usize, room: usize) -> Vec<SpillRow>
     requires { partition < vec_len buffers.old }
     ensures taken { result.items ≡ slice_index_or (rows_of buffers.old.items) partition [] }
     ensures emptied { rows_of buffers.new.items
         ≡ slice_set (rows_of buffers.old.items) partition [] }
 {
     let alloc = *buffers.allocator();
-    mem::replace(&mut buffers[partition], Vec::new(alloc))
+    mem::replace(&mut buffers[partition], room_for(alloc, room))
 }

@@ -36,7 +36,12 @@ fn passes(held: usize, limit: Option<usize>) -> bool
 /// The index of the group of a key, which has a hash. It is looked for where the hint says, and then
 /// along the chain.
 #[inline(always)]
-fn find_near(keyed: &KeyedGroups, hints: &mut Hints, hash: u64, key: &[u8]) -> Option<usize>
+pub(crate) fn find_near(
+    keyed: &KeyedGroups,
+    hints: &mut Hints,
+    hash: u64,
+    key: &[u8],
+) -> Option<usize>
     requires { hash ≡ hash_of key.now }
     ensures { IsFound keyed.now.groups key.now result }
 {

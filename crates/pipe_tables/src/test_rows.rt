@@ -20,7 +20,7 @@ use std::test::Fail;
 fn added(arena: &mut Arena, expr: AExpr) -> Result<Node, Fail> {
     match arena.add(expr) {
         Ok(node) => Ok(node),
-        Err(_) => Err("no node".into()),
+        Err(_) => Err("Arena::add wants memory".into()),
     }
 }
 

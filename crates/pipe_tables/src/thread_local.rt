@@ -15,6 +15,7 @@ ghost use Rattle.pipe_tables.specs.Tables.{TakesOne};
 use crate::hash_table::AggHashTable;
 use crate::insert_end::{InsertEnd, LentEnd};
 use crate::local_end::{LentLocalEnd, LocalEnd};
+use crate::spares::Spares;
 use crate::spill_partitions::SpillPartitions;
 use pipe_aggs::CheckedQuery;
 use pipe_inputs::ChunkRows;
@@ -29,6 +30,7 @@ pub struct ThreadLocalTable {
     pub(crate) table: AggHashTable,
     pub(crate) buffers: SpillPartitions,
     pub(crate) overflowed: bool,
+    pub(crate) spares: Spares,
 }
 
 impl Model for ThreadLocalTable {
@@ -68,10 +70,12 @@ impl ThreadLocalTable {
     {
         let table = AggHashTable::new(alloc, query, Some(spill_size))?;
         let buffers = SpillPartitions::new(alloc, partitions, buffer_size)?;
+        let spares = Spares::new(alloc, partitions)?;
         Ok(ThreadLocalTable {
             table,
             buffers,
             overflowed: false,
+            spares,
         })
     }
 
@@ -89,10 +93,12 @@ impl ThreadLocalTable {
     {
         let table = self.table.split()?;
         let buffers = self.buffers.split()?;
+        let spares = self.spares.split()?;
         Ok(ThreadLocalTable {
             table,
             buffers,
             overflowed: false,
+            spares,
         })
     }
 
@@ -146,10 +152,13 @@ impl ThreadLocalTable {
         match self.table.insert_lent(key, rows, row) {
             LentEnd::Done => LentLocalEnd::Done,
             LentEnd::Memory => LentLocalEnd::Memory,
-            LentEnd::Overflow => match own_row(self.buffers.alloc(), key, rows, row) {
-                Ok(row) => self.overflow(row).lent(),
-                Err(AllocError) => LentLocalEnd::Memory,
-            },
+            LentEnd::Overflow => {
+                let partition = self.buffers.partition(key);
+                match own_row(&mut self.spares, partition, key, rows, row) {
+                    Ok(row) => self.overflow(row).lent(),
+                    Err(AllocError) => LentLocalEnd::Memory,
+                }
+            }
         }
     }
 
@@ -171,9 +180,10 @@ impl ThreadLocalTable {
     }
 }
 
-/// A row of a chunk as it is spilled, of its own.
+/// A row of a chunk as it is spilled, of its own, with memory beside that of others of its partition.
 fn own_row(
-    alloc: Global,
+    spares: &mut Spares,
+    partition: usize,
     key: &[u8],
     rows: &ChunkRows<'_>,
     row: usize,
@@ -184,11 +194,13 @@ fn own_row(
     ensures key { IfOk result (λ r. r.key ≡ key.now) }
     ensures values { IfOk result (λ r. r.values ≡ (row_at rows.now row).inputs) }
 {
-    let key = Vec::from_slice(alloc, key)?;
-    let values = rows.own_inputs(alloc, row)?;
+    let mut inputs = rows.own_inputs(spares.alloc(), row)?;
+    let (mut bytes, mut values) = spares.take(partition, key.len(), inputs.len());
+    bytes.extend_from_slice(key)?;
+    values.append(&mut inputs)?;
     Ok(SpillRow {
         place: rows.place(row),
-        key: KeyBytes::new(key),
+        key: KeyBytes::new(bytes),
         values: Values::new(values),
     })
 }

@@ -6,6 +6,7 @@ ghost use Rattle.pipe_aggs.specs.QueryTrees.{query_tree};
 ghost use Rattle.pipe_groups.specs.Holds.{HoldFewer};
 ghost use Rattle.pipe_model.specs.Output.{key_types};
 ghost use Rattle.pipe_spill.specs.SpillRow.{AreRows};
+ghost use Rattle.pipe_tables.specs.Tables.{HoldFewTogether};
 
 use crate::{AggHashTable, InsertEnd, LentEnd};
 use pipe_aggs::CheckedQuery;
@@ -13,7 +14,7 @@ use pipe_columns::DataChunk;
 use pipe_groups::Eval;
 use pipe_inputs::ChunkRows;
 use pipe_spill::SpillRow;
-use std::alloc::Global;
+use std::alloc::{AllocError, Global};
 use std::marker::Model;
 use std::test::Fail;
 
@@ -91,6 +92,15 @@ fn put_last(table: &mut AggHashTable, rows: &mut Vec<SpillRow>) -> LentEnd
     }
 }
 
+/// Makes room in a table for rows.
+fn cover(table: &mut AggHashTable, rows: &[SpillRow]) -> Result<(), AllocError>
+    ensures shape { table.new.shape ≡ table.old.shape }
+    ensures few { (more : ℕ) → HoldFewer table.old.shape table.old.groups more
+        → HoldFewer table.old.shape table.new.groups more }
+{
+    table.reserve(rows)
+}
+
 impl TwoTables {
     /// Two empty tables with a limit, and the rows of a chunk.
     pub(crate) fn new(
@@ -115,9 +125,20 @@ impl TwoTables {
         put_last(&mut self.other, &mut self.rows)
     }
 
+    /// Makes room in the first table for the rows that are left.
+    pub(crate) fn reserve(&mut self) -> Result<(), AllocError> {
+        cover(&mut self.table, &self.rows)
+    }
+
+    /// How many keys the first table holds.
+    pub(crate) fn held(&self) -> usize {
+        self.table.len()
+    }
+
     /// Both tables, without the rows that are left.
     pub(crate) fn into_tables(self) -> (AggHashTable, AggHashTable)
-        ensures { result.1.shape ≡ result.0.shape }
+        ensures shape { result.1.shape ≡ result.0.shape }
+        ensures few { HoldFewTogether result.0 result.1 }
     {
         (self.table, self.other)
     }

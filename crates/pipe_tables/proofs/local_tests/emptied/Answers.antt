@@ -1,20 +1,18 @@
-use Rattle.std.proofs.Common.{◌≡◌, ◌∙◌, [], List, refl, arith}
-use Rattle.std.specs.Prelude.{All}
+use Rattle.std.proofs.Common.{◌≡◌, [], List, refl, arith}
 use Rattle.std.proofs.lemmas.List.Elements.{All-nil, All-replicate}
 use Rattle.pipe_spill.specs.SpillRow.{IsRow}
 use Rattle.pipe_spill.specs.declared.spill_row.SpillRow.{SpillRow}
 use Rattle.pipe_groups.proofs.HoldFacts.{holds-none}
-use Rattle.pipe_tables.specs.LocalTable.{Local}
 use Rattle.pipe_tables.proofs.local_tests.emptied.Goals as goal
 
 pub combine-requires-clause-none_waits : goal.combine-requires-clause-none_waits
-combine-requires-clause-none_waits c = rw c.in_ok-spilled.ensures.emptied (All-replicate (λ (rows : List SpillRow). rows ≡ []) _ [] refl)
+combine-requires-clause-none_waits c = rw c.in_ok-spilled.ensures.ok (All-replicate (λ (rows : List SpillRow). rows ≡ []) _ [] refl)
 
 pub combine-requires-clause-other_none_waits : goal.combine-requires-clause-other_none_waits
 combine-requires-clause-other_none_waits c = rw c.in_ok-other.ensures.rows (All-replicate (λ (rows : List SpillRow). rows ≡ []) _ [] refl)
 
 pub combine-requires-clause-few : goal.combine-requires-clause-few
-combine-requires-clause-few c = rw c.in_ok-spilled.ensures.emptied (record {
+combine-requires-clause-few c = rw c.in_ok-spilled.ensures.ok (record {
   rows = c.requires.rows;
   others = [];
   holds = c.requires.holds;

@@ -1,4 +1,4 @@
-use Rattle.std.proofs.Common.{◌≡◌, ◌∙◌, ◌<◌, ◌≤◌, ◌+◌, ℕ, true, List, length, take, get_or, ap, sym, subst, refl, arith}
+use Rattle.std.proofs.Common.{◌≡◌, ◌∙◌, ◌<◌, ◌≤◌, ◌+◌, ℕ, true, List, length, take, ap, sym, subst, refl, arith}
 use Rattle.std.specs.Prelude.{All}
 use Rattle.std.proofs.lemmas.List.{length-take}
 use Rattle.std.proofs.lemmas.List.Elements.{All-take}
@@ -39,8 +39,8 @@ loop-row-init c =
 pub encode_row-requires-clause-there : goal.encode_row-requires-clause-there
 encode_row-requires-clause-there c = omega (arith, count (query_tree c.args.query.now) c.args.chunk.now.frame c.in_ok-rows.rows c.in_ok-rows.ensures.rows, c.height-height.ensures.height, c.loop-row-test.true)
 
-pub insert_lent-requires-clause-there : goal.insert_lent-requires-clause-there
-insert_lent-requires-clause-there c = omega (arith, count (query_tree c.args.query.now) c.args.chunk.now.frame c.in_ok-rows.rows c.in_ok-rows.ensures.rows, c.height-height.ensures.height, c.loop-row-test.true)
+pub insert-requires-clause-there : goal.insert-requires-clause-there
+insert-requires-clause-there c = omega (arith, count (query_tree c.args.query.now) c.args.chunk.now.frame c.in_ok-rows.rows c.in_ok-rows.ensures.rows, c.height-height.ensures.height, c.loop-row-test.true)
 
 pub encode_row-requires-clause-typed : goal.encode_row-requires-clause-typed
 encode_row-requires-clause-typed c =
@@ -49,12 +49,12 @@ encode_row-requires-clause-typed c =
     let typed : IsRowOf q (row_at c.in_ok-rows.rows n) = subst (IsRowOf q) (sym (unwrap_or-slice_get c.in_ok-rows.rows n no_row)) (c.in_ok-rows.ensures.typed n no_row (encode_row-requires-clause-there c)) in
     rw c.key_types-types.ensures typed.key.fit
 
-pub insert_lent-requires-clause-typed : goal.insert_lent-requires-clause-typed
-insert_lent-requires-clause-typed c =
+pub insert-requires-clause-typed : goal.insert-requires-clause-typed
+insert-requires-clause-typed c =
     let q : QueryTree = query_tree c.args.query.now in
     let n = c.loop-row.row in
     let all = chunk-values q 0 c.args.chunk.now.frame c.in_ok-rows.rows c.in_ok-rows.ensures.rows c.in_ok-rows.ensures.typed (omega arith) (omega (arith, c.height-height.ensures.height)) in
-    let typed : HasValues (key_types q) (input_types q) (row_at c.in_ok-rows.rows n) = subst (HasValues (key_types q) (input_types q)) (sym (unwrap_or-slice_get c.in_ok-rows.rows n no_row)) (all n no_row (insert_lent-requires-clause-there c)) in
+    let typed : HasValues (key_types q) (input_types q) (row_at c.in_ok-rows.rows n) = subst (HasValues (key_types q) (input_types q)) (sym (unwrap_or-slice_get c.in_ok-rows.rows n no_row)) (all n no_row (insert-requires-clause-there c)) in
     rw c.loop-row.invariant.shape (spilled_is_row (key_types q) (input_types q) (row_at c.in_ok-rows.rows n) typed)
 
 -- the rows have values of the types
@@ -68,8 +68,8 @@ room l q frame n t all few after =
     after-room l (shape_of q) (take n (chunk_rows q 0 frame)) t (All-take (HasValues (key_types q) (input_types q)) n (chunk_rows q 0 frame) all)
     (omega (arith, length-take n (chunk_rows q 0 frame), count q frame (chunk_rows q 0 frame) refl, few)) after
 
-pub insert_lent-requires-clause-few : goal.insert_lent-requires-clause-few
-insert_lent-requires-clause-few c =
+pub insert-requires-clause-few : goal.insert-requires-clause-few
+insert-requires-clause-few c =
     let q : QueryTree = query_tree c.args.query.now in
     let few : c.args.chunk.now.frame.height ≤ 1000 = omega (arith, c.height-height.ensures.height) in
     let all = values q c.args.chunk.now.frame c.in_ok-rows.rows c.in_ok-rows.ensures.rows c.in_ok-rows.ensures.typed few in
@@ -84,12 +84,12 @@ loop-row-preserved c =
     let n = c.loop-row.row in
     let some : n < length rows = omega (arith, count q c.args.chunk.now.frame rows refl, c.height-height.ensures.height, c.loop-row-test.true) in
     let shape : IsShape (shape_of q) = record { query = q; of_query = refl; groupable = c.query.ensures.groupable } in
-    let taken : is_taken_lent c.insert_lent.result ≡ true = elim c.match-insert_lent.branch [
+    let taken : is_taken_lent c.insert.result ≡ true = elim c.match-insert.branch [
       | in-Done+in_ok-push-in-Done w ↦ ap is_taken_lent w.in-Done.is
       | in-Payload+in_ok-push-in-Payload w ↦ ap is_taken_lent w.in-Payload.is
     ] in
-    let made : c.insert_lent.new.self ≡ with_row (spilled (key_types q) (row_at rows n)) c.loop-row.table =
-    c.insert_lent.ensures.taken taken
+    let made : c.insert.new.table ≡ with_row (spilled (key_types q) (row_at rows n)) c.loop-row.table =
+    c.insert.ensures taken
     ∙ ap (λ (h : Shape). with_row (spilled h.key_types (row_at c.in_ok-rows.rows n)) c.loop-row.table) c.loop-row.invariant.shape
     ∙ ap (λ (rs : List Row). with_row (spilled (key_types q) (row_at rs n)) c.loop-row.table) c.in_ok-rows.ensures.rows in
     subst (λ (t : Local). IsAfter c.args.limits.now (shape_of q) (take (n + 1) rows) t) (sym made)

@@ -1,4 +1,4 @@
-use Rattle.std.proofs.Common.{◌≡◌, ◌∙◌, [], ◌∷◌, ℕ, refl, subst, sym}
+use Rattle.std.proofs.Common.{◌∙◌, [], ◌∷◌, ℕ, refl, subst, sym}
 use Rattle.std.specs.List.{IsDistinct}
 use Rattle.std.specs.Ordering.{eq_by_cmp}
 use Rattle.pipe_columns.specs.Place.{place_cmp}
@@ -15,3 +15,6 @@ apart = ((refl, (refl, (refl, tt))), ((refl, (refl, tt)), ((refl, tt), (tt, tt))
 
 pub in_order_of_rows-requires-clause-distinct : goal.in_order_of_rows-requires-clause-distinct
 in_order_of_rows-requires-clause-distinct c = subst (IsDistinct (eq_by_cmp place_cmp)) (sym (c.new-firsts.ensures ∙ c.in_ok-from_array.ensures.items)) apart
+
+pub in_order_of_rows-requires-in-Err-clause-distinct : goal.in_order_of_rows-requires-in-Err-clause-distinct
+in_order_of_rows-requires-in-Err-clause-distinct c = subst (IsDistinct (eq_by_cmp place_cmp)) (sym (c.new-firsts.ensures ∙ c.in_ok-from_array.ensures.items)) apart

@@ -8,4 +8,4 @@ pub returns-clause-emptied : goal.returns-clause-emptied
 returns-clause-emptied c =
     rows_of-set c.args.buffers.now.items c.args.partition c.replace.new.dest
     ∙ ap (λ (l : List SpillRow). set (rows_of c.args.buffers.now.items) c.args.partition l)
-    (ap (λ v. v.items) c.replace.ensures.after ∙ c.new.ensures.items)
+    (ap (λ v. v.items) c.replace.ensures.after ∙ c.room_for.ensures)

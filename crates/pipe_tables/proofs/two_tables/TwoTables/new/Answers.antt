@@ -1,4 +1,4 @@
-use Rattle.std.proofs.Common.{◌≡◌, ◌+◌, List, length, arith}
+use Rattle.std.proofs.Common.{◌+◌, List, length, arith}
 use Rattle.pipe_groups.specs.Shape.{Shape}
 use Rattle.pipe_spill.specs.declared.spill_row.SpillRow.{SpillRow}
 use Rattle.pipe_tables.proofs.FewerFacts.{fewer_none}
