@@ -1,5 +1,5 @@
 -- Rows that are cut into runs, one by one.
-use Rattle.std.proofs.Common.{◌≡◌, ◌∙◌, ℕ, ◌+◌, ◌-◌, ◌<◌, ◌≤◌, List, [], ◌∷◌, ◌++◌, length, drop, get_or, refl, sym, ap, subst, arith}
+use Rattle.std.proofs.Common.{◌≡◌, ◌∙◌, ℕ, ◌+◌, ◌-◌, ◌<◌, ◌≤◌, List, [], ◌∷◌, ◌++◌, length, drop, get_or, refl, sym, ap, subst}
 use Rattle.std.proofs.lemmas.List.{drop_all, drop_more}
 use Rattle.pipe_columns.specs.Key.{code}
 use Rattle.pipe_columns.specs.Row.{Row}

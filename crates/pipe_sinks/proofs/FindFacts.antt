@@ -5,7 +5,7 @@ use Rattle.std.proofs.lemmas.Slice.Eq.{bytes_eq-Decides}
 use Rattle.std.specs.Str.{bytes_eq}
 use Rattle.pipe_chains.specs.Chains.{last_of}
 use Rattle.pipe_chains.proofs.Walks.{left-falls, left_of, OnChain, Walking, walking-end, walking-mark, walking-next, walking-start, walking-within}
-use Rattle.pipe_groups.specs.Groups.{Group, group_of, is_covered, keys_of, no_group}
+use Rattle.pipe_groups.specs.Groups.{Group, group_of, is_covered, no_group}
 use Rattle.pipe_columns.specs.declared.any_value.AnyValue.{AnyValue}
 use Rattle.pipe_columns.specs.declared.any_value.AnyValue.TheVariants as av
 use Rattle.pipe_columns.specs.declared.data_type.DataType.{DataType}

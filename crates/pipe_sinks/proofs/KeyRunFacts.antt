@@ -1,19 +1,17 @@
 -- Rows of a chunk that follow one another and have one key: what is spilled of them.
-use Rattle.std.proofs.Common.{◌≡◌, ◌∙◌, ℕ, zero, suc, ◌+◌, ◌<◌, ◌≤◌, Bool, true, false, if◌then◌else◌, is_some, List, [], ◌∷◌, ◌++◌, map, length, take, drop, get_or, set, Option, Some, None, refl, sym, ap, subst, arith}
+use Rattle.std.proofs.Common.{◌≡◌, ◌∙◌, ℕ, zero, suc, ◌+◌, ◌<◌, ◌≤◌, Bool, true, false, if◌then◌else◌, List, [], ◌∷◌, map, length, take, drop, get_or, set, Some, None, refl, sym, ap, arith}
 use Rattle.std.specs.List.{All, IsDistinct}
 use Rattle.std.specs.Str.{bytes_eq}
 use Rattle.std.proofs.lemmas.List.{drop_more, get_or-drop, get_or-take, get_or_default, length-drop, length-map, length-take-le}
 use Rattle.std.proofs.lemmas.List.Elements.{All-cons, All-from_get_or, All-head, All-map, All-nil, All-set, All-tail}
 use Rattle.std.proofs.lemmas.Option.{unwrap_or-slice_get}
-use Rattle.pipe_columns.specs.declared.any_value.AnyValue.{AnyValue}
 use Rattle.pipe_columns.specs.declared.data_type.DataType.{DataType}
-use Rattle.pipe_columns.specs.declared.place.Place.{Place}
 use Rattle.pipe_columns.specs.Key.{code}
 use Rattle.pipe_columns.specs.Row.{Row}
 use Rattle.pipe_inputs.specs.ChunkRows.{no_row, row_at}
 use Rattle.pipe_inputs.specs.RowRuns.{run_inputs}
 use Rattle.pipe_running.specs.declared.function.AggregateFunction.{AggregateFunction}
-use Rattle.pipe_running.specs.GroupStates.{fresh_states, GroupStands, SameKinds}
+use Rattle.pipe_running.specs.GroupStates.{fresh_states, SameKinds}
 use Rattle.pipe_running.specs.Runs.{placed}
 use Rattle.pipe_running.proofs.GroupStateFacts.{group-fresh}
 use Rattle.pipe_spill.specs.KeyTypes.{AreOfTypes}

@@ -1,19 +1,22 @@
 -- Values of one type that have one mark.
-use Rattle.std.proofs.Common.{◌≡◌, ◌≢◌, ◌∙◌, ℕ, suc, ◌+◌, ◌-◌, ◌*◌, ◌<◌, ◌≤◌, ◌^◌, ℤ, pos, negsuc, Bool, true, false, cond, if◌then◌else◌, ◌&&◌, ◌==◌, List, [], ◌∷◌, ◌++◌, length, take, drop, get_or, refl, sym, ap, arith, subst, ltb-true, eqb-true, eq-eqb, to_z, of_z}
+use Rattle.std.proofs.Common.{◌≡◌, ◌≢◌, ◌∙◌, ℕ, suc, ◌+◌, ◌-◌, ◌<◌, ◌≤◌, ◌^◌, ℤ, pos, negsuc, Bool, true, false, if◌then◌else◌, ◌&&◌, ◌==◌, List, [], ◌∷◌, ◌++◌, length, take, drop, get_or, refl, sym, ap, arith, subst, ltb-true, eqb-true, eq-eqb, to_z, of_z}
 use Rattle.std.specs.Prelude.{nat_lt}
+use Rattle.std.specs.List.{list_any}
 use Rattle.std.specs.Str.{bytes_eq}
 use Rattle.std.specs.Int.{w128}
 use Rattle.std.specs.Int.RustNames.{FitsSigned}
 use Rattle.std.proofs.lemmas.Int.{fits_signed_from_abs, ints, to_z-of_z}
 use Rattle.std.proofs.lemmas.Bool.{lt-ltb}
 use Rattle.std.proofs.lemmas.Cmp.{nat_list_eq_equiv}
-use Rattle.std.proofs.lemmas.List.{append-nil, drop_all, drop-drop, drop_more, length-drop, take_all}
+use Rattle.std.proofs.lemmas.Slice.Eq.{bytes_eq-Decides}
+use Rattle.std.proofs.lemmas.List.{append-nil, drop_all, drop-drop, drop_more, length-append, length-drop, take_all}
 use Rattle.pipe_columns.specs.declared.any_value.AnyValue.{AnyValue}
 use Rattle.pipe_columns.specs.declared.any_value.AnyValue.TheVariants as av
 use Rattle.pipe_columns.specs.declared.data_type.DataType.{DataType}
 use Rattle.pipe_columns.specs.declared.data_type.DataType.TheVariants as dt
 use Rattle.pipe_columns.specs.AnyValue.{fits, fits_number, is_signed, is_unsigned}
-use Rattle.pipe_columns.specs.Key.{code, text_code, value_code}
+use Rattle.pipe_columns.specs.Key.{text_code, value_code}
+use Rattle.pipe_spill.proofs.Escapes.{plain}
 use Rattle.pipe_sinks.specs.Marks.{begins, code_sought, is_narrow, is_wide, IsMarkedKey, IsSole, IsSoleValue, IsSought, mark_of, number_mark, sole_code}
 use Rattle.pipe_sinks.specs.declared.sought.Sought.{Sought}
 use Rattle.pipe_sinks.specs.declared.sought.Sought.TheVariants as sought
@@ -174,6 +177,42 @@ begins-not b (x ∷ xs) rest h = rw h refl
 -- a list from a place on, as a slice
 pub rest-of : (at : ℕ) (bytes : List ℕ) → take (length bytes - at) (drop at bytes) ≡ drop at bytes
 rest-of at bytes = take_all (length bytes - at) (drop at bytes) (omega (arith, length-drop at bytes))
+
+-- bytes are two lists joined where their front is the first and their rest the second
+joined-eq : (text bytes rest : List ℕ) → (bytes_eq (take (length text) bytes) text && bytes_eq (drop (length text) bytes) rest) ≡ bytes_eq bytes (text ++ rest)
+joined-eq [] bytes rest = refl
+joined-eq (b ∷ text) [] rest = refl
+joined-eq (b ∷ text) (x ∷ xs) rest = by (x == b) (joined-eq text xs rest) where
+  by : (z : Bool) → (bytes_eq (take (length text) xs) text && bytes_eq (drop (length text) xs) rest) ≡ bytes_eq xs (text ++ rest)
+      → ((z && bytes_eq (take (length text) xs) text) && bytes_eq (drop (length text) xs) rest) ≡ (z && bytes_eq xs (text ++ rest))
+  by true e = e
+  by false e = refl
+
+-- the code of a text without a zero byte has it whole
+module _ (bytes text : List ℕ) (no_zero : list_any (λ byte. byte == 0) text ≡ false) where
+  as-it-is : 1 ∷ text_code text ≡ 1 ∷ (text ++ 0 ∷ 0 ∷ [])
+  as-it-is = ap (λ (l : List ℕ). 1 ∷ l) (plain text no_zero)
+
+  pub plain-length : length bytes ≢ length text + 1 + 2 → false ≡ bytes_eq bytes (1 ∷ text_code text)
+  plain-length ne = by (bytes_eq bytes (1 ∷ text_code text)) refl where
+    by : (z : Bool) → bytes_eq bytes (1 ∷ text_code text) ≡ z → false ≡ z
+    by true e = absurd (ne (ap length ((bytes_eq-Decides bytes (1 ∷ text_code text)).0 e ∙ as-it-is) ∙ ap suc (length-append text (0 ∷ 0 ∷ [])) ∙ omega arith))
+    by false e = refl
+
+  pub plain-eq : begins 1 bytes ≡ true → (bytes_eq (take (length text) (drop 1 bytes)) text && bytes_eq (drop (length text + 1) bytes) (0 ∷ 0 ∷ [])) ≡ bytes_eq bytes (1 ∷ text_code text)
+  plain-eq h =
+      ap (λ (l : List ℕ). bytes_eq (take (length text) (drop 1 bytes)) text && bytes_eq l (0 ∷ 0 ∷ [])) (ap (λ n. drop n bytes) (let e : length text + 1 ≡ 1 + length text = omega arith in e) ∙ sym (drop-drop (length text) 1 bytes))
+      ∙ joined-eq text (drop 1 bytes) (0 ∷ 0 ∷ [])
+      ∙ ap (bytes_eq (drop 1 bytes)) (sym (plain text no_zero))
+      ∙ sym (begins-next 1 bytes (text_code text) h)
+
+  -- what two comparisons of slices say
+  pub plain-read : (x y : Bool) (n m : ℕ) → begins 1 bytes ≡ true → x ≡ bytes_eq (take n (drop 1 bytes)) text → y ≡ bytes_eq (take (length bytes - m) (drop m bytes)) (0 ∷ 0 ∷ []) → n ≡ length text → m ≡ length text + 1
+      → (x && y) ≡ bytes_eq bytes (1 ∷ text_code text)
+  plain-read x y n m h own end en em =
+      ap (λ (z : Bool). z && y) (own ∙ ap (λ k. bytes_eq (take k (drop 1 bytes)) text) en)
+      ∙ ap (λ (z : Bool). bytes_eq (take (length text) (drop 1 bytes)) text && z) (end ∙ ap (λ (l : List ℕ). bytes_eq l (0 ∷ 0 ∷ [])) (rest-of m bytes ∙ ap (λ k. drop k bytes) em))
+      ∙ plain-eq h
 
 -- where bytes begin with one there is one more
 pub begins-within : (b at : ℕ) (bytes : List ℕ) → at ≤ length bytes → begins b (drop at bytes) ≡ true → at + 1 ≤ length bytes

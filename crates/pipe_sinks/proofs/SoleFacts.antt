@@ -1,5 +1,5 @@
 -- The one key of a row: its value, and where its group is.
-use Rattle.std.proofs.Common.{◌≡◌, ◌∙◌, ℕ, ◌<◌, List, [], ◌∷◌, ◌++◌, length, refl, sym, ap, subst, arith}
+use Rattle.std.proofs.Common.{◌≡◌, ◌∙◌, ℕ, List, [], ◌∷◌, ◌++◌, length, refl, sym, ap, subst, arith}
 use Rattle.std.proofs.lemmas.List.{get_or_push, length_push}
 use Rattle.pipe_columns.specs.declared.any_value.AnyValue.{AnyValue}
 use Rattle.pipe_columns.specs.declared.data_type.DataType.{DataType}
@@ -7,7 +7,7 @@ use Rattle.pipe_columns.specs.Frame.{value_at}
 use Rattle.pipe_columns.specs.Key.{code}
 use Rattle.pipe_running.specs.declared.function.AggregateFunction.{AggregateFunction}
 use Rattle.pipe_spill.specs.KeyTypes.{AreOfTypes}
-use Rattle.pipe_groups.specs.Groups.{Group, group_of, new_group, no_group}
+use Rattle.pipe_groups.specs.Groups.{Group, new_group, no_group}
 use Rattle.pipe_sinks.specs.Keyed.{IsAt}
 use Rattle.pipe_sinks.specs.Marks.{IsMarkedKey, IsSole, IsSoleValue, mark_of, sole_code}
 

@@ -12,6 +12,7 @@ mod keyed_finish;
 mod keyed_groups;
 mod laws;
 mod merge;
+mod paused;
 mod run_finish;
 mod run_sink;
 mod sink_run;
@@ -23,6 +24,8 @@ mod worked;
 
 pub use key_sink::KeySink;
 pub use laws::what_parts_keep;
+pub use paused::PausedSink;
+pub use sink_run::SinkRun;
 pub use slices::{compute_slices, default_slices};
 pub use sole_key::{
     KeyNumber, NumberKey, PrimitiveGroupbySink, SoleKey, StringGroupbySink, TextKey, has_sole_key,

@@ -51,7 +51,7 @@ fn placed_of(
 impl<'a> SinkRun<'a> {
     /// Gives the answer over the chunks taken, of which none is left. Where memory is wanting all are
     /// still there: the call may be made again.
-    pub(crate) fn finish(&mut self) -> Result<DataFrame, AllocError>
+    pub fn finish(&mut self) -> Result<DataFrame, AllocError>
         ensures answer { IfOk result (λ f. IsAnswer (purpose_of self.old) self.old.taken f) }
         ensures emptied { OnOk result (self.new ≡ with_taken [] self.old) }
         ensures err { OnErr result (self.new ≡ self.old) }

@@ -36,11 +36,7 @@ impl<'a> SinkRun<'a> {
 
     /// Takes a chunk. Where no text is kept, room for all of its keys is made before a row comes in. The
     /// values of its keys may be given.
-    pub(crate) fn take(
-        &mut self,
-        keys: Option<&[AnyValue]>,
-        chunk: &DataChunk,
-    ) -> Result<(), AllocError>
+    pub fn take(&mut self, keys: Option<&[AnyValue]>, chunk: &DataChunk) -> Result<(), AllocError>
         requires takes { Takes self.old chunk.now }
         requires keys { AreGivenKeys (query_tree self.old.query) chunk.now keys }
         ensures ok { OnOk result
@@ -70,7 +66,7 @@ impl<'a> SinkRun<'a> {
     }
 
     /// Takes the chunks of another sink over, which then has none.
-    pub(crate) fn combine(&mut self, other: &mut SinkRun<'a>) -> Result<(), AllocError>
+    pub fn combine(&mut self, other: &mut SinkRun<'a>) -> Result<(), AllocError>
         requires { MayCombine self.old other.old }
         ensures ok { OnOk result
             (self.new ≡ with_taken (self.old.taken ++ other.old.taken) self.old) }

@@ -17,11 +17,12 @@ use std::snapshot::Snapshot;
 /// The most partitions that there may be: each has a number of 32 bits.
 const MOST: usize = 4294967296;
 
-/// A sink of one key. Contracts see what it is made for and the chunks taken, though of each only a mark
-/// without bytes is kept. Groups that were given out wait here where the last step of giving them was
+/// What a sink of one key does, of whatever type that is: its own type alone tells `KeySink`s apart.
+/// Contracts see what it is made for and the chunks taken, though of each only a mark without bytes is
+/// kept. Groups that were given out wait here where the last step of giving them was
 /// refused; until that step succeeds no chunk is taken.
 #[derive(Drop)]
-pub(crate) struct SinkRun<'a> {
+pub struct SinkRun<'a> {
     pub(crate) query: &'a CheckedQuery<'a>,
     pub(crate) partitions: usize,
     pub(crate) table: KeyTable,
@@ -50,7 +51,7 @@ impl<'a> Model for SinkRun<'a> {
 
 impl<'a> SinkRun<'a> {
     /// A sink for the one key of a query that took nothing. More than 2^32 partitions can't be had.
-    pub(crate) fn new(
+    pub fn new(
         alloc: Global,
         query: &'a CheckedQuery<'a>,
         partitions: usize,
@@ -75,7 +76,7 @@ impl<'a> SinkRun<'a> {
     }
 
     /// A sink that took nothing, made for the same.
-    pub(crate) fn split(&self) -> Result<SinkRun<'a>, AllocError>
+    pub fn split(&self) -> Result<SinkRun<'a>, AllocError>
         ensures { IfOk result (λ r. r ≡ with_taken [] self.now) }
     {
         let alloc = *self.taken.allocator();

@@ -1,6 +1,7 @@
 //! Keys of one value that are looked for.
 
-ghost use Rattle.std.specs.Prelude.{◌≡◌, ◌∷◌, ℕ, List, true};
+ghost use Rattle.std.specs.Prelude.{◌≡◌, ◌==◌, ◌∷◌, ℕ, List, false, true};
+ghost use Rattle.std.specs.List.{list_any};
 ghost use Rattle.std.specs.Str.{bytes_eq};
 ghost use Rattle.pipe_columns.specs.declared.any_value.AnyValue.{AnyValue};
 ghost use Rattle.pipe_columns.specs.declared.data_type.DataType.{DataType};
@@ -52,8 +53,8 @@ fn begins(bytes: &[u8], byte: u8) -> bool
     }
 }
 
-/// Whether bytes are the code of a text.
-fn is_text_code(code: &[u8], text: &[u8]) -> bool
+/// Whether bytes are the code of a text, byte by byte.
+fn is_escaped_code(code: &[u8], text: &[u8]) -> bool
     ensures { result ≡ bytes_eq code.now (1 ∷ text_code text.now) }
 {
     if !begins(code, 1) {
@@ -73,6 +74,33 @@ fn is_text_code(code: &[u8], text: &[u8]) -> bool
         }
     }
     code[at..] == [0, 0]
+}
+
+/// Whether bytes are the code of a text without a zero byte, which stands in it as it is.
+fn is_plain_code(code: &[u8], text: &[u8]) -> bool
+    requires { list_any (λ byte. byte == 0) text.now ≡ false }
+    ensures { result ≡ bytes_eq code.now (1 ∷ text_code text.now) }
+{
+    let end = text.len() + 1;
+    if code.len() != end + 2 {
+        return false;
+    }
+    if !begins(code, 1) {
+        return false;
+    }
+    let body = &code[1..end];
+    body == text && code[end..] == [0, 0]
+}
+
+/// Whether bytes are the code of a text.
+fn is_text_code(code: &[u8], text: &[u8]) -> bool
+    ensures { result ≡ bytes_eq code.now (1 ∷ text_code text.now) }
+{
+    if text.contains(&0) {
+        is_escaped_code(code, text)
+    } else {
+        is_plain_code(code, text)
+    }
 }
 
 /// Whether the code of a value is that of another one that has its mark: of numbers no more than

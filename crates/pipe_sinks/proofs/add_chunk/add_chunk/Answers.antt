@@ -1,7 +1,6 @@
-use Rattle.std.proofs.Common.{◌≡◌, ◌∙◌, ◌+◌, ◌<◌, ◌≤◌, ◌^◌, ◌∷◌, [], ℕ, List, refl, sym, ap, subst, arith}
+use Rattle.std.proofs.Common.{◌≡◌, ◌<◌, refl, ap, arith}
 use Rattle.pipe_aggs.specs.QueryTrees.{query_tree}
 use Rattle.pipe_groups.specs.Shape.{Shape}
-use Rattle.pipe_inputs.specs.ChunkRows.{row_at}
 use Rattle.pipe_model.specs.Query.{QueryTree}
 use Rattle.pipe_sinks.specs.ChunkTaking.{TakesRows}
 use Rattle.pipe_sinks.proofs.ChunkFacts.{room-none, rows-typed, took-chunk, took-more, took-none}

@@ -1,19 +1,13 @@
-use Rattle.std.proofs.Common.{◌≡◌, ◌∙◌, ◌+◌, ◌-◌, ◌<◌, ◌≤◌, ◌++◌, ◌∷◌, [], ℕ, true, List, drop, refl, sym, ap, subst, arith}
-use Rattle.pipe_aggs.specs.QueryTrees.{query_tree}
-use Rattle.pipe_groups.specs.GroupRuns.{keep_no_text}
+use Rattle.std.proofs.Common.{◌≡◌, ◌-◌, ◌<◌, ◌≤◌, refl, sym, subst, arith}
 use Rattle.pipe_columns.specs.Key.{code}
 use Rattle.pipe_inputs.specs.ChunkRows.{row_at}
 use Rattle.pipe_sinks.specs.Keyed.{IsAt}
 use Rattle.pipe_groups.specs.Shape.{Shape}
-use Rattle.pipe_model.specs.Query.{QueryTree}
-use Rattle.pipe_sinks.specs.ChunkTaking.{TookRows}
-use Rattle.pipe_sinks.specs.KeyCuts.{AreCut}
-use Rattle.pipe_sinks.specs.KeyRuns.{IsRun, run_rows}
+use Rattle.pipe_sinks.specs.KeyRuns.{IsRun}
 use Rattle.pipe_sinks.specs.declared.key_runs.KeyRun.{KeyRun}
-use Rattle.pipe_sinks.proofs.ChunkFacts.{took-more, took-none}
 use Rattle.pipe_sinks.proofs.CutFacts.{cut-push, cut-stay}
 use Rattle.pipe_sinks.proofs.InsertFacts.{alike-then}
-use Rattle.pipe_sinks.proofs.ChunkRunFacts.{is-run, room-now, row-key, rows-long, shape-now, sole-now, types-now}
+use Rattle.pipe_sinks.proofs.ChunkRunFacts.{is-run, row-key, rows-long, sole-now, types-now}
 use Rattle.pipe_sinks.proofs.key_runs.cover_runs.Goals as goal
 
 pub loop-row-init : goal.loop-row-init

@@ -1,17 +1,15 @@
-use Rattle.std.proofs.Common.{◌≡◌, ◌∙◌, ◌+◌, ◌-◌, ◌<◌, ◌≤◌, ◌++◌, ◌∷◌, [], ℕ, true, List, drop, get_or, refl, sym, ap, subst, arith}
+use Rattle.std.proofs.Common.{◌≡◌, ◌+◌, ◌-◌, ℕ, true, drop, get_or, sym, ap, subst, arith}
 use Rattle.std.proofs.lemmas.List.{get_or_default}
 use Rattle.pipe_aggs.specs.QueryTrees.{query_tree}
 use Rattle.pipe_groups.specs.GroupRuns.{keep_no_text}
 use Rattle.pipe_groups.specs.Shape.{Shape}
 use Rattle.pipe_model.specs.Query.{QueryTree}
 use Rattle.pipe_sinks.specs.ChunkTaking.{TookRows}
-use Rattle.pipe_sinks.specs.KeyCuts.{AreCut}
-use Rattle.pipe_sinks.specs.KeyRuns.{IsRun, run_rows}
+use Rattle.pipe_sinks.specs.KeyRuns.{run_rows}
 use Rattle.pipe_sinks.specs.declared.key_runs.KeyRun.{KeyRun}
 use Rattle.pipe_sinks.proofs.ChunkFacts.{took-more, took-none}
 use Rattle.pipe_sinks.proofs.CutFacts.{cut-end, cut-next, cut-stay, no_run}
-use Rattle.pipe_sinks.proofs.InsertFacts.{alike-then}
-use Rattle.pipe_sinks.proofs.ChunkRunFacts.{is-run, room-now, row-key, rows-long, shape-now, sole-now, types-now}
+use Rattle.pipe_sinks.proofs.ChunkRunFacts.{room-now, rows-long, shape-now}
 use Rattle.pipe_sinks.proofs.key_runs.feed_runs.Goals as goal
 
 pub loop-run-init : goal.loop-run-init

@@ -1,8 +1,7 @@
 use Rattle.std.proofs.Common.{◌∙◌, ◌∷◌, List, ℕ, ap}
 use Rattle.std.specs.Str.{bytes_eq}
-use Rattle.pipe_columns.specs.declared.any_value.AnyValue.TheVariants as av
 use Rattle.pipe_columns.specs.Key.{text_code}
-use Rattle.pipe_sinks.proofs.MarkedFacts.{null-code, number-code, text-code, truth-code}
+use Rattle.pipe_sinks.proofs.MarkedFacts.{null-code, text-code}
 use Rattle.pipe_sinks.proofs.sought.is_code_of.Goals as goal
 
 pub returns-in-Null : goal.returns-in-Null

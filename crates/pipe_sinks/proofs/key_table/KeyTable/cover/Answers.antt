@@ -1,4 +1,4 @@
-use Rattle.std.proofs.Common.{◌≡◌, ◌∙◌, ℕ, List, refl, sym, ap, subst}
+use Rattle.std.proofs.Common.{◌∙◌, ℕ, List, sym, ap, subst}
 use Rattle.pipe_columns.specs.Key.{code}
 use Rattle.pipe_inputs.specs.ChunkRows.{row_at}
 use Rattle.pipe_spill.specs.KeyTypes.{AreOfTypes}
@@ -6,8 +6,7 @@ use Rattle.pipe_sinks.specs.Keyed.{IsAt}
 use Rattle.pipe_sinks.specs.Marks.{IsSole}
 use Rattle.pipe_sinks.specs.TableLayout.{table_in, table_of}
 use Rattle.pipe_sinks.specs.Tables.{HoldAlike, KeysStay, Table}
-use Rattle.pipe_sinks.proofs.InsertFacts.{alike-covered, alike-same, cover-stay, Covered, covered-table, keys-stay}
-use Rattle.pipe_sinks.proofs.TableFacts.{table-same}
+use Rattle.pipe_sinks.proofs.InsertFacts.{alike-covered, cover-stay, covered-table}
 use Rattle.pipe_sinks.proofs.key_table.KeyTable.cover.Goals as goal
 
 pub cover_lent-requires-clause-types : goal.cover_lent-requires-clause-types

@@ -1,14 +1,11 @@
-use Rattle.std.proofs.Common.{◌≡◌, ◌∙◌, ℕ, List, ◌∷◌, [], ◌++◌, refl, sym, ap, subst}
+use Rattle.std.proofs.Common.{◌∙◌, ℕ, List, ◌∷◌, [], ◌++◌, refl, sym, ap, subst}
 use Rattle.pipe_columns.specs.Key.{code}
 use Rattle.pipe_inputs.specs.ChunkRows.{row_at}
 use Rattle.pipe_spill.specs.KeyTypes.{AreOfTypes}
 use Rattle.pipe_spill.specs.SpillRow.{IsRow, spilled}
 use Rattle.pipe_spill.specs.declared.spill_row.SpillRow.{SpillRow}
-use Rattle.pipe_groups.specs.GroupRuns.{keep_no_text}
-use Rattle.pipe_groups.specs.Groups.{Seen}
-use Rattle.pipe_groups.specs.Holds.{HoldFewer, Holds}
+use Rattle.pipe_groups.specs.Holds.{Holds}
 use Rattle.pipe_sinks.specs.Marks.{IsSole}
-use Rattle.pipe_sinks.specs.KeyRuns.{IsRun, run_rows}
 use Rattle.pipe_sinks.specs.TableLayout.{table_in, table_of}
 use Rattle.pipe_sinks.specs.Tables.{Table, TakesOne}
 use Rattle.pipe_sinks.proofs.InsertFacts.{Covered, covered-table, one-few, one-holds, one-table}

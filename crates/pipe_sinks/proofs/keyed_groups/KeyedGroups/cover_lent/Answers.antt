@@ -3,7 +3,7 @@ use Rattle.pipe_columns.specs.declared.any_value.AnyValue.{AnyValue}
 use Rattle.pipe_columns.specs.declared.data_type.DataType.{DataType}
 use Rattle.pipe_columns.specs.Key.{code}
 use Rattle.pipe_inputs.specs.ChunkRows.{row_at}
-use Rattle.pipe_groups.specs.Groups.{cover, Group, HasGroups}
+use Rattle.pipe_groups.specs.Groups.{Group}
 use Rattle.pipe_groups.proofs.PutFacts.{cover-new, cover-there, is_covered-at}
 use Rattle.pipe_sinks.specs.Keyed.{IsAt}
 use Rattle.pipe_sinks.proofs.SoleFacts.{new-at, sole-fit, sole-is, sole-marked}

@@ -1,7 +1,6 @@
 use Rattle.std.proofs.Common.{refl, sym, ap, ◌∙◌, ◌+◌, length, subst, ℕ, List, arith, ◌<◌}
 use Rattle.pipe_groups.specs.Groups.{Covers, group_of, Seen}
 use Rattle.pipe_groups.specs.Shape.{Shape}
-use Rattle.pipe_sinks.specs.Marks.{IsMarkedKey}
 use Rattle.pipe_sinks.proofs.FindFacts.{marked-at}
 use Rattle.pipe_sinks.proofs.KeyFacts.{marked-set}
 use Rattle.pipe_sinks.proofs.keyed_groups.KeyedGroups.take.Goals as goal

@@ -1,8 +1,8 @@
 use Rattle.std.proofs.Common.{◌∙◌, ◌+◌, get_or, sym, ap}
 use Rattle.pipe_sinks.specs.Marks.{begins}
 use Rattle.pipe_sinks.proofs.MarkedFacts.{read-plain, read-zero, rest-of, zero-differs}
-use Rattle.pipe_sinks.proofs.sought.is_text_code.Goals as goal
-use Rattle.pipe_sinks.proofs.sought.is_text_code.Goals.{then-byte-eq0+else-not-begins-3, else-byte-eq0}
+use Rattle.pipe_sinks.proofs.sought.is_escaped_code.Goals as goal
+use Rattle.pipe_sinks.proofs.sought.is_escaped_code.Goals.{then-byte-eq0+else-not-begins-3, else-byte-eq0}
 
 pub returns-then-not-begins-3 : goal.returns-then-not-begins-3
 returns-then-not-begins-3 c =

@@ -1,5 +1,5 @@
 use Rattle.pipe_sinks.proofs.MarkedFacts.{ReadTo}
-use Rattle.pipe_sinks.proofs.sought.is_text_code.Given as goal
+use Rattle.pipe_sinks.proofs.sought.is_escaped_code.Given as goal
 
 -- the front of the code was read
 abbrev pub invariant-loop-byte : goal.invariant-loop-byte
