@@ -1,10 +1,13 @@
 -- Eight digits at once.
-use Rattle.std.proofs.Common.{subst, take, Option, Some, None, IfSome, inl, inr, ◌⊎◌, ◌-◌, drop, ◌≡◌, ◌∙◌, ◌≤◌, ◌<◌, ◌+◌, ◌*◌, ◌%◌, ◌^◌, ℕ, suc, List, [], ◌∷◌, length, map, replicate, Bool, true, false, refl, sym, ap, arith, if◌then◌else◌, nat_le}
-use lib.Lanes.{mask_l, sel_l, top, zip2, fold_l}
+use Rattle.std.proofs.Common.{subst, take, Option, Some, None, IfSome, inl, inr, ◌⊎◌, ◌-◌, drop, ◌≡◌, ◌∙◌, ◌≤◌, ◌<◌, ◌+◌, ◌*◌, ◌%◌, ◌^◌, ℕ, zero, suc, List, [], ◌∷◌, length, map, replicate, Bool, true, false, refl, sym, ap, arith, if◌then◌else◌, nat_le}
+use lib.Bits as bits
+use lib.Lanes.{mask_l, zip2, fold_l}
+use borrow.Rule.Slice.PartMut.{mid_of}
 use borrow.Rule.Simd.Lanes.{act1, act2}
 use borrow.Table.Row.{s_int}
-use mir.Syntax.{cast, unsigned, w8, w32, wrap_sub, wrap_add, wrap_mul}
+use mir.Syntax.{bit_and, cast, unsigned, w8, w32, wrap_sub, wrap_add, wrap_mul}
 use Rattle.std.proofs.Math.Nat.{pow-suc}
+use Rattle.std.proofs.lemmas.Nat.{and_mask}
 use mir.Val.{Fits}
 use lib.Lanes.{Each1, chunk}
 use Rattle.std.specs.List.{fold, list_all}
@@ -29,20 +32,37 @@ from_eight P k (a ∷ b ∷ c ∷ d ∷ e ∷ f ∷ g ∷ []) l = absurd (omega 
 from_eight P k (a ∷ b ∷ c ∷ d ∷ e ∷ f ∷ g ∷ h ∷ []) l = k a b c d e f g h
 from_eight P k (a ∷ b ∷ c ∷ d ∷ e ∷ f ∷ g ∷ h ∷ i ∷ xs) l = absurd (omega (arith, l))
 
--- a lane of a mask, as a test
-top_is : (t : Bool) → top 7 (if t then 255 else 0) ≡ t
-top_is true = refl
-top_is false = refl
+-- a byte that is used
+kept : (c : ℕ) → bits.bit_and ((c + 208) % 256) 255 ≡ (c + 208) % 256
+kept c = and_mask ((c + 208) % 256) 8 ∙ omega arith
 
--- the lanes that are used
-abbrev lane : ℕ → ℕ → Bool
-lane s k = top 7 (if nat_le s k then 255 else 0)
+-- a byte that is left out
+dropped : (c : ℕ) → bits.bit_and ((c + 208) % 256) 0 ≡ 0
+dropped c = and_mask ((c + 208) % 256) 0 ∙ omega arith
 
--- a select by lanes leaves the bytes that are used
-pub lanes_used : (s : ℕ) (xs : List ℕ) → length xs ≡ 8
-    → sel_l (lane s 0 ∷ lane s 1 ∷ lane s 2 ∷ lane s 3 ∷ lane s 4 ∷ lane s 5 ∷ lane s 6 ∷ lane s 7 ∷ []) (zip2 (act2 wrap_sub (s_int w8) (s_int w8) (s_int w8)) xs (replicate 8 48)) (replicate 8 0) ≡ used_from s 0 xs
-lanes_used s xs l = from_eight (λ xs. sel_l (lane s 0 ∷ lane s 1 ∷ lane s 2 ∷ lane s 3 ∷ lane s 4 ∷ lane s 5 ∷ lane s 6 ∷ lane s 7 ∷ []) (zip2 (act2 wrap_sub (s_int w8) (s_int w8) (s_int w8)) xs (replicate 8 48)) (replicate 8 0) ≡ used_from s 0 xs)
-    (λ a b c d e f g h. rw (top_is (nat_le s 0), top_is (nat_le s 1), top_is (nat_le s 2), top_is (nat_le s 3), top_is (nat_le s 4), top_is (nat_le s 5), top_is (nat_le s 6), top_is (nat_le s 7)) refl) xs l
+-- lanes leave the last n bytes
+abbrev Leaves : ℕ → List ℕ → Type 0
+Leaves n xs =
+    zip2 (act2 bit_and (s_int w8) (s_int w8) (s_int w8)) (zip2 (act2 wrap_sub (s_int w8) (s_int w8) (s_int w8)) xs (replicate 8 48))
+    (chunk 0 8 (mid_of {X = ℕ} n (16 - n) (0 ∷ 0 ∷ 0 ∷ 0 ∷ 0 ∷ 0 ∷ 0 ∷ 0 ∷ 255 ∷ 255 ∷ 255 ∷ 255 ∷ 255 ∷ 255 ∷ 255 ∷ 255 ∷ [])))
+    ≡ used_from (8 - n) 0 xs
+
+-- so many of eight
+leave_some : (n : ℕ) → n ≤ 8 → (a b c d e f g h : ℕ) → Leaves n (a ∷ b ∷ c ∷ d ∷ e ∷ f ∷ g ∷ h ∷ [])
+leave_some zero l a b c d e f g h = λ i. dropped a i ∷ dropped b i ∷ dropped c i ∷ dropped d i ∷ dropped e i ∷ dropped f i ∷ dropped g i ∷ dropped h i ∷ []
+leave_some (suc zero) l a b c d e f g h = λ i. dropped a i ∷ dropped b i ∷ dropped c i ∷ dropped d i ∷ dropped e i ∷ dropped f i ∷ dropped g i ∷ kept h i ∷ []
+leave_some (suc (suc zero)) l a b c d e f g h = λ i. dropped a i ∷ dropped b i ∷ dropped c i ∷ dropped d i ∷ dropped e i ∷ dropped f i ∷ kept g i ∷ kept h i ∷ []
+leave_some (suc (suc (suc zero))) l a b c d e f g h = λ i. dropped a i ∷ dropped b i ∷ dropped c i ∷ dropped d i ∷ dropped e i ∷ kept f i ∷ kept g i ∷ kept h i ∷ []
+leave_some (suc (suc (suc (suc zero)))) l a b c d e f g h = λ i. dropped a i ∷ dropped b i ∷ dropped c i ∷ dropped d i ∷ kept e i ∷ kept f i ∷ kept g i ∷ kept h i ∷ []
+leave_some (suc (suc (suc (suc (suc zero))))) l a b c d e f g h = λ i. dropped a i ∷ dropped b i ∷ dropped c i ∷ kept d i ∷ kept e i ∷ kept f i ∷ kept g i ∷ kept h i ∷ []
+leave_some (suc (suc (suc (suc (suc (suc zero)))))) l a b c d e f g h = λ i. dropped a i ∷ dropped b i ∷ kept c i ∷ kept d i ∷ kept e i ∷ kept f i ∷ kept g i ∷ kept h i ∷ []
+leave_some (suc (suc (suc (suc (suc (suc (suc zero))))))) l a b c d e f g h = λ i. dropped a i ∷ kept b i ∷ kept c i ∷ kept d i ∷ kept e i ∷ kept f i ∷ kept g i ∷ kept h i ∷ []
+leave_some (suc (suc (suc (suc (suc (suc (suc (suc zero)))))))) l a b c d e f g h = λ i. kept a i ∷ kept b i ∷ kept c i ∷ kept d i ∷ kept e i ∷ kept f i ∷ kept g i ∷ kept h i ∷ []
+leave_some (suc (suc (suc (suc (suc (suc (suc (suc (suc n))))))))) l a b c d e f g h = absurd (omega (arith, l))
+
+-- so of any eight bytes
+pub lanes_used : (n : ℕ) (xs : List ℕ) → n ≤ 8 → length xs ≡ 8 → Leaves n xs
+lanes_used n xs l e = from_eight (Leaves n) (leave_some n l) xs e
 
 -- where all bits are set, each is a digit
 full_by : (t : Bool) (m n : ℕ) → (if t then 1 else 0) + 2 * m + 1 ≡ n * 2 → (t ≡ true) × (m + 1 ≡ n)

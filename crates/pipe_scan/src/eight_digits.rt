@@ -1,21 +1,26 @@
 //! Up to eight digits at once.
 
-ghost use Rattle.std.specs.Prelude.{◌+◌, ◌≡◌, ◌≤◌, IfSome, Some, length};
+ghost use Rattle.std.specs.Prelude.{◌+◌, ◌-◌, ◌≡◌, ◌≤◌, IfSome, Some, length};
 ghost use Rattle.pipe_scan.specs.Eight.{IsEight, used_digits};
 ghost use Rattle.pipe_scan.specs.Numbers.{read_few_digits};
 ghost use Rattle.pipe_scan.specs.Records.{between};
 
 use std::simd::prelude::*;
 
-/// Eight bytes less the code of 0, of which the first are left out.
+/// Eight bytes from the place n on leave the last n lanes of others as they are, and make the rest 0.
+const LANES: [u8; 16] = [
+    0, 0, 0, 0, 0, 0, 0, 0, 255, 255, 255, 255, 255, 255, 255, 255,
+];
+
+/// Eight bytes less the code of 0, of which so many are used, and those before are left out.
 #[inline(always)]
-fn digits_at(text: &[u8], at: usize, skipped: u8) -> u8x8
-    requires { at + 8 ≤ length text.now }
-    ensures { result ≡ used_digits text.now at skipped }
+fn digits_at(text: &[u8], at: usize, used: usize) -> u8x8
+    requires within { at + 8 ≤ length text.now }
+    requires used { used ≤ 8 }
+    ensures { result ≡ used_digits text.now at (8 - used) }
 {
     let digits = u8x8::from_slice(&text[at..]) - u8x8::splat(b'0');
-    let used = u8x8::from_array([0, 1, 2, 3, 4, 5, 6, 7]).simd_ge(u8x8::splat(skipped));
-    used.select(digits, u8x8::splat(0))
+    digits & u8x8::from_slice(&LANES[used..])
 }
 
 /// The number of eight digits, the first of which counts most.
@@ -41,6 +46,5 @@ pub(crate) fn digits_between(text: &[u8], low: usize, high: usize) -> Option<u32
     if high < 8 || high <= low || high - low > 8 {
         return None;
     }
-    let skipped = (8 - (high - low)) as u8;
-    number_of_eight(digits_at(text, high - 8, skipped))
+    number_of_eight(digits_at(text, high - 8, high - low))
 }
