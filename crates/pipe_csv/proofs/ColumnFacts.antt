@@ -6,7 +6,7 @@ use Rattle.pipe_columns.specs.declared.any_value.AnyValue.{AnyValue}
 use Rattle.pipe_columns.specs.declared.schema.Field.{Field}
 use Rattle.pipe_columns.specs.AnyValue.{value_cmp}
 use Rattle.pipe_columns.specs.Frame.{ColumnData}
-use Rattle.pipe_csv.specs.CsvChunks.{is_ascending}
+use Rattle.pipe_csv.specs.CsvRows.{is_ascending}
 use Rattle.pipe_csv.specs.Columns.{column_of, columns_of, with_row}
 
 -- one more value of a row goes to the end of the next column
@@ -29,31 +29,6 @@ columns-step fs cs i f c h k e g =
     let a : drop i fs ≡ f ∷ drop (i + 1) fs = drop_more fs i f h ∙ ap (λ (x : Field). x ∷ drop (i + 1) fs) (sym e) in
     let b : drop i cs ≡ c ∷ drop (i + 1) cs = drop_more cs i c k ∙ ap (λ (x : List AnyValue). x ∷ drop (i + 1) cs) (sym g) in
     rw (a, b) refl
-
--- no field is left
-pub columns-end : (fs : List Field) (cs : List (List AnyValue)) (i : ℕ) → length fs ≤ i → columns_of (drop i fs) (drop i cs) ≡ []
-columns-end fs cs i h = rw (drop_all i fs h) refl
-
--- the first two values tell, and then the rest
-two-ascend : (a b : AnyValue) (vs : List AnyValue) (t : Bool) → is_lt (value_cmp b a) ≡ t → is_ascending (a ∷ b ∷ vs) ≡ (not t && is_ascending (b ∷ vs))
-two-ascend a b vs t e = rw e refl
-
--- two values next to each other, before the rest
-ascend-at : (vs : List AnyValue) (j : ℕ) (a b : AnyValue) → j + 1 < length vs → a ≡ get_or vs j a → b ≡ get_or vs (j + 1) b → drop j vs ≡ a ∷ b ∷ drop (j + 1 + 1) vs
-ascend-at vs j a b h e g =
-    drop_more vs j a (omega arith) ∙ ap (λ (x : AnyValue). x ∷ drop (j + 1) vs) (sym e) ∙ ap (λ (x : List AnyValue). a ∷ x) (drop_more vs (j + 1) b h) ∙ ap (λ (x : AnyValue). a ∷ x ∷ drop (j + 1 + 1) vs) (sym g)
-
--- the values from the second of the two on
-ascend-rest : (vs : List AnyValue) (j : ℕ) (b : AnyValue) → j + 1 < length vs → b ≡ get_or vs (j + 1) b → drop (j + 1) vs ≡ b ∷ drop (j + 1 + 1) vs
-ascend-rest vs j b h g = drop_more vs (j + 1) b h ∙ ap (λ (x : AnyValue). x ∷ drop (j + 1 + 1) vs) (sym g)
-
--- a value that is less than the one before it
-pub ascend-stop : (vs : List AnyValue) (j : ℕ) (a b : AnyValue) → is_ascending vs ≡ is_ascending (drop j vs) → j + 1 < length vs → a ≡ get_or vs j a → b ≡ get_or vs (j + 1) b → is_lt (value_cmp b a) ≡ true → is_ascending vs ≡ false
-ascend-stop vs j a b d h e g t = d ∙ ap is_ascending (ascend-at vs j a b h e g) ∙ two-ascend a b (drop (j + 1 + 1) vs) true t
-
--- a value that is no less than the one before it
-pub ascend-more : (vs : List AnyValue) (j : ℕ) (a b : AnyValue) → is_ascending vs ≡ is_ascending (drop j vs) → j + 1 < length vs → a ≡ get_or vs j a → b ≡ get_or vs (j + 1) b → is_lt (value_cmp b a) ≡ false → is_ascending vs ≡ is_ascending (drop (j + 1) vs)
-ascend-more vs j a b d h e g t = d ∙ ap is_ascending (ascend-at vs j a b h e g) ∙ two-ascend a b (drop (j + 1 + 1) vs) false t ∙ sym (ap is_ascending (ascend-rest vs j b h g))
 
 -- one value at most ascends
 short-ascends : (vs : List AnyValue) → length vs ≤ 1 → is_ascending vs ≡ true

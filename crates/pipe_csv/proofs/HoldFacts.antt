@@ -9,7 +9,7 @@ use Rattle.pipe_columns.specs.declared.schema.Field.{Field}
 use Rattle.pipe_columns.specs.AnyValue.{fits}
 use Rattle.pipe_columns.specs.Frame.{AllFit, AllHaveHeight, ColumnData, all_have_height, fields_of, value_at}
 use Rattle.pipe_csv.specs.Fields.{read_field}
-use Rattle.pipe_csv.specs.CsvChunks.{Misfit}
+use Rattle.pipe_csv.specs.CsvRows.{Misfit}
 use Rattle.pipe_csv.specs.Columns.{DoHold, column_of, columns_of, values_from}
 use Rattle.pipe_csv.proofs.ColumnFacts.{items_of}
 use Rattle.pipe_csv.proofs.FieldFacts.{field-fits}
@@ -76,9 +76,3 @@ height-push n [] c f values h e l = rw (e, eq-eqb (length values) n l) refl
 height-push n (m ∷ ms) c f values h e l =
     let parts = and_parts (length m.values == n) (all_have_height n ms) h in
     and_from _ _ parts.0 (height-push n ms c f values parts.1 e l)
-
--- columns that hold what fits have the names and the types of their fields
-pub columns-fit : (n : ℕ) (fs : List Field) (columns : List (List AnyValue)) → DoHold n fs columns → fields_of (columns_of fs columns) ≡ fs
-columns-fit n [] columns h = refl
-columns-fit n (f ∷ fs) [] h = absurd h
-columns-fit n (f ∷ fs) (c ∷ cs) h = ap (λ (t : List Field). f ∷ t) (columns-fit n fs cs h.2)

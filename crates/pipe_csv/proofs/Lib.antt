@@ -2,12 +2,8 @@ pub mod RowsLemmas
 pub mod WrittenLemmas
 pub mod DigitFacts
 pub mod FieldFacts
-pub mod RecordList
-pub mod RecordsTaken
 pub mod RowFacts
 pub mod ColumnFacts
 pub mod PieceFacts
 pub mod HoldFacts
 pub mod ReadFacts
-pub mod ChunkLaws
-pub mod TextFacts

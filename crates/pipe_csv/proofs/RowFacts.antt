@@ -9,7 +9,7 @@ use Rattle.std.proofs.lemmas.List.{append-nil, append_assoc, drop_all, drop_more
 use Rattle.pipe_columns.specs.declared.any_value.AnyValue.{AnyValue}
 use Rattle.pipe_columns.specs.declared.schema.Field.{Field}
 use Rattle.pipe_csv.specs.Fields.{read_field}
-use Rattle.pipe_csv.specs.CsvChunks.{Misfit, after, field, in_front, is_header, read_fields, read_row, width}
+use Rattle.pipe_csv.specs.CsvRows.{Misfit, after, field, in_front, is_header, read_fields, read_row, width}
 
 -- the field at a place within a record
 pub field_at-get_or : (fields : List (List ℕ)) (i : ℕ) → i < length fields → field_at fields i ≡ Some (get_or fields i [])
@@ -76,18 +76,6 @@ pub front-front : {A E : Type 0} (a b : List A) (r : Result (List A) E) → in_f
 front-front a b (Ok rest) = ap Ok (sym (append_assoc a b rest))
 front-front a b (Err e) = refl
 
--- the values of the rest of a record
-pub fields-step : (file row column : ℕ) (fs : List Field) (ts : List (List ℕ)) (i : ℕ) (f : Field) (t : List ℕ) → i < length fs → i < length ts → f ≡ get_or fs i f → t ≡ get_or ts i t
-    → read_fields file row column (drop i fs) (drop i ts) ≡ after (ok_or (read_field f.dtype t) (field file row column)) (read_fields file row (column + 1) (drop (i + 1) fs) (drop (i + 1) ts))
-fields-step file row column fs ts i f t h k e g =
-    let a : drop i fs ≡ f ∷ drop (i + 1) fs = drop_more fs i f h ∙ ap (λ (x : Field). x ∷ drop (i + 1) fs) (sym e) in
-    let b : drop i ts ≡ t ∷ drop (i + 1) ts = drop_more ts i t k ∙ ap (λ (x : List ℕ). x ∷ drop (i + 1) ts) (sym g) in
-    rw (a, b) refl
-
--- the values of all fields are done
-fields-end : (file row column : ℕ) (fs : List Field) (ts : List (List ℕ)) → fs ≡ [] → read_fields file row column fs ts ≡ Ok []
-fields-end file row column fs ts e = rw e refl
-
 -- a record of another length isn't read
 pub row-width : (file row : ℕ) (fs : List Field) (ts : List (List ℕ)) → length ts ≢ length fs → read_row file row fs ts ≡ Err (width file row)
 row-width file row fs ts h = rw (ne_eqb (length ts) (length fs) h) refl
@@ -95,35 +83,3 @@ row-width file row fs ts h = rw (ne_eqb (length ts) (length fs) h) refl
 -- a record of that length is read field by field
 pub row-same : (file row : ℕ) (fs : List Field) (ts : List (List ℕ)) → length ts ≡ length fs → read_row file row fs ts ≡ read_fields file row 1 fs ts
 row-same file row fs ts h = rw (eq-eqb (length ts) (length fs) h) refl
-
--- the values of the first i fields, before those of the rest
-pub record FieldsDone (file row : ℕ) (fs : List Field) (ts : List (List ℕ)) (i : ℕ) (done : List AnyValue) : Type 0 where
-  pub count : length done ≡ i
-  pub read : read_row file row fs ts ≡ in_front done (read_fields file row (i + 1) (drop i fs) (drop i ts))
-
--- no field is read yet
-pub done-start : (file row : ℕ) (fs : List Field) (ts : List (List ℕ)) → length ts ≡ length fs → FieldsDone file row fs ts 0 []
-done-start file row fs ts h = record { count = refl; read = row-same file row fs ts h ∙ front-none (read_fields file row 1 fs ts) }
-
--- a field that reads is one more
-pub done-more : (file row : ℕ) (fs : List Field) (ts : List (List ℕ)) (i : ℕ) (done : List AnyValue) (f : Field) (t : List ℕ) (v : AnyValue)
-    → FieldsDone file row fs ts i done → i < length fs → i < length ts → f ≡ get_or fs i f → t ≡ get_or ts i t → Some v ≡ read_field f.dtype t → FieldsDone file row fs ts (i + 1) (done ++ (v ∷ []))
-done-more file row fs ts i done f t v d h k e g r =
-    let rest : Result (List AnyValue) Misfit = read_fields file row (i + 1 + 1) (drop (i + 1) fs) (drop (i + 1) ts) in
-    let step : read_fields file row (i + 1) (drop i fs) (drop i ts) ≡ in_front (v ∷ []) rest = fields-step file row (i + 1) fs ts i f t h k e g ∙ rw (← r) refl in
-    record {
-      count = omega (arith, length-append {A = AnyValue}, d.count);
-      read = d.read ∙ ap (in_front done) step ∙ front-front done (v ∷ []) rest;
-    }
-
--- a field that doesn't read is the misfit
-pub done-stop : (file row : ℕ) (fs : List Field) (ts : List (List ℕ)) (i : ℕ) (done : List AnyValue) (f : Field) (t : List ℕ)
-    → FieldsDone file row fs ts i done → i < length fs → i < length ts → f ≡ get_or fs i f → t ≡ get_or ts i t → None ≡ read_field f.dtype t → read_row file row fs ts ≡ Err (field file row (i + 1))
-done-stop file row fs ts i done f t d h k e g r =
-    let rest : Result (List AnyValue) Misfit = read_fields file row (i + 1 + 1) (drop (i + 1) fs) (drop (i + 1) ts) in
-    let step : read_fields file row (i + 1) (drop i fs) (drop i ts) ≡ Err (field file row (i + 1)) = fields-step file row (i + 1) fs ts i f t h k e g ∙ rw (← r) refl in
-    d.read ∙ ap (in_front done) step
-
--- all fields are read
-pub done-end : (file row : ℕ) (fs : List Field) (ts : List (List ℕ)) (i : ℕ) (done : List AnyValue) → FieldsDone file row fs ts i done → length fs ≤ i → read_row file row fs ts ≡ Ok done
-done-end file row fs ts i done d h = d.read ∙ ap (in_front done) (fields-end file row (i + 1) (drop i fs) (drop i ts) (drop_all i fs h)) ∙ ap Ok (append-nil done)

@@ -3,7 +3,7 @@ use Rattle.std.specs.Prelude.{◌≡◌, ℕ, ◌+◌, List, [], ◌∷◌, ◌+
 use Rattle.pipe_columns.specs.declared.schema.Field.{Field}
 use Rattle.pipe_columns.specs.Frame.{AllFit, ColumnData, value_at}
 use Rattle.pipe_columns.specs.declared.any_value.AnyValue.{AnyValue}
-use Rattle.pipe_csv.specs.CsvChunks.{is_ascending}
+use Rattle.pipe_csv.specs.CsvRows.{is_ascending}
 
 -- lists of values with one more value at the end of each
 abbrev pub with_row : List AnyValue → List (List AnyValue) → List (List AnyValue)

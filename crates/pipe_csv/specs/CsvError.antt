@@ -2,7 +2,7 @@
 use Rattle.std.specs.Prelude.{◌≡◌, Result, Err, ⊤}
 use Rattle.pipe_csv.specs.declared.csv_error.CsvError.{CsvError}
 use Rattle.pipe_csv.specs.declared.csv_error.CsvError.TheVariants as ce
-use Rattle.pipe_csv.specs.CsvChunks.{Misfit, header, width, field}
+use Rattle.pipe_csv.specs.CsvRows.{Misfit, header, width, field}
 
 -- an error of the text names its first misfit, and any text may want for memory
 abbrev pub StopsBy : {X : Type 0} → CsvError → Result X Misfit → Type 0

@@ -1,10 +1,8 @@
 pub mod Fields
-pub mod CsvChunks
+pub mod CsvRows
 pub mod CsvError
 pub mod Columns
 pub mod Numbers
-pub mod RecordsLeft
-pub mod RowChunks
 pub mod Texts
 pub mod Written
 pub mod Worked

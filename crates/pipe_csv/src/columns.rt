@@ -1,21 +1,14 @@
-//! Columns that grow by the fields of records, and the chunks that they become.
+//! Columns of values.
 
-ghost use Rattle.std.specs.Prelude.{[], ◌≡◌, IfErr, IfOk, List, Ok, length, map, replicate, vec_len};
+ghost use Rattle.std.specs.Prelude.{[], ◌≡◌, IfOk, map, replicate};
 ghost use Rattle.std.specs.Ordering.{is_lt};
-ghost use Rattle.csv.specs.Records.{fields_of};
-ghost use Rattle.pipe_columns.specs.declared.any_value.AnyValue.{AnyValue};
 ghost use Rattle.pipe_columns.specs.AnyValue.{value_cmp};
 ghost use Rattle.pipe_columns.specs.Frame.{AllFit};
-ghost use Rattle.pipe_csv.specs.Columns.{DoHold, column_of, columns_of, with_row};
-ghost use Rattle.pipe_csv.specs.CsvChunks.{is_ascending, read_row};
-ghost use Rattle.pipe_csv.specs.CsvError.{StopsBy};
+ghost use Rattle.pipe_csv.specs.Columns.{column_of};
+ghost use Rattle.pipe_csv.specs.CsvRows.{is_ascending};
 
-use crate::csv_error::CsvError;
-use crate::field::read_field;
-use csv::ByteRecord;
-use pipe_columns::{AnyValue, Column, DataChunk, DataFrame, Field};
+use pipe_columns::{AnyValue, Column, Field};
 use std::alloc::{AllocError, Global};
-use std::mem;
 
 /// Columns of no values, each with room for some.
 pub fn empty_columns(
@@ -32,42 +25,6 @@ pub fn empty_columns(
         }
     }
     Ok(columns)
-}
-
-/// Adds the values of a record at the ends of the columns.
-pub fn push_record(
-    alloc: Global,
-    columns: &mut Vec<Vec<AnyValue>>,
-    fields: &[Field],
-    entry: &ByteRecord,
-    file: usize,
-    row: usize,
-) -> Result<(), CsvError>
-    requires { vec_len columns.old ≡ length fields.now }
-    ensures pushed { IfOk result (λ _. (values : List AnyValue)
-        × (read_row file row fields.now (fields_of entry.now) ≡ Ok values)
-        × (map (λ c. c.items) columns.new.items
-        ≡ with_row values (map (λ c. c.items) columns.old.items))) }
-    ensures width { vec_len columns.new ≡ length fields.now }
-    ensures stop { IfErr result
-        (λ e. StopsBy e (read_row file row fields.now (fields_of entry.now))) }
-{
-    if entry.len() != fields.len() {
-        return Err(CsvError::Width { file, row });
-    }
-    for (i, field) in fields.iter().enumerate() {
-        let Some(value) = read_field(alloc, field.dtype, entry.get(i).unwrap())? else {
-            return Err(CsvError::Field {
-                file,
-                row,
-                column: i + 1,
-            });
-        };
-        if columns[i].push(value).is_err() {
-            return Err(CsvError::Memory);
-        }
-    }
-    Ok(())
 }
 
 /// Whether a value is less than another.
@@ -101,33 +58,4 @@ pub fn make_column(
     let name = field.name.try_clone(alloc)?;
     let sorted = is_ascending(&values);
     Ok(Column::new(name, field.dtype, sorted, values).unwrap())
-}
-
-/// A chunk of the values of columns, which are left empty.
-pub fn make_chunk(
-    alloc: Global,
-    fields: &[Field],
-    columns: &mut Vec<Vec<AnyValue>>,
-    height: usize,
-    chunk_index: u32,
-) -> Result<DataChunk, AllocError>
-    requires width { vec_len columns.old ≡ length fields.now }
-    requires hold { DoHold height fields.now (map (λ c. c.items) columns.old.items) }
-    ensures { IfOk result (λ chunk. chunk ≡ record {
-      chunk_index = chunk_index;
-      frame = record {
-        height = height;
-        columns = columns_of fields.now (map (λ c. c.items) columns.old.items);
-      };
-    }) }
-{
-    let mut made = Vec::with_capacity(alloc, fields.len())?;
-    for (i, field) in fields.iter().enumerate() {
-        let values = mem::replace(&mut columns[i], Vec::new(alloc));
-        if made.push(make_column(alloc, field, values)?).is_err() {
-            return Err(AllocError);
-        }
-    }
-    let frame = DataFrame::new(height, made).unwrap();
-    Ok(DataChunk { chunk_index, frame })
 }

@@ -1,11 +1,13 @@
 -- Reading the fields of a row, of which the rest is left.
-use Rattle.std.proofs.Common.{◌≡◌, ◌≢◌, ◌∙◌, ◌≤◌, ◌<◌, ◌+◌, ℕ, suc, List, [], ◌∷◌, ◌++◌, length, take, drop, get_or, Bool, true, false, is_some, Option, Some, None, Result, Ok, Err, refl, sym, ap, arith, subst}
+use Rattle.std.proofs.Common.{◌≡◌, ◌≢◌, ◌∙◌, ◌≤◌, ◌<◌, ◌+◌, ◌==◌, ℕ, suc, List, [], ◌∷◌, ◌++◌, length, take, drop, get_or, Bool, true, false, is_some, Option, Some, None, Result, Ok, Err, refl, sym, ap, arith, subst}
 use Rattle.std.specs.Option.{ok_or}
+use Rattle.std.proofs.lemmas.Bool.Decides.{nat_tests}
 use Rattle.std.proofs.lemmas.List.{drop_all, drop_more, append-nil, length-append, length-take}
 use Rattle.pipe_columns.specs.declared.any_value.AnyValue.{AnyValue}
+use Rattle.pipe_columns.specs.declared.data_type.DataType.{DataType}
 use Rattle.pipe_columns.specs.declared.schema.Field.{Field}
 use Rattle.pipe_csv.specs.Fields.{read_field}
-use Rattle.pipe_csv.specs.CsvChunks.{Misfit, after, field, in_front, read_fields, read_row, width}
+use Rattle.pipe_csv.specs.CsvRows.{Misfit, after, field, in_front, read_fields, read_row, width}
 use Rattle.pipe_csv.proofs.RowFacts.{front-front, front-none, row-same, row-width}
 use Rattle.pipe_scan.specs.Records.{InOrder, between, cut}
 
@@ -45,6 +47,30 @@ fields-stop file row fs whole i done rest more f t d h e r s =
     let step : read_fields file row (i + 1) (drop i fs) rest ≡ Err (field file row (i + 1)) = fields-step file row fs i rest more f t h e r ∙ rw s refl in
     d.read ∙ ap (in_front done) step
 
+-- a row that reads has as many fields as the schema
+fields-same : (file row : ℕ) (fs : List Field) (ts : List (List ℕ)) (values : List AnyValue) (b : Bool) → (length ts == length fs) ≡ b → read_row file row fs ts ≡ Ok values → length ts ≡ length fs
+fields-same file row fs ts values true t h = grind (arith, nat_tests)
+fields-same file row fs ts values false t h = let stop : Err (width file row) ≡ Ok values = rw t at h in cc
+
+pub row-fields : (file row : ℕ) (fs : List Field) (ts : List (List ℕ)) (values : List AnyValue) → read_row file row fs ts ≡ Ok values → length ts ≡ length fs
+row-fields file row fs ts values h = fields-same file row fs ts values (length ts == length fs) refl h
+
+-- a field of a row that reads has a value
+value-read : (file row : ℕ) (fs : List Field) (whole : Result (List AnyValue) Misfit) (values : List AnyValue) (i : ℕ) (done : List AnyValue) (rest more : List (List ℕ)) (f : Field) (t : List ℕ) (o : Option AnyValue)
+    → FieldsLeft file row fs whole i done rest → whole ≡ Ok values → i < length fs → f ≡ get_or fs i f → rest ≡ t ∷ more → read_field f.dtype t ≡ o → (v : AnyValue) × (read_field f.dtype t ≡ Some v)
+value-read file row fs whole values i done rest more f t None d w h e r s =
+    let stop : whole ≡ Err (field file row (i + 1)) = fields-stop file row fs whole i done rest more f t d h e r s in
+    cc
+value-read file row fs whole values i done rest more f t (Some v) d w h e r s = (v, s)
+
+pub field-value : (file row : ℕ) (fs : List Field) (whole : Result (List AnyValue) Misfit) (values : List AnyValue) (i : ℕ) (done : List AnyValue) (rest more : List (List ℕ)) (f : Field) (t : List ℕ)
+    → FieldsLeft file row fs whole i done rest → whole ≡ Ok values → i < length fs → f ≡ get_or fs i f → rest ≡ t ∷ more → (v : AnyValue) × (read_field f.dtype t ≡ Some v)
+field-value file row fs whole values i done rest more f t d w h e r = value-read file row fs whole values i done rest more f t (read_field f.dtype t) d w h e r refl
+
+-- so it reads
+pub field-reads : (t : DataType) (text : List ℕ) → ((v : AnyValue) × (read_field t text ≡ Some v)) → is_some (read_field t text) ≡ true
+field-reads t text h = rw (h.1) refl
+
 -- all fields are read
 pub fields-end : (file row : ℕ) (fs : List Field) (whole : Result (List AnyValue) Misfit) (i : ℕ) (done : List AnyValue) (rest : List (List ℕ)) → FieldsLeft file row fs whole i done rest → length fs ≤ i → whole ≡ Ok done
 fields-end file row fs whole i done rest d h =
@@ -74,6 +100,10 @@ order-here n low ends i o h =
 -- the first of the fields that are left of a list
 pub text-here : (ts : List (List ℕ)) (i : ℕ) (t : List ℕ) → i < length ts → t ≡ get_or ts i t → drop i ts ≡ t ∷ drop (i + 1) ts
 text-here ts i t h e = drop_more ts i t h ∙ ap (λ (x : List ℕ). x ∷ drop (i + 1) ts) (sym e)
+
+-- a list with one more
+pub length-push : (xs : List AnyValue) (x : AnyValue) → length (xs ++ (x ∷ [])) ≡ length xs + 1
+length-push xs x = omega (arith, length-append {A = AnyValue})
 
 -- as many fields as ends
 pub length-cut : (text : List ℕ) (low : ℕ) (ends : List ℕ) → length (cut text low ends) ≡ length ends

@@ -5,7 +5,7 @@ use Rattle.std.proofs.lemmas.List.{length-drop, length-take, nil_from_length}
 use Rattle.pipe_columns.specs.declared.any_value.AnyValue.{AnyValue}
 use Rattle.pipe_columns.specs.declared.schema.Field.{Field}
 use Rattle.pipe_columns.specs.Pieces.{pieces}
-use Rattle.pipe_csv.specs.CsvChunks.{Misfit}
+use Rattle.pipe_csv.specs.CsvRows.{Misfit}
 use Rattle.pipe_csv.specs.CsvError.{StopsBy}
 use Rattle.pipe_csv.specs.declared.csv_error.CsvError.{CsvError}
 use Rattle.pipe_csv.specs.declared.csv_error.CsvError.TheVariants as ce

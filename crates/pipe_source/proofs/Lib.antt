@@ -1,7 +1,13 @@
 pub mod FieldsLeft
 pub mod RowsLeft
+pub mod StartFacts
 pub mod ColumnLaws
+pub mod FieldsAt
 pub mod TextRows
 pub mod FileRows
 pub mod ReaderFacts
+pub mod KeptFacts
 pub mod SourceFacts
+pub mod ChosenColumns
+pub mod RoundFacts
+pub mod ChunksFit

@@ -1,23 +1,27 @@
 -- What a reader has left when it reads on to a file, and when it gives a chunk.
-use Rattle.std.proofs.Common.{◌≡◌, ◌∙◌, ◌≤◌, ◌<◌, ◌+◌, ◌-◌, ◌^◌, ◌%◌, ℕ, List, [], ◌∷◌, ◌++◌, length, take, drop, get_or, min, nat_le, Bool, true, false, Option, Some, None, option_map, Ok, refl, sym, ap, arith}
+use Rattle.std.proofs.Common.{◌≡◌, ◌∙◌, ◌≤◌, ◌<◌, ◌+◌, ◌-◌, ◌^◌, ◌%◌, ℕ, suc, rules, List, [], ◌∷◌, ◌++◌, length, take, drop, get_or, min, nat_le, Bool, true, false, Option, Some, None, option_map, Ok, refl, sym, ap, arith}
 use Rattle.std.specs.Option.{IfSome}
 use Rattle.std.proofs.lemmas.Bool.Decides.{nat_tests}
-use Rattle.std.proofs.lemmas.List.{drop_all, drop_more, length-take, map-append, take_all}
+use Rattle.std.proofs.lemmas.List.{drop_all, drop_more, map-append, take_all}
 use Rattle.pipe_columns.specs.declared.any_value.AnyValue.{AnyValue}
 use Rattle.pipe_columns.specs.declared.schema.Field.{Field}
 use Rattle.pipe_columns.specs.declared.data_chunk.DataChunk.{DataChunk}
 use Rattle.pipe_columns.specs.Frame.{ColumnData, FitsSchema, field_of, fields_of}
-use Rattle.pipe_csv.specs.CsvChunks.{flagged_frame}
+use Rattle.pipe_csv.specs.CsvRows.{flagged_frame}
 use Rattle.pipe_csv.specs.Columns.{columns_of, values_from}
-use Rattle.pipe_csv.proofs.PieceFacts.{columns-flagged, frame-fits}
+use Rattle.pipe_wanted.specs.Wanted.{chosen, narrowed_chunks}
+use Rattle.pipe_wanted.proofs.WantedFacts.{narrowed-fields}
+use Rattle.pipe_source.proofs.ChosenColumns.{chosen-columns, chosen-ends}
+use Rattle.pipe_csv.proofs.PieceFacts.{columns-flagged, frame-fits, length-values}
 use Rattle.pipe_io.specs.Files.{Files, file_of}
 use Rattle.pipe_scan.specs.Records.{records_at}
 use Rattle.pipe_source.specs.declared.file_text.FileText.{FileText}
 use Rattle.pipe_source.specs.declared.read_options.CsvReadOptions.{CsvReadOptions}
 use Rattle.pipe_source.specs.declared.source_place.SourcePlace.{SourcePlace}
-use Rattle.pipe_source.specs.CsvChunks.{behind, chunks_then, csv_chunks_from, file_chunks, file_rows, index_column, index_field, is_any_wanted, is_numbered, no_more, path_column, path_field, source_fields, source_frame, wanted_after, with_first, with_last}
+use Rattle.pipe_source.specs.CsvChunks.{CsvChunks, csv_chunks, narrowed, source_wanted, wanted_fields, behind, chunks_then, csv_chunks_from, file_chunks, file_rows, index_column, index_field, is_any_wanted, is_numbered, no_more, path_column, path_field, source_fields, source_frame, wanted_after, with_first, with_last}
 use Rattle.pipe_source.specs.Found.{IsFound, file_at}
-use Rattle.pipe_source.specs.Reader.{ReaderState, left_of}
+use Rattle.pipe_source.specs.Kept.{chunk_of_rows, given_chunk}
+use Rattle.pipe_source.specs.Reader.{ReaderState, left_of, whole_left}
 use Rattle.pipe_source.specs.Rows.{AreRowsAt, rows_in}
 use Rattle.pipe_source.proofs.FileRows.{behind-none, behind-rest, first-chunk, next-rows, none-wanted}
 
@@ -37,7 +41,7 @@ some-left schema text cursor left rows seen a e h = omega (arith, a.size, ap len
 -- ---- reading on
 
 -- without rows the rest begins with the next file
-without-rows : (files : Files) (s : ReaderState) → s.rows ≡ [] → left_of files s ≡ csv_chunks_from s.options s.schema files (file_at s.at s.at.file) s.names
+without-rows : (files : Files) (s : ReaderState) → s.rows ≡ [] → whole_left files s ≡ csv_chunks_from s.options s.schema files (file_at s.at s.at.file) s.names
 without-rows files s e =
     ap (λ (t : List (List AnyValue)). chunks_then (file_chunks s.options s.schema s.file s.at t) (csv_chunks_from s.options s.schema files (behind s.options s.at t) s.names)) e
     ∙ ap (λ (p : SourcePlace). csv_chunks_from s.options s.schema files p s.names) (behind-none s.options s.at)
@@ -48,29 +52,33 @@ zero-wanted o e = rw e refl
 
 -- without rows, and where none is wanted, nothing is left
 pub nothing-wanted : (files : Files) (s : ReaderState) → s.rows ≡ [] → wanted_after s.options.n_rows s.at.rows ≡ Some 0 → left_of files s ≡ no_more
-nothing-wanted files s e h = without-rows files s e ∙ none-wanted s.options s.schema files (file_at s.at s.at.file) s.names (zero-wanted (wanted_after s.options.n_rows s.at.rows) h)
+nothing-wanted files s e h = ap (narrowed s.options s.wanted) (without-rows files s e ∙ none-wanted s.options s.schema files (file_at s.at s.at.file) s.names (zero-wanted (wanted_after s.options.n_rows s.at.rows) h))
 
 -- a file that was found has what was left
-pub found-left : (told : Option Files) (options : CsvReadOptions) (schema : List Field) (names : List (List ℕ)) (last : SourcePlace) (i : ℕ) (f : FileText) (file : List ℕ) (rows : List (List AnyValue))
-    → IsFound options schema told names last i f → rows ≡ [] → is_any_wanted (wanted_after options.n_rows last.rows) ≡ true
+pub found-left : (told : Option Files) (options : CsvReadOptions) (schema : List Field) (wanted : List Bool) (names : List (List ℕ)) (last : SourcePlace) (i : ℕ) (f : FileText) (rows : List (List AnyValue))
+    → (h : IsFound options schema told names last i f) → rows ≡ h.loaded.rows → is_any_wanted (wanted_after options.n_rows last.rows) ≡ true
     → IfSome told (λ files.
-    left_of files (record { schema = schema; options = options; at = file_at last i; file = get_or names (i + 1 - 1) []; rows = rows_in schema (take f.count (records_at f.text.items f.begin)); names = drop (i + 1) names })
-    ≡ left_of files (record { schema = schema; options = options; at = last; file = file; rows = rows; names = drop last.file names }))
-found-left None options schema names last i f file rows h e w = tt
-found-left (Some files) options schema names last i f file rows h e w =
+    left_of files (record { schema = schema; wanted = wanted; options = options; at = file_at last i; file = get_or names (i + 1 - 1) []; rows = rows; names = drop (i + 1) names })
+    ≡ left_of files (record { schema = schema; wanted = wanted; options = options; at = last; file = []; rows = []; names = drop last.file names }))
+found-left None options schema wanted names last i f rows h e w = tt
+found-left (Some files) options schema wanted names last i f rows h e w =
     let name : List ℕ = get_or names i [] in
     let own : List (List AnyValue) = h.loaded.rows in
     let read : file_rows options schema (file_at last i) (file_of files name) ≡ Ok own = ap (file_rows options schema (file_at last i)) h.loaded.whole ∙ h.loaded.wanted in
     let next = next-rows options schema files (file_at last i) (drop i names) (drop (i + 1) names) name own (drop_more names i [] h.within) w read in
     let same : i + 1 - 1 ≡ i = omega arith in
-    ap (λ (k : ℕ). left_of files (record { schema = schema; options = options; at = file_at last i; file = get_or names k []; rows = rows_in schema (take f.count (records_at f.text.items f.begin)); names = drop (i + 1) names })) same
-    ∙ ap (λ (t : List (List AnyValue)). left_of files (record { schema = schema; options = options; at = file_at last i; file = name; rows = t; names = drop (i + 1) names })) (rows-seen schema f.text.items f.begin f.count own h.loaded.placed)
-    ∙ sym (without-rows files (record { schema = schema; options = options; at = last; file = file; rows = rows; names = drop last.file names }) e ∙ h.passed ∙ next)
+    ap (narrowed options wanted) (ap (λ (k : ℕ). whole_left files (record { schema = schema; wanted = wanted; options = options; at = file_at last i; file = get_or names k []; rows = rows; names = drop (i + 1) names })) same
+    ∙ ap (λ (t : List (List AnyValue)). whole_left files (record { schema = schema; wanted = wanted; options = options; at = file_at last i; file = name; rows = t; names = drop (i + 1) names })) e
+    ∙ sym (without-rows files (record { schema = schema; wanted = wanted; options = options; at = last; file = []; rows = []; names = drop last.file names }) refl ∙ h.passed ∙ next))
+
+-- without rows it doesn't matter whose they are not
+pub behind-rows : (files : Files) (s : ReaderState) → s.rows ≡ [] → left_of files s ≡ left_of files (record { schema = s.schema; wanted = s.wanted; options = s.options; at = s.at; file = []; rows = []; names = s.names })
+behind-rows files s e = ap (narrowed s.options s.wanted) (without-rows files s e ∙ sym (without-rows files (record { schema = s.schema; wanted = s.wanted; options = s.options; at = s.at; file = []; rows = []; names = s.names }) refl))
 
 -- ---- giving a chunk
 
 -- the first rows of a chunk, of which there may be fewer
-first-rows : (count m n : ℕ) (xs : List (List AnyValue)) (b : Bool) → nat_le m n ≡ b → count ≡ min m n → length xs ≡ m → take count xs ≡ take n xs
+pub first-rows : (count m n : ℕ) (xs : List (List AnyValue)) (b : Bool) → nat_le m n ≡ b → count ≡ min m n → length xs ≡ m → take count xs ≡ take n xs
 first-rows count m n xs true t e h =
     let few : m ≤ n = grind (arith, nat_tests) in
     take_all count xs (omega arith) ∙ sym (take_all n xs (omega arith))
@@ -89,38 +97,18 @@ other-rows count m n xs false t e h =
     let same : count ≡ n = omega arith in
     ap (λ (k : ℕ). drop k xs) same
 
--- a chunk of some rows of a file
-abbrev pub chunk_of_rows : CsvReadOptions → List Field → List ℕ → SourcePlace → List (List AnyValue) → DataChunk
-chunk_of_rows options schema file at rows = record { chunk_index = at.chunks % 2 ^ 32; frame = source_frame options schema file at.rows rows }
-
 -- a place behind a chunk of so many rows
 abbrev pub chunk_later : SourcePlace → ℕ → SourcePlace
 chunk_later at count = record { file = at.file; chunks = at.chunks + 1; rows = at.rows + count }
 
 -- the first chunk goes, and the rest is left
-first-goes : (files : Files) (options : CsvReadOptions) (schema : List Field) (at : SourcePlace) (file : List ℕ) (names : List (List ℕ)) (rows : List (List AnyValue)) → 0 < options.chunk_size → 0 < length rows
-    → left_of files (record { schema = schema; options = options; at = at; file = file; rows = rows; names = names })
-    ≡ chunks_then (chunk_of_rows options schema file at (take options.chunk_size rows) ∷ []) (left_of files (record { schema = schema; options = options; at = chunk_later at (length (take options.chunk_size rows)); file = file; rows = drop options.chunk_size rows; names = names }))
-first-goes files options schema at file names rows p h =
+pub first-goes : (files : Files) (options : CsvReadOptions) (schema : List Field) (wanted : List Bool) (at : SourcePlace) (file : List ℕ) (names : List (List ℕ)) (rows : List (List AnyValue)) → 0 < options.chunk_size → 0 < length rows
+    → left_of files (record { schema = schema; wanted = wanted; options = options; at = at; file = file; rows = rows; names = names })
+    ≡ chunks_then (given_chunk options wanted schema file at (take options.chunk_size rows) ∷ []) (left_of files (record { schema = schema; wanted = wanted; options = options; at = chunk_later at (length (take options.chunk_size rows)); file = file; rows = drop options.chunk_size rows; names = names }))
+first-goes files options schema wanted at file names rows p h =
     let n : ℕ = options.chunk_size in
-    ap (λ (t : List DataChunk). chunks_then t (csv_chunks_from options schema files (behind options at rows) names)) (first-chunk options schema file at rows p h)
-    ∙ ap (λ (q : SourcePlace). chunks_then (chunk_of_rows options schema file at (take n rows) ∷ file_chunks options schema file (chunk_later at (length (take n rows))) (drop n rows)) (csv_chunks_from options schema files q names)) (behind-rest options at rows p h)
-
--- a chunk of the first rows that are left was given
-pub taken-left : (files : Files) (options : CsvReadOptions) (schema : List Field) (at : SourcePlace) (file : List ℕ) (names : List (List ℕ)) (rows before now : List (List AnyValue)) (left count : ℕ)
-    → before ≡ rows → now ≡ drop count rows → length rows ≡ left → count ≡ min left options.chunk_size → 0 < options.chunk_size → 0 < left
-    → left_of files (record { schema = schema; options = options; at = at; file = file; rows = before; names = names })
-    ≡ chunks_then (chunk_of_rows options schema file at (take count rows) ∷ []) (left_of files (record { schema = schema; options = options; at = chunk_later at count; file = file; rows = now; names = names }))
-taken-left files options schema at file names rows before now left count b w size c p h =
-    let n : ℕ = options.chunk_size in
-    let front : take n rows ≡ take count rows = sym (first-rows count left n rows _ refl c size) in
-    let back : drop n rows ≡ now = sym (w ∙ other-rows count left n rows _ refl c size) in
-    let many : length (take n rows) ≡ count = omega (arith, length-take n rows, size, c) in
-    ap (λ (t : List (List AnyValue)). left_of files (record { schema = schema; options = options; at = at; file = file; rows = t; names = names })) b
-    ∙ first-goes files options schema at file names rows p (omega (arith, size, h))
-    ∙ ap (λ (t : List (List AnyValue)). chunks_then (chunk_of_rows options schema file at t ∷ []) (left_of files (record { schema = schema; options = options; at = chunk_later at (length (take n rows)); file = file; rows = drop n rows; names = names }))) front
-    ∙ ap (λ (k : ℕ). chunks_then (chunk_of_rows options schema file at (take count rows) ∷ []) (left_of files (record { schema = schema; options = options; at = chunk_later at k; file = file; rows = drop n rows; names = names }))) many
-    ∙ ap (λ (t : List (List AnyValue)). chunks_then (chunk_of_rows options schema file at (take count rows) ∷ []) (left_of files (record { schema = schema; options = options; at = chunk_later at count; file = file; rows = t; names = names }))) back
+    ap (narrowed options wanted) (ap (λ (t : List DataChunk). chunks_then t (csv_chunks_from options schema files (behind options at rows) names)) (first-chunk options schema file at rows p h)
+    ∙ ap (λ (q : SourcePlace). chunks_then (chunk_of_rows options schema file at (take n rows) ∷ file_chunks options schema file (chunk_later at (length (take n rows))) (drop n rows)) (csv_chunks_from options schema files q names)) (behind-rest options at rows p h))
 
 -- the numbers of the rows behind a chunk
 pub numbered-rest : (index : Option (List ℕ × ℕ)) (given left count : ℕ) → count ≤ left → is_numbered index given left ≡ true → is_numbered index (given + count) (left - count) ≡ true
@@ -140,17 +128,68 @@ ends-fit (Some i) (Some p) given count file columns schema e =
 pub source-fits : (options : CsvReadOptions) (schema : List Field) (file : List ℕ) (given : ℕ) (rows : List (List AnyValue)) → FitsSchema (source_fields options schema) (source_frame options schema file given rows)
 source-fits options schema file given rows = ends-fit options.row_index options.include_file_path given (length rows) file (flagged_frame schema rows).columns schema (frame-fits schema rows)
 
--- the columns of rows make the chunk of these rows
-pub chunk-made : (options : CsvReadOptions) (schema : List Field) (file : List ℕ) (at : SourcePlace) (count : ℕ) (held : List (List AnyValue)) (rows : List (List AnyValue)) (chunk : DataChunk)
+-- and its wanted columns the wanted ones
+pub given-fits : (options : CsvReadOptions) (wanted : List Bool) (schema : List Field) (file : List ℕ) (at : SourcePlace) (rows : List (List AnyValue)) → FitsSchema (wanted_fields options schema wanted) (given_chunk options wanted schema file at rows).frame
+given-fits options wanted schema file at rows =
+    narrowed-fields (source_wanted options wanted) (source_frame options schema file at.rows rows) ∙ ap (chosen (source_wanted options wanted)) (source-fits options schema file at.rows rows)
+
+-- what is wanted of columns at both ends of others
+wanted-ends : {A : Type 0} (options : CsvReadOptions) (wanted : List Bool) (f : List ℕ × ℕ → A) (xs : List A) (last : Option A) → length wanted ≤ length xs
+    → chosen (source_wanted options wanted) (with_first (option_map f options.row_index) (with_last xs last)) ≡ with_first (option_map f options.row_index) (with_last (chosen wanted xs) last)
+wanted-ends options wanted f xs last h = ends options.row_index where
+  ends : (index : Option (List ℕ × ℕ)) → chosen (with_first (option_map (λ (i : List ℕ × ℕ). true) index) wanted) (with_first (option_map f index) (with_last xs last)) ≡ with_first (option_map f index) (with_last (chosen wanted xs) last)
+  ends None = chosen-ends None wanted xs last h
+  ends (Some i) = chosen-ends (Some (f i)) wanted xs last h
+
+-- the columns of rows are as many as the fields
+length-flagged : (schema : List Field) (rows : List (List AnyValue)) → length (flagged_frame schema rows).columns ≡ length schema
+length-flagged schema rows = sym (ap length (columns-flagged 0 schema rows)) ∙ same schema (values_from 0 schema rows) (length-values 0 schema rows) where
+  same : (fs : List Field) (cs : List (List AnyValue)) → length cs ≡ length fs → length (columns_of fs cs) ≡ length fs
+  same [] cs e = refl
+  same (f ∷ fs) [] e = cc
+  same (f ∷ fs) (c ∷ cs) e = ap (λ n. suc n) (same fs cs (omega arith))
+
+-- the wanted columns of rows make the chunk of these rows
+pub chunk-made : (options : CsvReadOptions) (wanted : List Bool) (schema kept : List Field) (file : List ℕ) (at : SourcePlace) (count : ℕ) (held : List (List AnyValue)) (rows : List (List AnyValue)) (chunk : DataChunk)
     → chunk ≡ record {
       chunk_index = at.chunks % 2 ^ 32;
-      frame = record { height = count; columns = with_first (option_map (index_column at.rows count) options.row_index) (with_last (columns_of schema held) (option_map (path_column file count) options.include_file_path)) };
+      frame = record { height = count; columns = with_first (option_map (index_column at.rows count) options.row_index) (with_last (columns_of kept held) (option_map (path_column file count) options.include_file_path)) };
     }
-    → held ≡ values_from 0 schema rows → length rows ≡ count → chunk ≡ chunk_of_rows options schema file at rows
-chunk-made options schema file at count held rows chunk c h n =
-    let columns : columns_of schema held ≡ (flagged_frame schema rows).columns = ap (columns_of schema) h ∙ columns-flagged 0 schema rows in
+    → kept ≡ chosen wanted schema → length wanted ≤ length schema → held ≡ chosen wanted (values_from 0 schema rows) → length rows ≡ count → chunk ≡ given_chunk options wanted schema file at rows
+chunk-made options wanted schema kept file at count held rows chunk c k few h n =
+    let whole : List ColumnData = (flagged_frame schema rows).columns in
+    let columns : columns_of kept held ≡ chosen wanted whole =
+    (λ i. columns_of (k i) (h i)) ∙ chosen-columns wanted schema (values_from 0 schema rows) ∙ ap (chosen wanted) (columns-flagged 0 schema rows) in
     let made : ℕ → List ColumnData → DataChunk = λ k cs. record {
       chunk_index = at.chunks % 2 ^ 32;
-      frame = record { height = k; columns = with_first (option_map (index_column at.rows k) options.row_index) (with_last cs (option_map (path_column file k) options.include_file_path)) };
+      frame = record { height = k; columns = cs };
     } in
-    c ∙ ap (made count) columns ∙ ap (λ (k : ℕ). made k (flagged_frame schema rows).columns) (sym n)
+    let ends : ℕ → List ColumnData → List ColumnData = λ k cs. with_first (option_map (index_column at.rows k) options.row_index) (with_last cs (option_map (path_column file k) options.include_file_path)) in
+    c ∙ ap (λ (t : List ColumnData). made count (ends count t)) columns ∙ ap (λ (k : ℕ). made k (ends k (chosen wanted whole))) (sym n)
+    ∙ ap (made (length rows)) (sym (wanted-ends options wanted (index_column at.rows (length rows)) whole (option_map (path_column file (length rows)) options.include_file_path) (omega (arith, few, length-flagged schema rows))))
+
+-- where all columns are wanted, all are given
+all-fields : {A : Type 0} (options : CsvReadOptions) (xs : List A) → chosen (source_wanted options []) xs ≡ xs
+all-fields options xs = all options.row_index xs where
+  all : {A : Type 0} (index : Option (List ℕ × ℕ)) (xs : List A) → chosen (with_first (option_map (λ (i : List ℕ × ℕ). true) index) []) xs ≡ xs
+  all None xs = refl
+  all (Some i) [] = refl
+  all (Some i) (x ∷ xs) = refl
+
+pub all-wanted : (options : CsvReadOptions) (schema : List Field) → wanted_fields options schema [] ≡ source_fields options schema
+all-wanted options schema = all-fields options (source_fields options schema)
+
+all-chunks : (options : CsvReadOptions) (chunks : List DataChunk) → narrowed_chunks (source_wanted options []) chunks ≡ chunks
+all-chunks options [] = refl
+all-chunks options (c ∷ cs) =
+    let one = all-fields options c.frame.columns in
+    let rest = all-chunks options cs in
+    λ i. record { chunk_index = c.chunk_index; frame = record { height = c.frame.height; columns = one i } } ∷ rest i
+
+pub all-given : (options : CsvReadOptions) (given : CsvChunks) → narrowed options [] given ≡ given
+all-given options given = ap (λ (t : List DataChunk). record { chunks = t; stop = given.stop }) (all-chunks options given.chunks)
+
+-- before any file is read, all of them are left
+pub fresh-left : (files : Files) (options : CsvReadOptions) (schema : List Field) (wanted : List Bool) (file : List ℕ) (names : List (List ℕ))
+    → whole_left files (record { schema = schema; wanted = wanted; options = options; at = record { file = 0; chunks = 0; rows = 0 }; file = file; rows = []; names = names }) ≡ csv_chunks files names schema options
+fresh-left files options schema wanted file names = search rules

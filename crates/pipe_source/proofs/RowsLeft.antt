@@ -5,12 +5,12 @@ use Rattle.pipe_columns.specs.declared.any_value.AnyValue.{AnyValue}
 use Rattle.pipe_columns.specs.declared.schema.Field.{Field}
 use Rattle.pipe_csv.specs.declared.csv_error.CsvError.{CsvError}
 use Rattle.pipe_csv.specs.declared.csv_error.CsvError.TheVariants as ce
-use Rattle.pipe_csv.specs.CsvChunks.{Misfit, in_front, read_row, read_rows}
+use Rattle.pipe_csv.specs.CsvRows.{Misfit, in_front, read_row, read_rows}
 use Rattle.pipe_csv.specs.CsvError.{StopsBy}
 use Rattle.pipe_csv.proofs.ColumnFacts.{items_of}
 use Rattle.pipe_csv.proofs.RowFacts.{front-front, front-none}
 use Rattle.pipe_scan.specs.Records.{Records}
-use Rattle.pipe_source.specs.Rows.{StopsFirst}
+use Rattle.pipe_source.specs.Rows.{FirstReads, StopsFirst}
 
 -- the first rows, before the rest of the records
 pub record RowsLeft (file : ℕ) (fs : List Field) (whole : Result (List (List AnyValue)) Misfit) (i : ℕ) (done : List (List AnyValue)) (rest : Records) : Type 0 where
@@ -66,6 +66,19 @@ pub first-stops : (file : ℕ) (fs : List Field) (whole : Result (List (List Any
     → RowsLeft file fs whole i done (take (most - i) recs) → i < most → StopsFirst e file (i + 1) fs recs → StopsBy e whole
 first-stops file fs whole most i done [] e d h s = memory-stops e whole s
 first-stops file fs whole most i done (r ∷ more) e d h s = rows-stop file fs whole i done (take (most - i) (r ∷ more)) (take (most - (i + 1)) more) r e d (take-first most i (r ∷ more) more r h refl) s
+
+-- a row that reads among rows that do
+row-read : (file i : ℕ) (fs : List Field) (whole : Result (List (List AnyValue)) Misfit) (rows done : List (List AnyValue)) (rest more : Records) (r : List (List ℕ)) (o : Result (List AnyValue) Misfit)
+    → RowsLeft file fs whole i done rest → whole ≡ Ok rows → rest ≡ r ∷ more → read_row file (i + 1) fs r ≡ o → (values : List AnyValue) × (read_row file (i + 1) fs r ≡ Ok values)
+row-read file i fs whole rows done rest more r (Ok values) d w e h = (values, h)
+row-read file i fs whole rows done rest more r (Err m) d w e h =
+    let stop : whole ≡ Err m = d.read ∙ stop-front file fs i done rest more r m e h in
+    cc
+
+-- the next of rows that read does
+pub next-reads : (file : ℕ) (fs : List Field) (whole : Result (List (List AnyValue)) Misfit) (rows done : List (List AnyValue)) (most i : ℕ) (recs : Records) → RowsLeft file fs whole i done (take (most - i) recs) → whole ≡ Ok rows → i < most → FirstReads file (i + 1) fs recs
+next-reads file fs whole rows done most i [] d w h = tt
+next-reads file fs whole rows done most i (r ∷ more) d w h = row-read file i fs whole rows done (take (most - i) (r ∷ more)) (take (most - (i + 1)) more) r (read_row file (i + 1) fs r) d w (take-first most i (r ∷ more) more r h refl) refl
 
 -- no record is left
 pub rows-over : (file : ℕ) (fs : List Field) (whole : Result (List (List AnyValue)) Misfit) (i : ℕ) (done : List (List AnyValue)) (rest : Records) → RowsLeft file fs whole i done rest → rest ≡ [] → whole ≡ Ok done

@@ -7,13 +7,13 @@ use Rattle.csv.specs.declared.parser.State.TheVariants as st
 use Rattle.pipe_columns.specs.declared.any_value.AnyValue.{AnyValue}
 use Rattle.pipe_columns.specs.declared.schema.Field.{Field}
 use Rattle.pipe_csv.specs.Fields.{read_field}
-use Rattle.pipe_csv.specs.CsvChunks.{Misfit, after, field, header, is_header, read_fields, read_row, read_rows, width}
-use Rattle.pipe_csv.proofs.ChunkLaws.{length-rows}
+use Rattle.pipe_csv.specs.CsvRows.{Misfit, after, field, header, is_header, read_fields, read_row, read_rows, width}
+use Rattle.pipe_csv.proofs.ReadFacts.{length-rows}
 use Rattle.pipe_csv.proofs.ReadFacts.{after-ok, same_Ok}
 use Rattle.pipe_io.specs.declared.whole_file.TheConstants.{MOST_FILE_BYTES}
 use Rattle.pipe_scan.specs.Records.{Records, records_at}
 use Rattle.pipe_scan.specs.Row.{Takes}
-use Rattle.pipe_csv.proofs.RecordList.{length-records}
+use Rattle.pipe_scan.proofs.RecordList.{length-records}
 use Rattle.pipe_source.specs.CsvChunks.{text_rows, wanted_of, wanted_rows}
 use Rattle.pipe_source.specs.Rows.{AreRowsAt}
 

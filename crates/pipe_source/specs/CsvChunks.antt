@@ -9,7 +9,8 @@ use Rattle.pipe_columns.specs.declared.schema.Field.{Field}
 use Rattle.pipe_columns.specs.declared.data_chunk.DataChunk.{DataChunk}
 use Rattle.pipe_columns.specs.Frame.{ColumnData, FrameData}
 use Rattle.pipe_columns.specs.Pieces.{pieces}
-use Rattle.pipe_csv.specs.CsvChunks.{Misfit, flagged_frame, header, is_ascending, is_header, missing, read_rows}
+use Rattle.pipe_wanted.specs.Wanted.{chosen, narrowed_chunks}
+use Rattle.pipe_csv.specs.CsvRows.{Misfit, flagged_frame, header, is_ascending, is_header, missing, read_rows}
 use Rattle.pipe_io.specs.Files.{Files, file_of}
 use Rattle.pipe_io.specs.declared.whole_file.TheConstants.{MOST_FILE_BYTES}
 use Rattle.pipe_source.specs.declared.source_place.SourcePlace.{SourcePlace}
@@ -166,6 +167,24 @@ behind options at rows = record {
   file = at.file + 1;
   chunks = at.chunks + length (pieces options.chunk_size rows);
   rows = at.rows + length rows;
+}
+
+-- ---- wanted columns
+
+-- which columns of a source are wanted, by those of the schema: those at both ends always are
+abbrev pub source_wanted : CsvReadOptions → List Bool → List Bool
+source_wanted options wanted = with_first (option_map (λ index. true) options.row_index) wanted
+
+-- the fields of chunks of which some columns are wanted
+abbrev pub wanted_fields : CsvReadOptions → List Field → List Bool → List Field
+wanted_fields options schema wanted =
+    chosen (source_wanted options wanted) (source_fields options schema)
+
+-- what a source gives of its wanted columns
+abbrev pub narrowed : CsvReadOptions → List Bool → CsvChunks → CsvChunks
+narrowed options wanted given = record {
+  chunks = narrowed_chunks (source_wanted options wanted) given.chunks;
+  stop = given.stop;
 }
 
 -- ---- files

@@ -2,7 +2,10 @@ pub mod CsvChunks
 pub mod Reader
 pub mod Worked
 pub mod Rows
+pub mod Starts
 pub mod Kept
 pub mod Found
 pub mod Next
 pub mod Source
+pub mod Rounds
+pub mod ReadOn

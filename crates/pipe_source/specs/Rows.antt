@@ -1,8 +1,9 @@
 -- Of the proofs alone: rows that stand in a text, and what reading them tells.
-use Rattle.std.specs.Prelude.{◌≡◌, ◌≤◌, ℕ, Bool, true, false, List, [], ◌∷◌, length, take, Option, Some, Result, Ok, Err, IfSome, ⊤}
+use Rattle.std.specs.Prelude.{◌≡◌, ◌≤◌, ◌<◌, ◌*◌, ℕ, Bool, true, false, List, [], ◌∷◌, length, take, drop, get_or, Option, Some, Result, Ok, Err, IfSome, ⊤}
 use Rattle.pipe_columns.specs.declared.any_value.AnyValue.{AnyValue}
 use Rattle.pipe_columns.specs.declared.schema.Field.{Field}
-use Rattle.pipe_csv.specs.CsvChunks.{Misfit, read_row, read_rows, field, header, missing, width}
+use Rattle.pipe_wanted.specs.Wanted.{chosen}
+use Rattle.pipe_csv.specs.CsvRows.{Misfit, read_row, read_rows, field, header, missing, width}
 use Rattle.pipe_csv.specs.Columns.{with_row}
 use Rattle.pipe_csv.specs.CsvError.{StopsBy}
 use Rattle.pipe_csv.specs.declared.csv_error.CsvError.{CsvError}
@@ -30,6 +31,17 @@ pub record AreRowsAt
   pub size : length rows ≡ count
   pub within : at ≤ length text
 
+-- the records behind n of those from a place of a text on begin at another place
+pub record IsStart (text : List ℕ) (at n start : ℕ) : Type 0 where
+  pub behind : records_at text start ≡ drop n (records_at text at)
+  pub within : start ≤ length text
+
+-- each piece of so many rows of a text has its start
+pub record AreStarts (text : List ℕ) (at size count : ℕ) (starts : List ℕ) : Type 0 where
+  pub each : (k : ℕ) → k < length starts
+      → (k * size < count) × IsStart text at (k * size) (get_or starts k 0)
+  pub all : count ≤ length starts * size
+
 -- a text that was read whole and looked over has the wanted rows of its file
 pub record IsLoaded
     (options : CsvReadOptions) (schema : List Field) (at : SourcePlace)
@@ -38,6 +50,7 @@ pub record IsLoaded
   pub whole : IsWhole told name f.text.items
   pub wanted : file_rows options schema at (Some f.text.items) ≡ Ok rows
   pub placed : AreRowsAt schema f.text.items f.begin f.count rows
+  pub starts : AreStarts f.text.items f.begin options.chunk_size f.count f.starts.items
   pub few : f.count ≤ MOST_FILE_BYTES
 
 -- the next record was a row, or there was none
@@ -74,11 +87,17 @@ abbrev pub StopsTold :
 StopsTold e options schema at told name =
     IfSome told (λ files. StopsFile e (file_rows options schema at (file_of files name)))
 
--- whether there was one more row, whose values then went to the ends of columns
+-- the first of some records reads, if there is one
+abbrev pub FirstReads : ℕ → ℕ → List Field → List (List (List ℕ)) → Type 0
+FirstReads file row schema [] = ⊤
+FirstReads file row schema (r ∷ rs) =
+    (values : List AnyValue) × (read_row file row schema r ≡ Ok values)
+
+-- whether there was one more row, whose wanted values then went to the ends of columns
 abbrev pub PushesRow :
-    ℕ → ℕ → List Field → List ℕ → ℕ → ℕ
+    ℕ → ℕ → List Field → List Bool → List ℕ → ℕ → ℕ
     → List (List AnyValue) → List (List AnyValue) → Bool → Type 0
-PushesRow file row schema text at next old new true =
+PushesRow file row schema wanted text at next old new true =
     (values : List AnyValue) × ReadsRow file row schema text at next values
-    × (new ≡ with_row values old)
-PushesRow file row schema text at next old new false = records_at text at ≡ []
+    × (new ≡ with_row (chosen wanted values) old)
+PushesRow file row schema wanted text at next old new false = records_at text at ≡ []

@@ -4,7 +4,7 @@ use Rattle.pipe_columns.specs.declared.data_type.DataType.TheVariants as dt
 use Rattle.pipe_columns.specs.declared.any_value.AnyValue.{AnyValue}
 use Rattle.pipe_columns.specs.declared.data_chunk.DataChunk.{DataChunk}
 use Rattle.pipe_columns.specs.declared.schema.Field.{Field}
-use Rattle.pipe_csv.specs.CsvChunks.{flagged_frame}
+use Rattle.pipe_csv.specs.CsvRows.{flagged_frame}
 use Rattle.pipe_io.specs.Files.{Files}
 use Rattle.pipe_source.specs.declared.read_options.CsvReadOptions.{CsvReadOptions}
 

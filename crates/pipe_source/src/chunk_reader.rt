@@ -1,99 +1,65 @@
 //! What reads the chunks of named files, one after another.
 
-ghost use Rattle.std.specs.Prelude.{◌≡◌, ◌⊎◌, ◌<◌, ◌≤◌, ◌+◌, ◌%◌, ◌^◌, [], IfErr, IfOk, IfSome, IsErrOf, List, OnErr, Some, length, drop};
-ghost use Rattle.pipe_columns.specs.declared.any_value.AnyValue.{AnyValue};
+ghost use Rattle.std.specs.Prelude.{◌≡◌, ◌⊎◌, ◌<◌, ◌≤◌, ◌+◌, ◌%◌, ◌^◌, [], IfErr, IfOk, IfSome, IsErrOf, List, OnErr, Some, All, length, vec_len};
 ghost use Rattle.pipe_columns.specs.Causes.{HasCause};
 ghost use Rattle.pipe_columns.specs.Frame.{FitsSchema};
 ghost use Rattle.pipe_io.specs.Files.{Files};
-ghost use Rattle.pipe_scan.specs.Records.{records_at};
-ghost use Rattle.pipe_source.specs.CsvChunks.{csv_chunks, source_fields, source_frame};
-ghost use Rattle.pipe_source.specs.Kept.{AreNumbered};
+ghost use Rattle.pipe_source.specs.CsvChunks.{chunks_then, csv_chunks, narrowed, no_more, source_fields};
 ghost use Rattle.pipe_source.specs.Next.{IsLoadedNext};
-ghost use Rattle.pipe_source.specs.Reader.{AreFew, Gives, StopsAt, left_of};
-ghost use Rattle.pipe_source.specs.Rows.{AreRowsAt};
+ghost use Rattle.pipe_source.specs.Rounds.{StopsWithin};
+ghost use Rattle.pipe_source.specs.Reader.{AreFew, Gives, StopsAt, given_fields, left_of};
 ghost use Rattle.pipe_csv.specs.declared.csv_error.CsvError.TheVariants as csv_error;
 
-use crate::file_load::{find_rows, wanted_after};
-use crate::file_text::FileText;
+use crate::kept_text::KeptText;
 use crate::read_options::CsvReadOptions;
-use crate::row_push::push_rows;
-use crate::source_columns::make_chunk;
+use crate::reading::Reading;
 use crate::source_place::SourcePlace;
-use pipe_columns::{DataChunk, Field, Schema, Text};
-use pipe_csv::{CsvError, empty_columns};
+use pipe_columns::{DataChunk, Schema, Text};
+use pipe_csv::CsvError;
 use pipe_io::InputFiles;
-use std::alloc::Global;
+use pipe_wanted::chosen_schema;
+use std::alloc::{AllocError, Global};
 use std::marker::Model;
+use std::thread::Threads;
 
-/// A column gets room for so many values at most before they are there.
-const MOST_ROOM: usize = 65536;
-
-/// The chunk of the first rows of a text from a place on, and where the next ones begin.
-fn read_chunk(
-    alloc: Global,
-    options: &CsvReadOptions,
-    at: SourcePlace,
-    file: &Text,
-    fields: &[Field],
-    text: &[u8],
-    cursor: usize,
-    count: usize,
-) -> Result<(DataChunk, usize), CsvError>
-    requires rows { (rows : List (List AnyValue))
-        × AreRowsAt fields.now text.now cursor count rows }
-    requires numbered { AreNumbered options.now.row_index at.rows count }
-    ensures chunk { (rows : List (List AnyValue))
-        → AreRowsAt fields.now text.now cursor count rows
-        → IfOk result (λ r. r.0 ≡ record {
-          chunk_index = at.chunks % 2 ^ 32;
-          frame = source_frame options.now fields.now file.now at.rows rows;
-        }) }
-    ensures next { IfOk result (λ r.
-        records_at text.now r.1 ≡ drop count (records_at text.now cursor)) }
-    ensures within { IfOk result (λ r. r.1 ≤ length text.now) }
-    ensures memory { IfErr result (λ e. e ≡ csv_error.Memory) }
-{
-    let mut columns = empty_columns(alloc, fields.len(), count.min(MOST_ROOM))?;
-    let next = match push_rows(alloc, &mut columns, text, cursor, count, fields) {
-        Ok(next) => next,
-        Err(error) => return Err(error),
-    };
-    let chunk = make_chunk(alloc, options, at, file, fields, columns, count)?;
-    Ok((chunk, next))
-}
-
-/// The chunks of named files that are left, in an input that each call is handed. One file at a time
-/// is held whole.
+/// The chunks of named files that are left, in an input that each call is handed. One file at a
+/// time is held whole.
 #[derive(Drop)]
 pub struct ChunkReader {
-    schema: Schema,
-    options: CsvReadOptions,
-    names: Vec<Text>,
-    at: SourcePlace,
-    text: Vec<u8>,
-    cursor: usize,
-    left: usize,
+    what: Reading,
+    text: KeptText,
 }
 
 impl Model for ChunkReader {
-    ghost use Rattle.std.specs.Prelude.{◌-◌, [], drop, get_or, take};
-    ghost use Rattle.pipe_scan.specs.Records.{records_at};
+    ghost use Rattle.pipe_source.specs.Kept.{IsKept, IsReading, state_of};
     ghost use Rattle.pipe_source.specs.Reader.{ReaderState};
-    ghost use Rattle.pipe_source.specs.Rows.{rows_in};
-    ghost use Rattle.pipe_source.specs.Kept.{IsKept};
 
     ghost Value = { ReaderState };
 
-    ghost view = { λ r. record {
-      schema = r.schema;
-      options = r.options;
-      at = r.at;
-      file = get_or r.names.items (r.at.file - 1) [];
-      rows = rows_in r.schema (take r.left (records_at r.text.items r.cursor));
-      names = drop r.at.file r.names.items;
-    } };
+    ghost view = { λ r. state_of r.what r.text };
 
-    ghost invariant = { λ r. IsKept r.schema r.options r.names.items r.at r.text.items r.cursor r.left };
+    ghost invariant = { λ r. IsReading r.what × IsKept r.what r.text };
+}
+
+/// Before any file is read.
+fn no_text(alloc: Global) -> KeptText
+    ensures at { result.at ≡ record { file = 0; chunks = 0; rows = 0 } }
+    ensures text { result.text.items ≡ [] }
+    ensures starts { result.starts.items ≡ [] }
+    ensures chunk { result.chunk ≡ 0 }
+    ensures left { result.left ≡ 0 }
+{
+    KeptText {
+        at: SourcePlace {
+            file: 0,
+            chunks: 0,
+            rows: 0,
+        },
+        text: Vec::new(alloc),
+        starts: Vec::new(alloc),
+        chunk: 0,
+        left: 0,
+    }
 }
 
 impl ChunkReader {
@@ -109,21 +75,52 @@ impl ChunkReader {
             → left_of files result ≡ csv_chunks files names.items schema options }
         ensures schema { result.schema ≡ schema }
         ensures options { result.options ≡ options }
+        ensures fields { given_fields result ≡ source_fields options schema }
         ensures place { result.at ≡ record { file = 0; chunks = 0; rows = 0 } }
     {
         ChunkReader {
-            schema,
-            options,
-            names,
-            at: SourcePlace {
-                file: 0,
-                chunks: 0,
-                rows: 0,
+            what: Reading {
+                schema,
+                wanted: Vec::new(alloc),
+                kept: None,
+                options,
+                names,
             },
-            text: Vec::new(alloc),
-            cursor: 0,
-            left: 0,
+            text: no_text(alloc),
         }
+    }
+
+    /// No file is read yet, and of the schema these columns are wanted; those past the end of the
+    /// list are. The others are looked at, and no value of them is made.
+    pub fn of_columns(
+        alloc: Global,
+        names: Vec<Text>,
+        schema: Schema,
+        options: CsvReadOptions,
+        wanted: Vec<bool>,
+    ) -> Result<ChunkReader, AllocError>
+        requires size { 0 < options.chunk_size }
+        requires wanted { vec_len wanted ≤ length schema }
+        ensures left { IfOk result (λ r. (files : Files)
+            → left_of files r
+            ≡ narrowed options wanted.items (csv_chunks files names.items schema options)) }
+        ensures schema { IfOk result (λ r. r.schema ≡ schema) }
+        ensures wanted { IfOk result (λ r. r.wanted ≡ wanted.items) }
+        ensures options { IfOk result (λ r. r.options ≡ options) }
+        ensures place { IfOk result
+            (λ r. r.at ≡ record { file = 0; chunks = 0; rows = 0 }) }
+    {
+        let kept = chosen_schema(alloc, &wanted, schema.fields())?;
+        Ok(ChunkReader {
+            what: Reading {
+                schema,
+                wanted,
+                kept: Some(kept),
+                options,
+                names,
+            },
+            text: no_text(alloc),
+        })
     }
 
     /// Reads on to the next file that has wanted rows, where the one before has none left.
@@ -140,22 +137,14 @@ impl ChunkReader {
         ensures cause { HasCause (I.faults input.old) (I.faults input.new)
             (IsErrOf result csv_error.Input) }
         ensures schema { self.new.schema ≡ self.old.schema }
+        ensures wanted { self.new.wanted ≡ self.old.wanted }
         ensures options { self.new.options ≡ self.old.options }
         ensures rows { self.new.at.rows ≡ self.old.at.rows }
         ensures chunks { self.new.at.chunks ≡ self.old.at.chunks }
     {
-        if wanted_after(self.options.n_rows, self.at.rows) == Some(0) {
-            return Ok(false);
-        }
-        let fields = self.schema.fields();
-        let found = find_rows(alloc, input, &self.names, self.at, fields, &self.options);
-        match found {
-            Ok(Some((place, found))) => {
-                let FileText { text, begin, count } = found;
+        match self.what.next_text(alloc, input, self.text.at) {
+            Ok(Some(text)) => {
                 self.text = text;
-                self.cursor = begin;
-                self.left = count;
-                self.at.file = place + 1;
                 Ok(true)
             }
             Ok(None) => Ok(false),
@@ -171,33 +160,17 @@ impl ChunkReader {
         ensures as_before { OnErr result (self.new ≡ self.old) }
         ensures memory { IfErr result (λ e. e ≡ csv_error.Memory) }
         ensures schema { self.new.schema ≡ self.old.schema }
+        ensures wanted { self.new.wanted ≡ self.old.wanted }
         ensures options { self.new.options ≡ self.old.options }
-        ensures fits { IfOk result (λ c.
-            FitsSchema (source_fields self.old.options self.old.schema) c.frame) }
+        ensures fits { IfOk result (λ c. FitsSchema (given_fields self.old) c.frame) }
         ensures rows { IfOk result
             (λ c. self.new.at.rows ≡ self.old.at.rows + c.frame.height) }
         ensures number { IfOk result (λ _. self.new.at.chunks ≡ self.old.at.chunks + 1) }
         ensures few { AreFew self.new.at }
     {
-        let count = self.left.min(self.options.chunk_size);
-        let file = &self.names[self.at.file - 1];
-        let fields = self.schema.fields();
-        let read = read_chunk(
-            alloc,
-            &self.options,
-            self.at,
-            file,
-            fields,
-            &self.text,
-            self.cursor,
-            count,
-        );
-        match read {
-            Ok((chunk, next)) => {
-                self.cursor = next;
-                self.left -= count;
-                self.at.chunks += 1;
-                self.at.rows += count as u128;
+        match self.what.chunk_of(alloc, &self.text, 0) {
+            Ok(chunk) => {
+                self.text.advance(1, self.what.options.chunk_size);
                 Ok(chunk)
             }
             Err(error) => Err(error),
@@ -205,8 +178,8 @@ impl ChunkReader {
     }
 
     /// The next chunk. A file is read whole when its first chunk is wanted, and begun only where
-    /// rows are still wanted. A refused call leaves what is left; for want of memory a text that was
-    /// read whole is kept.
+    /// rows are still wanted. A refused call leaves what is left; for want of memory a text that
+    /// was read whole is kept.
     pub fn next_chunk<I: InputFiles>(
         &mut self,
         alloc: Global,
@@ -223,16 +196,17 @@ impl ChunkReader {
         ensures cause { HasCause (I.faults input.old) (I.faults input.new)
             (IsErrOf result csv_error.Input) }
         ensures schema { self.new.schema ≡ self.old.schema }
+        ensures wanted { self.new.wanted ≡ self.old.wanted }
         ensures options { self.new.options ≡ self.old.options }
         ensures fits { IfOk result (λ o. IfSome o
-            (λ c. FitsSchema (source_fields self.old.options self.old.schema) c.frame)) }
+            (λ c. FitsSchema (given_fields self.old) c.frame)) }
         ensures rows { IfOk result (λ o. IfSome o
             (λ c. self.new.at.rows ≡ self.old.at.rows + c.frame.height)) }
         ensures number { IfOk result (λ o. IfSome o
             (λ c. self.new.at.chunks ≡ self.old.at.chunks + 1)) }
         ensures few { IfOk result (λ _. AreFew self.new.at) }
     {
-        if self.left == 0 {
+        if self.text.left == 0 {
             match self.load_next(alloc, input) {
                 Ok(true) => {}
                 Ok(false) => return Ok(None),
@@ -241,6 +215,58 @@ impl ChunkReader {
         }
         match self.take_chunk(alloc) {
             Ok(chunk) => Ok(Some(chunk)),
+            Err(error) => Err(error),
+        }
+    }
+
+    /// The next so many chunks, as so many calls of `next_chunk` would give them, read side by side
+    /// in threads. There are fewer only where none is left. Where a call would be refused, that
+    /// alone is answered, and the reader is as before.
+    pub fn get_round<I: InputFiles, H: Threads + Sync>(
+        &mut self,
+        rt: &H,
+        alloc: Global,
+        input: &mut I,
+        count: usize,
+        threads: usize,
+    ) -> Result<Vec<DataChunk>, CsvError>
+        requires { 0 < threads }
+        ensures told { I.told input.new ≡ I.told input.old }
+        ensures given { IfOk result (λ v. IfSome (I.told input.old) (λ files.
+            left_of files self.old ≡ chunks_then v.items (left_of files self.new))) }
+        ensures few { IfOk result (λ v. length v.items ≤ count) }
+        ensures over { IfOk result (λ v. length v.items < count
+            → IfSome (I.told input.old) (λ files. left_of files self.new ≡ no_more)) }
+        ensures stopped { IfErr result (λ e. IfSome (I.told input.old)
+            (λ files. StopsWithin count e (left_of files self.old))) }
+        ensures as_before { OnErr result (self.new ≡ self.old) }
+        ensures cause { HasCause (I.faults input.old) (I.faults input.new)
+            (IsErrOf result csv_error.Input) }
+        ensures fields { given_fields self.new ≡ given_fields self.old }
+        ensures fit { IfOk result (λ v.
+            All (λ c. FitsSchema (given_fields self.old) c.frame) v.items) }
+    {
+        let some = self.text.chunks_left().min(count);
+        let Ok(mut chunks) = self.what.chunks_of(rt, alloc, &self.text, some, threads) else {
+            return Err(CsvError::Memory);
+        };
+        if some == count {
+            self.text.advance(some, self.what.options.chunk_size);
+            return Ok(chunks);
+        }
+        let last = self.text.place_behind();
+        match self
+            .what
+            .read_on(rt, alloc, input, last, &mut chunks, count, threads)
+        {
+            Ok(Some(text)) => {
+                self.text = text;
+                Ok(chunks)
+            }
+            Ok(None) => {
+                self.text.advance(some, self.what.options.chunk_size);
+                Ok(chunks)
+            }
             Err(error) => Err(error),
         }
     }

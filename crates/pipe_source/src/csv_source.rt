@@ -1,19 +1,21 @@
 //! A source of the chunks of named files of an input.
 
-ghost use Rattle.std.specs.Prelude.{◌≡◌, ◌<◌, codes, IfErr, IfOk, IfSome, IsErrOf, OnErr};
+ghost use Rattle.std.specs.Prelude.{◌≡◌, ◌<◌, ◌≤◌, codes, length, vec_len, IfErr, IfOk, IfSome, IsErrOf, OnErr};
 ghost use Rattle.pipe_columns.specs.Causes.{HasCause};
 ghost use Rattle.pipe_columns.specs.Chunks.{GaveFirst};
 ghost use Rattle.pipe_csv.specs.declared.csv_error.CsvError.TheVariants as csv_error;
-ghost use Rattle.pipe_source.specs.CsvChunks.{csv_chunks};
+ghost use Rattle.pipe_source.specs.CsvChunks.{chunks_then, csv_chunks, narrowed, no_more};
 ghost use Rattle.pipe_source.specs.Reader.{StopsAt, left_of};
+ghost use Rattle.pipe_source.specs.Rounds.{StopsWithin};
 ghost use Rattle.pipe_source.specs.Source.{AreLeft};
 
 use crate::chunk_reader::ChunkReader;
 use crate::read_options::CsvReadOptions;
-use pipe_columns::{Schema, Source, SourceResult, Text};
+use pipe_columns::{DataChunk, Schema, Source, SourceResult, Text};
 use pipe_csv::CsvError;
 use pipe_io::InputFiles;
-use std::alloc::Global;
+use std::alloc::{AllocError, Global};
+use std::thread::Threads;
 
 /// The chunks of named files of an input, one at a call.
 pub struct CsvSource<'a, I: InputFiles> {
@@ -44,6 +46,63 @@ impl<'a, I: InputFiles> CsvSource<'a, I> {
             input,
             reader,
         }
+    }
+
+    /// No file is begun yet, and of the schema these columns are wanted; those past the end of the
+    /// list are. The others are looked at, and no value of them is made.
+    pub fn of_columns(
+        alloc: Global,
+        input: &'a mut I,
+        names: Vec<Text>,
+        schema: Schema,
+        options: CsvReadOptions,
+        wanted: Vec<bool>,
+    ) -> Result<CsvSource<'a, I>, AllocError>
+        requires size { 0 < options.chunk_size }
+        requires wanted { vec_len wanted ≤ length schema }
+        ensures same_input { IfOk result
+            (λ s. s.input.ghost_name ≡ input.entry.ghost_name) }
+        ensures told { IfOk result (λ s. I.told s.input.now ≡ I.told input.old) }
+        ensures faults { IfOk result (λ s. I.faults s.input.now ≡ I.faults input.old) }
+        ensures left { IfOk result (λ s. IfSome (I.told input.old) (λ files.
+            left_of files s.reader
+            ≡ narrowed options wanted.items (csv_chunks files names.items schema options))) }
+    {
+        let reader = ChunkReader::of_columns(alloc, names, schema, options, wanted)?;
+        Ok(CsvSource {
+            alloc,
+            input,
+            reader,
+        })
+    }
+
+    /// The next so many chunks, as so many calls of `get_batches` would give them, read side by
+    /// side in threads. There are fewer only where none is left. Where a call would be refused,
+    /// that alone is answered, and the source is as before.
+    pub fn get_round<H: Threads + Sync>(
+        &mut self,
+        rt: &H,
+        count: usize,
+        threads: usize,
+    ) -> Result<Vec<DataChunk>, CsvError>
+        requires { 0 < threads }
+        ensures given { IfOk result (λ v. IfSome (I.told self.old.input.now) (λ files.
+            left_of files self.old.reader
+            ≡ chunks_then v.items (left_of files self.new.reader))) }
+        ensures few { IfOk result (λ v. length v.items ≤ count) }
+        ensures over { IfOk result (λ v. length v.items < count
+            → IfSome (I.told self.old.input.now)
+            (λ files. left_of files self.new.reader ≡ no_more)) }
+        ensures stopped { IfErr result (λ e. IfSome (I.told self.old.input.now)
+            (λ files. StopsWithin count e (left_of files self.old.reader))) }
+        ensures as_before { OnErr result (self.new.reader ≡ self.old.reader) }
+        ensures told { I.told self.new.input.now ≡ I.told self.old.input.now }
+        ensures cause { HasCause (I.faults self.old.input.now) (I.faults self.new.input.now)
+            (IsErrOf result csv_error.Input) }
+        ensures same_input { self.new.input.ghost_name ≡ self.old.input.ghost_name }
+    {
+        self.reader
+            .get_round(rt, self.alloc, self.input, count, threads)
     }
 }
 

@@ -1,6 +1,6 @@
 //! Files that are read whole, up to the first that has rows.
 
-ghost use Rattle.std.specs.Prelude.{◌≡◌, ◌≤◌, ◌^◌, ◌↔◌, IfErr, IfOk, IsErrOf, true};
+ghost use Rattle.std.specs.Prelude.{◌≡◌, ◌≤◌, ◌<◌, ◌^◌, ◌↔◌, IfErr, IfOk, IsErrOf, true};
 ghost use Rattle.pipe_columns.specs.Causes.{HasCause};
 ghost use Rattle.pipe_csv.specs.declared.csv_error.CsvError.TheVariants as csv_error;
 ghost use Rattle.pipe_source.specs.CsvChunks.{is_any_wanted, is_numbered, wanted_after};
@@ -47,7 +47,8 @@ fn load_file<I: InputFiles>(
     fields: &[Field],
     options: &CsvReadOptions,
 ) -> Result<FileText, CsvError>
-    requires { at.rows ≤ 2 ^ 100 }
+    requires few { at.rows ≤ 2 ^ 100 }
+    requires size { 0 < options.now.chunk_size }
     ensures told { I.told input.new ≡ I.told input.old }
     ensures loaded { IfOk result
         (λ f. IsLoaded options.now fields.now at (I.told input.old) name.now f) }
@@ -64,14 +65,20 @@ fn load_file<I: InputFiles>(
         Err(FileEnd::Memory) => return Err(CsvError::Memory),
     };
     let wanted = wanted_after(options.n_rows, at.rows);
-    let (begin, count) = match look_over(alloc, &text, fields, at.file, wanted) {
+    let size = options.chunk_size;
+    let (begin, count, starts) = match look_over(alloc, &text, fields, at.file, wanted, size) {
         Ok(found) => found,
         Err(error) => return Err(error),
     };
     if !is_numbered(&options.row_index, at.rows, count) {
         return Err(CsvError::TooLarge);
     }
-    Ok(FileText { text, begin, count })
+    Ok(FileText {
+        text,
+        begin,
+        count,
+        starts,
+    })
 }
 
 /// Reads files from a place on, up to the first that has wanted rows.
@@ -84,6 +91,7 @@ pub(crate) fn find_rows<I: InputFiles>(
     options: &CsvReadOptions,
 ) -> Result<Option<(usize, FileText)>, CsvError>
     requires few { last.rows ≤ 2 ^ 100 }
+    requires size { 0 < options.now.chunk_size }
     requires wanted { is_any_wanted (wanted_after options.now.n_rows last.rows) ≡ true }
     ensures told { I.told input.new ≡ I.told input.old }
     ensures found { IfOk result (λ o.

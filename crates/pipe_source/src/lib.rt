@@ -3,14 +3,20 @@
 
 mod chunk_reader;
 mod csv_source;
+mod field_at;
 mod file_load;
 mod file_text;
+mod kept_text;
+mod laws;
 mod look_over;
 mod read_options;
+mod reading;
+mod round;
 mod row_check;
 mod row_push;
 mod source_columns;
 mod source_place;
+mod starts;
 mod worked;
 
 pub use chunk_reader::ChunkReader;
@@ -18,5 +24,9 @@ pub use csv_source::CsvSource;
 pub use read_options::CsvReadOptions;
 pub use source_place::SourcePlace;
 
+#[cfg(test)]
+mod bad_text_tests;
+#[cfg(test)]
+mod memory_tests;
 #[cfg(test)]
 mod tests;

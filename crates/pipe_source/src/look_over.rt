@@ -1,11 +1,11 @@
 //! The text of a file that is looked over before any row of it is given.
 
-ghost use Rattle.std.specs.Prelude.{◌≡◌, ◌≤◌, IfErr, IfOk, List, Ok, length};
+ghost use Rattle.std.specs.Prelude.{◌≡◌, ◌≤◌, ◌<◌, IfErr, IfOk, List, Ok, length};
 ghost use Rattle.pipe_columns.specs.declared.any_value.AnyValue.{AnyValue};
 ghost use Rattle.pipe_csv.specs.CsvError.{StopsBy};
 ghost use Rattle.pipe_io.specs.declared.whole_file.TheConstants.{MOST_FILE_BYTES};
 ghost use Rattle.pipe_source.specs.CsvChunks.{text_rows};
-ghost use Rattle.pipe_source.specs.Rows.{AreRowsAt};
+ghost use Rattle.pipe_source.specs.Rows.{AreRowsAt, AreStarts};
 
 use crate::row_check::check_rows;
 use csv::ByteRecord;
@@ -14,19 +14,22 @@ use pipe_csv::{CsvError, is_header};
 use pipe_scan::{read_record, text_start};
 use std::alloc::Global;
 
-/// Where the wanted rows of the text of a file begin, and how many there are, or the first misfit.
-/// No value is made.
+/// Where the wanted rows of the text of a file begin, how many there are, and where each chunk of a
+/// size begins, or the first misfit. No value is made.
 pub(crate) fn look_over(
     alloc: Global,
     text: &[u8],
     fields: &[Field],
     file: usize,
     wanted: Option<usize>,
-) -> Result<(usize, usize), CsvError>
-    requires { length text.now ≤ MOST_FILE_BYTES }
+    size: usize,
+) -> Result<(usize, usize, Vec<usize>), CsvError>
+    requires small { length text.now ≤ MOST_FILE_BYTES }
+    requires size { 0 < size }
     ensures rows { IfOk result (λ r. (rows : List (List AnyValue))
         × (text_rows file wanted fields.now text.now ≡ Ok rows)
         × AreRowsAt fields.now text.now r.0 r.1 rows) }
+    ensures starts { IfOk result (λ r. AreStarts text.now r.0 size r.1 r.2.items) }
     ensures few { IfOk result (λ r. r.1 ≤ MOST_FILE_BYTES) }
     ensures stop { IfErr result (λ e. StopsBy e (text_rows file wanted fields.now text.now)) }
 {
@@ -40,8 +43,8 @@ pub(crate) fn look_over(
         return Err(CsvError::Header { file });
     }
     let most = wanted.unwrap_or(usize::MAX);
-    match check_rows(alloc, text, begin, fields, file, most) {
-        Ok(count) => Ok((begin, count)),
+    match check_rows(alloc, text, begin, fields, file, most, size) {
+        Ok((count, starts)) => Ok((begin, count, starts)),
         Err(error) => Err(error),
     }
 }

@@ -1,14 +1,16 @@
 //! Rows that are looked over: whether each field reads, without a value of it.
 
-ghost use Rattle.std.specs.Prelude.{◌≡◌, ◌≤◌, IfErr, IfOk, List, Ok, length, take};
+ghost use Rattle.std.specs.Prelude.{◌≡◌, ◌≤◌, ◌<◌, IfErr, IfOk, List, Ok, length, take};
 ghost use Rattle.csv.specs.Records.{fields_of};
 ghost use Rattle.pipe_columns.specs.declared.any_value.AnyValue.{AnyValue};
-ghost use Rattle.pipe_csv.specs.CsvChunks.{read_row, read_rows};
+ghost use Rattle.pipe_csv.specs.CsvRows.{read_row, read_rows};
 ghost use Rattle.pipe_csv.specs.CsvError.{StopsBy};
 ghost use Rattle.pipe_scan.specs.Records.{InOrder, cut, records_at};
 ghost use Rattle.pipe_scan.specs.Stops.{AreMarked};
-ghost use Rattle.pipe_source.specs.Rows.{ChecksRow, StopsFirst};
+ghost use Rattle.pipe_source.specs.Rows.{AreStarts, ChecksRow, StopsFirst};
 
+use crate::field_at::does_read_at;
+use crate::starts::Starts;
 use csv::ByteRecord;
 use pipe_columns::Field;
 use pipe_csv::{CsvError, does_read};
@@ -34,7 +36,7 @@ fn check_fields(
     let mut low = start;
     for (i, field) in fields.iter().enumerate() {
         let high = ends[i];
-        if !does_read(field.dtype, &text[low..high]) {
+        if !does_read_at(field.dtype, text, low, high) {
             return Err(CsvError::Field {
                 file,
                 row,
@@ -110,7 +112,8 @@ fn check_row(
     }
 }
 
-/// Looks over the rows of a text from a place on, so many at most, and tells how many there are.
+/// Looks over the rows of a text from a place on, so many at most, and tells how many there are,
+/// and where each chunk of a size begins.
 pub(crate) fn check_rows(
     alloc: Global,
     text: &[u8],
@@ -118,11 +121,14 @@ pub(crate) fn check_rows(
     fields: &[Field],
     file: usize,
     most: usize,
-) -> Result<usize, CsvError>
-    requires { at ≤ length text.now }
-    ensures reads { IfOk result (λ count. (rows : List (List AnyValue))
+    size: usize,
+) -> Result<(usize, Vec<usize>), CsvError>
+    requires within { at ≤ length text.now }
+    requires size { 0 < size }
+    ensures reads { IfOk result (λ r. (rows : List (List AnyValue))
         × (read_rows file 1 fields.now (take most (records_at text.now at)) ≡ Ok rows)
-        × (length rows ≡ count)) }
+        × (length rows ≡ r.0)) }
+    ensures starts { IfOk result (λ r. AreStarts text.now at size r.0 r.1.items) }
     ensures stop { IfErr result
         (λ e. StopsBy e (read_rows file 1 fields.now (take most (records_at text.now at)))) }
 {
@@ -130,7 +136,9 @@ pub(crate) fn check_rows(
     let mut entry = ByteRecord::new(alloc);
     let mut bytes = Vec::new(alloc);
     let mut stops = Stops::new(at);
+    let mut starts = Starts::new(alloc, size);
     for row in 0..most {
+        let start = stops.cursor();
         let found = check_row(
             text,
             &mut stops,
@@ -142,10 +150,10 @@ pub(crate) fn check_rows(
             row + 1,
         );
         match found {
-            Ok(true) => {}
-            Ok(false) => return Ok(row),
+            Ok(true) => starts.note(start)?,
+            Ok(false) => return Ok((row, starts.places)),
             Err(error) => return Err(error),
         }
     }
-    Ok(most)
+    Ok((most, starts.places))
 }

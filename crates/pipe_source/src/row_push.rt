@@ -1,23 +1,26 @@
 //! Rows that were looked over, whose values go to the ends of columns.
 
-ghost use Rattle.std.specs.Prelude.{◌≡◌, ◌<◌, ◌≤◌, [], IfErr, IfOk, List, Ok, drop, length, map, replicate, take, vec_len};
+ghost use Rattle.std.specs.Prelude.{◌≡◌, [], IfErr, IfOk, List, Ok, length, map, replicate, vec_len};
 ghost use Rattle.csv.specs.Records.{fields_of};
 ghost use Rattle.pipe_columns.specs.declared.any_value.AnyValue.{AnyValue};
-ghost use Rattle.pipe_csv.specs.CsvChunks.{read_row, read_rows};
+ghost use Rattle.pipe_csv.specs.CsvRows.{read_row};
+ghost use Rattle.pipe_wanted.specs.Wanted.{chosen};
 ghost use Rattle.pipe_csv.specs.CsvError.{StopsBy};
 ghost use Rattle.pipe_csv.specs.Columns.{DoHold, values_from, with_row};
 ghost use Rattle.pipe_csv.specs.declared.csv_error.CsvError.TheVariants as csv_error;
 ghost use Rattle.pipe_scan.specs.Records.{InOrder, cut, records_at};
 ghost use Rattle.pipe_scan.specs.Stops.{AreMarked};
-ghost use Rattle.pipe_source.specs.Rows.{AreRowsAt, PushesRow, StopsFirst};
+ghost use Rattle.pipe_source.specs.Rows.{AreRowsAt, FirstReads, PushesRow, StopsFirst};
 
+use crate::field_at::{push_field, push_field_at};
 use csv::ByteRecord;
 use pipe_columns::{AnyValue, Field};
-use pipe_csv::{CsvError, empty_columns, push_record, read_field};
+use pipe_csv::CsvError;
 use pipe_scan::{Row, Stops, next_row};
+use pipe_wanted::is_wanted;
 use std::alloc::Global;
 
-/// Adds the values of the fields of a row that lie in the text.
+/// Adds the wanted values of the fields of a row that lie in the text, each of which reads.
 fn push_fields(
     alloc: Global,
     columns: &mut Vec<Vec<AnyValue>>,
@@ -25,38 +28,71 @@ fn push_fields(
     start: usize,
     ends: &[usize],
     fields: &[Field],
+    wanted: &[bool],
     row: usize,
 ) -> Result<(), CsvError>
-    requires columns { vec_len columns.old ≡ length fields.now }
+    requires columns { vec_len columns.old ≡ length (chosen wanted.now fields.now) }
     requires order { InOrder (length text.now) start ends.now }
     requires width { length ends.now ≡ length fields.now }
+    requires reads { (values : List AnyValue)
+        × (read_row 1 row fields.now (cut text.now start ends.now) ≡ Ok values) }
     ensures pushed { IfOk result (λ _. (values : List AnyValue)
         × (read_row 1 row fields.now (cut text.now start ends.now) ≡ Ok values)
         × (map (λ c. c.items) columns.new.items
-        ≡ with_row values (map (λ c. c.items) columns.old.items))) }
-    ensures width { vec_len columns.new ≡ length fields.now }
+        ≡ with_row (chosen wanted.now values) (map (λ c. c.items) columns.old.items))) }
+    ensures width { vec_len columns.new ≡ length (chosen wanted.now fields.now) }
     ensures stop { IfErr result
         (λ e. StopsBy e (read_row 1 row fields.now (cut text.now start ends.now))) }
 {
     let mut low = start;
+    let mut place = 0;
     for (i, field) in fields.iter().enumerate() {
         let high = ends[i];
-        let Some(value) = read_field(alloc, field.dtype, &text[low..high])? else {
-            return Err(CsvError::Field {
-                file: 1,
-                row,
-                column: i + 1,
-            });
-        };
-        if columns[i].push(value).is_err() {
-            return Err(CsvError::Memory);
+        if is_wanted(wanted, i) {
+            push_field_at(alloc, &mut columns[place], field.dtype, text, low, high)?;
+            place += 1;
         }
         low = high + 1;
     }
     Ok(())
 }
 
-/// Adds the values of the next row, if there is one.
+/// Adds the wanted values of the fields of a row that was read, each of which reads.
+fn push_entry(
+    alloc: Global,
+    columns: &mut Vec<Vec<AnyValue>>,
+    entry: &ByteRecord,
+    fields: &[Field],
+    wanted: &[bool],
+    row: usize,
+) -> Result<(), CsvError>
+    requires columns { vec_len columns.old ≡ length (chosen wanted.now fields.now) }
+    requires reads { (values : List AnyValue)
+        × (read_row 1 row fields.now (fields_of entry.now) ≡ Ok values) }
+    ensures pushed { IfOk result (λ _. (values : List AnyValue)
+        × (read_row 1 row fields.now (fields_of entry.now) ≡ Ok values)
+        × (map (λ c. c.items) columns.new.items
+        ≡ with_row (chosen wanted.now values) (map (λ c. c.items) columns.old.items))) }
+    ensures width { vec_len columns.new ≡ length (chosen wanted.now fields.now) }
+    ensures stop { IfErr result
+        (λ e. StopsBy e (read_row 1 row fields.now (fields_of entry.now))) }
+{
+    let mut place = 0;
+    for (i, field) in fields.iter().enumerate() {
+        if is_wanted(wanted, i) {
+            push_field(
+                alloc,
+                &mut columns[place],
+                field.dtype,
+                entry.get(i).unwrap(),
+            )?;
+            place += 1;
+        }
+    }
+    Ok(())
+}
+
+/// Adds the wanted values of the next row, if there is one, which then reads.
 fn push_row(
     alloc: Global,
     columns: &mut Vec<Vec<AnyValue>>,
@@ -66,17 +102,19 @@ fn push_row(
     entry: &mut ByteRecord,
     bytes: &mut Vec<u8>,
     fields: &[Field],
+    wanted: &[bool],
     row: usize,
 ) -> Result<bool, CsvError>
-    requires columns { vec_len columns.old ≡ length fields.now }
+    requires columns { vec_len columns.old ≡ length (chosen wanted.now fields.now) }
     requires marked { AreMarked text.now stops.old }
     requires width { length ends.old ≡ length fields.now }
+    requires reads { FirstReads 1 row fields.now (records_at text.now stops.old.cursor) }
     ensures pushed { IfOk result (λ found.
-        PushesRow 1 row fields.now text.now stops.old.cursor stops.new.cursor
+        PushesRow 1 row fields.now wanted.now text.now stops.old.cursor stops.new.cursor
         (map (λ c. c.items) columns.old.items) (map (λ c. c.items) columns.new.items) found) }
     ensures stop { IfErr result
         (λ e. StopsFirst e 1 row fields.now (records_at text.now stops.old.cursor)) }
-    ensures columns { vec_len columns.new ≡ length fields.now }
+    ensures columns { vec_len columns.new ≡ length (chosen wanted.now fields.now) }
     ensures marked { AreMarked text.now stops.new }
     ensures width { length ends.new ≡ length fields.now }
 {
@@ -86,19 +124,18 @@ fn push_row(
             if count != fields.len() {
                 return Err(CsvError::Width { file: 1, row });
             }
-            push_fields(alloc, columns, text, start, ends, fields, row)?;
+            push_fields(alloc, columns, text, start, ends, fields, wanted, row)?;
             Ok(true)
         }
         Row::Quoted => {
-            push_record(alloc, columns, fields, entry, 1, row)?;
+            push_entry(alloc, columns, entry, fields, wanted, row)?;
             Ok(true)
         }
         Row::Wide => Err(CsvError::Width { file: 1, row }),
     }
 }
 
-/// Adds the values of so many rows of a text from a place on, which were looked over before, and
-/// tells where the next ones begin.
+/// Adds the wanted values of so many rows of a text from a place on, which were looked over before.
 pub(crate) fn push_rows(
     alloc: Global,
     columns: &mut Vec<Vec<AnyValue>>,
@@ -106,17 +143,18 @@ pub(crate) fn push_rows(
     at: usize,
     count: usize,
     fields: &[Field],
-) -> Result<usize, CsvError>
-    requires empty { map (λ c. c.items) columns.old.items ≡ replicate (length fields.now) [] }
+    wanted: &[bool],
+) -> Result<(), CsvError>
+    requires empty { map (λ c. c.items) columns.old.items
+        ≡ replicate (length (chosen wanted.now fields.now)) [] }
     requires rows { (rows : List (List AnyValue)) × AreRowsAt fields.now text.now at count rows }
     ensures pushed { (rows : List (List AnyValue)) → AreRowsAt fields.now text.now at count rows
-        → IfOk result (λ _. map (λ c. c.items) columns.new.items ≡ values_from 0 fields.now rows) }
-    ensures hold { IfOk result
-        (λ _. DoHold count fields.now (map (λ c. c.items) columns.new.items)) }
-    ensures width { IfOk result (λ _. vec_len columns.new ≡ length fields.now) }
-    ensures next { IfOk result (λ next.
-        records_at text.now next ≡ drop count (records_at text.now at)) }
-    ensures within { IfOk result (λ next. next ≤ length text.now) }
+        → IfOk result (λ _. map (λ c. c.items) columns.new.items
+        ≡ chosen wanted.now (values_from 0 fields.now rows)) }
+    ensures hold { IfOk result (λ _. DoHold count (chosen wanted.now fields.now)
+        (map (λ c. c.items) columns.new.items)) }
+    ensures width { IfOk result
+        (λ _. vec_len columns.new ≡ length (chosen wanted.now fields.now)) }
     ensures memory { IfErr result (λ e. e ≡ csv_error.Memory) }
 {
     let mut ends = vec![in alloc; 0; fields.len()]?;
@@ -133,6 +171,7 @@ pub(crate) fn push_rows(
             &mut entry,
             &mut bytes,
             fields,
+            wanted,
             row + 1,
         );
         match found {
@@ -141,5 +180,5 @@ pub(crate) fn push_rows(
             Err(error) => return Err(error),
         }
     }
-    Ok(stops.cursor())
+    Ok(())
 }

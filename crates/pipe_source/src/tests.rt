@@ -1,4 +1,4 @@
-//! What a reader gives of files in memory, whichever input call fails.
+//! What a reader gives of files in memory, whichever input call fails, one chunk at a call or some.
 
 use crate::chunk_reader::ChunkReader;
 use crate::read_options::CsvReadOptions;
@@ -8,15 +8,19 @@ use std::alloc::{AllocError, Global};
 use std::fmt::Write;
 use std::process::Abort;
 use std::test::Fail;
+use std::thread::Threads;
 
 /// Two files of a key and a value.
-const TWO_FILES: [(&str, &str); 2] = [("a.csv", "k,v\n1,5\n2,6\n"), ("b.csv", "k,v\n1,7\n9,9\n")];
+pub(crate) const TWO_FILES: [(&str, &str); 2] = [
+    ("a.csv", "k,v\n1,5\n2,6\n"),
+    ("b.csv", "k,v\n1,7\n9,9\n"),
+];
 
 /// What the rows of both are in chunks of two, of which three are wanted.
 const THREE_ROWS: &str = "[0 i 0 1 k 1 2 v 5 6 p a.csv a.csv][1 i 2 k 1 v 7 p b.csv]";
 
 /// The files in memory, of whose input calls some fail.
-fn memory_files(
+pub(crate) fn memory_files(
     alloc: Global,
     files: &[(&str, &str)],
     failing: &[u64],
@@ -32,7 +36,7 @@ fn memory_files(
 }
 
 /// A reader of files of a key and a value.
-fn reader_of(
+pub(crate) fn reader_of(
     alloc: Global,
     names: &[&str],
     options: CsvReadOptions,
@@ -58,8 +62,34 @@ fn reader_of(
     Ok(Some(ChunkReader::new(alloc, texts, schema, options)))
 }
 
+/// A reader of a file of a key and a value, of which some are wanted.
+fn reader_of_columns(
+    alloc: Global,
+    options: CsvReadOptions,
+    wanted: &[bool],
+) -> Result<Option<ChunkReader>, AllocError> {
+    if options.chunk_size == 0 || wanted.len() > 2 {
+        return Ok(None);
+    }
+    let names = vec![in alloc; Text::new(alloc, "a")?]?;
+    let key = Field {
+        name: Text::new(alloc, "k")?,
+        dtype: DataType::Int64,
+    };
+    let value = Field {
+        name: Text::new(alloc, "v")?,
+        dtype: DataType::Int64,
+    };
+    let schema = Schema::new(vec![in alloc; key, value]?);
+    let wanted = Vec::from_slice(alloc, wanted)?;
+    match ChunkReader::of_columns(alloc, names, schema, options, wanted) {
+        Ok(reader) => Ok(Some(reader)),
+        Err(error) => Err(error),
+    }
+}
+
 /// The chunks of so many rows, without columns more.
-fn plain(chunk_size: usize, n_rows: Option<usize>) -> CsvReadOptions {
+pub(crate) fn plain(chunk_size: usize, n_rows: Option<usize>) -> CsvReadOptions {
     CsvReadOptions {
         chunk_size,
         n_rows,
@@ -69,7 +99,7 @@ fn plain(chunk_size: usize, n_rows: Option<usize>) -> CsvReadOptions {
 }
 
 /// Chunks of two rows, of which three are wanted, numbered and under their file's name.
-fn numbered(alloc: Global) -> Result<CsvReadOptions, AllocError> {
+pub(crate) fn numbered(alloc: Global) -> Result<CsvReadOptions, AllocError> {
     Ok(CsvReadOptions {
         chunk_size: 2,
         n_rows: Some(3),
@@ -96,18 +126,14 @@ fn show_chunk(shown: &mut String, chunk: &DataChunk) -> Result<(), AllocError> {
 }
 
 /// All that a reader gives; an input that failed is asked again.
-fn read_all(
+pub(crate) fn read_calls(
     alloc: Global,
-    files: &[(&str, &str)],
-    names: &[&str],
-    options: CsvReadOptions,
-    failing: &[u64],
+    reader: ChunkReader,
+    input: MemoryFiles,
 ) -> Result<String, AllocError> {
     let mut shown = String::new(alloc);
-    let mut input = memory_files(alloc, files, failing)?;
-    let Some(mut reader) = reader_of(alloc, names, options)? else {
-        return Ok(shown);
-    };
+    let mut reader = reader;
+    let mut input = input;
     for _ in 0..100 {
         match reader.next_chunk(alloc, &mut input) {
             Ok(Some(chunk)) => show_chunk(&mut shown, &chunk)?,
@@ -121,6 +147,154 @@ fn read_all(
         }
     }
     Ok(shown)
+}
+
+/// All that a reader gives of files of a key and a value.
+fn read_all(
+    alloc: Global,
+    files: &[(&str, &str)],
+    names: &[&str],
+    options: CsvReadOptions,
+    failing: &[u64],
+) -> Result<String, AllocError> {
+    match reader_of(alloc, names, options)? {
+        Some(reader) => read_calls(alloc, reader, memory_files(alloc, files, failing)?),
+        None => Ok(String::new(alloc)),
+    }
+}
+
+/// All that a reader gives in rounds of so many chunks; an input that failed is asked again.
+pub(crate) fn read_rounds<H: Threads + Sync>(
+    rt: &H,
+    alloc: Global,
+    reader: ChunkReader,
+    input: MemoryFiles,
+    count: usize,
+    threads: usize,
+) -> Result<String, AllocError> {
+    let mut shown = String::new(alloc);
+    let mut reader = reader;
+    let mut input = input;
+    if threads == 0 {
+        return Ok(shown);
+    }
+    for _ in 0..100 {
+        match reader.get_round(rt, alloc, &mut input, count, threads) {
+            Ok(chunks) => {
+                for chunk in &chunks {
+                    show_chunk(&mut shown, chunk)?;
+                }
+                if chunks.len() < count {
+                    return Ok(shown);
+                }
+            }
+            Err(pipe_csv::CsvError::Input) => {}
+            Err(pipe_csv::CsvError::Memory) => return Err(AllocError),
+            Err(error) => {
+                write!(shown, "{error:?}")?;
+                return Ok(shown);
+            }
+        }
+    }
+    Ok(shown)
+}
+
+/// The rounds of two files in chunks of one row, numbered and under their file's name.
+fn two_files_in_rounds<H: Threads + Sync>(
+    rt: &H,
+    alloc: Global,
+    failing: &[u64],
+    count: usize,
+    threads: usize,
+) -> Result<String, AllocError> {
+    let mut options = numbered(alloc)?;
+    options.chunk_size = 1;
+    options.n_rows = None;
+    let names = ["a.csv", "b.csv"];
+    let Some(reader) = reader_of(alloc, &names, options)? else {
+        return Ok(String::new(alloc));
+    };
+    let input = memory_files(alloc, &TWO_FILES, failing)?;
+    read_rounds(rt, alloc, reader, input, count, threads)
+}
+
+/// What the rows of both files are in chunks of one.
+const FOUR_CHUNKS: &str =
+    "[0 i 0 k 1 v 5 p a.csv][1 i 1 k 2 v 6 p a.csv][2 i 2 k 1 v 7 p b.csv][3 i 3 k 9 v 9 p b.csv]";
+
+/// Rounds of any size, read in any number of threads, give what single calls do; each input call in
+/// turn fails, and is made again.
+#[test]
+fn rounds_are_calls(rt: HostRuntime) -> Result<(), Fail> {
+    let alloc = rt.alloc();
+    for count in 1..6 {
+        for threads in 1..4 {
+            let shown = two_files_in_rounds(&rt, alloc, &[], count, threads)?;
+            assert!(rt; shown.as_str() == FOUR_CHUNKS);
+        }
+    }
+    for call in 0..8 {
+        let shown = two_files_in_rounds(&rt, alloc, &[call], 3, 2)?;
+        assert!(rt; shown.as_str() == FOUR_CHUNKS);
+    }
+    Ok(())
+}
+
+/// Files that stop a round, and what rounds of two chunks give before it.
+const STOPS: [(&str, &str); 3] = [
+    (
+        "k,v\n1,5\n2,x\n",
+        "[0 k 1 v 5][1 k 2 v 6]Field { file: 2, row: 2, column: 2 }",
+    ),
+    (
+        "k,v\n1\n",
+        "[0 k 1 v 5][1 k 2 v 6]Width { file: 2, row: 1 }",
+    ),
+    ("k\n", "[0 k 1 v 5][1 k 2 v 6]Header { file: 2 }"),
+];
+
+#[test]
+fn rounds_up_to_a_stop(rt: HostRuntime) -> Result<(), Fail> {
+    let alloc = rt.alloc();
+    for stop in STOPS {
+        let files = [("a", "k,v\n1,5\n2,6\n"), ("b", stop.0)];
+        let Some(reader) = reader_of(alloc, &["a", "b"], plain(1, None))? else {
+            return Ok(());
+        };
+        let input = memory_files(alloc, &files, &[])?;
+        let shown = read_rounds(&rt, alloc, reader, input, 2, 2)?;
+        assert!(rt; shown.as_str() == stop.1);
+    }
+    Ok(())
+}
+
+/// Which of a key and a value are wanted of a text, and what is given.
+const WANTED: [(&[bool], &str, &str); 6] = [
+    (&[true, false], "k,v\n1,5\n\"2\",6\n", "[0 k 1 2]"),
+    (&[false, true], "k,v\n1,5\n\"2\",6\n", "[0 v 5 6]"),
+    (&[false], "k,v\n1,5\n2,\"6\"\n", "[0 v 5 6]"),
+    (&[false, false], "k,v\n1,5\n2,6\n", "[0]"),
+    (
+        &[true, false],
+        "k,v\n1,5\n2,x\n",
+        "Field { file: 1, row: 2, column: 2 }",
+    ),
+    (&[], "k,v\n1,5\n", "[0 k 1 v 5]"),
+];
+
+/// Fields that aren't wanted are looked at, and no value of them is given.
+#[test]
+fn wanted_columns(rt: HostRuntime) -> Result<(), Fail> {
+    let alloc = rt.alloc();
+    for case in WANTED {
+        let Some(reader) = reader_of_columns(alloc, plain(2, None), case.0)? else {
+            return Ok(());
+        };
+        let input = memory_files(alloc, &[("a", case.1)], &[])?;
+        let shown = read_rounds(&rt, alloc, reader, input, 2, 2)?;
+        assert!(rt; shown.as_str() == case.2);
+    }
+    Ok(())
 }
 
 #[test]

@@ -2,7 +2,7 @@
 
 ghost use Rattle.std.specs.Prelude.{◌≡◌, ◌∷◌, [], codes, None, Some};
 ghost use Rattle.pipe_columns.specs.declared.any_value.AnyValue.TheVariants as av;
-ghost use Rattle.pipe_csv.specs.CsvChunks.{field, header, missing, width};
+ghost use Rattle.pipe_csv.specs.CsvRows.{field, header, missing, width};
 ghost use Rattle.pipe_csv.specs.Worked.{int, key_value};
 ghost use Rattle.pipe_source.specs.CsvChunks.{csv_chunks, misfit, too_large};
 ghost use Rattle.pipe_source.specs.Worked.{chunk_of, indexed_key_value, plain_options, two_files};

@@ -1,5 +1,5 @@
 use Rattle.std.proofs.Common.{◌≡◌, ◌-◌, drop}
-use Rattle.pipe_csv.specs.CsvChunks.{is_ascending}
+use Rattle.pipe_csv.specs.CsvRows.{is_ascending}
 use Rattle.pipe_csv.proofs.columns.is_ascending.Given as goal
 
 -- the values from the one before this on tell

@@ -1,6 +1,6 @@
 use Rattle.std.proofs.Common.{List, length, drop}
 use Rattle.pipe_columns.specs.declared.any_value.AnyValue.{AnyValue}
-use Rattle.pipe_csv.specs.CsvChunks.{read_row}
+use Rattle.pipe_csv.specs.CsvRows.{read_row}
 use Rattle.pipe_scan.specs.Records.{InOrder, cut}
 use Rattle.pipe_source.proofs.FieldsLeft.{FieldsLeft}
 use Rattle.pipe_source.proofs.row_check.check_fields.Given as goal

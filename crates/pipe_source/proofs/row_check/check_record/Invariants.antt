@@ -1,7 +1,7 @@
 use Rattle.std.proofs.Common.{List, drop}
 use Rattle.csv.specs.Records.{fields_of}
 use Rattle.pipe_columns.specs.declared.any_value.AnyValue.{AnyValue}
-use Rattle.pipe_csv.specs.CsvChunks.{read_row}
+use Rattle.pipe_csv.specs.CsvRows.{read_row}
 use Rattle.pipe_source.proofs.FieldsLeft.{FieldsLeft}
 use Rattle.pipe_source.proofs.row_check.check_record.Given as goal
 

@@ -1,22 +1,22 @@
-use Rattle.std.proofs.Common.{◌≡◌, ◌-◌, List, length, take, drop, map, vec_len}
+use Rattle.std.proofs.Common.{◌≡◌, ◌-◌, List, length, take, map, vec_len}
 use Rattle.pipe_columns.specs.declared.any_value.AnyValue.{AnyValue}
 use Rattle.pipe_csv.specs.Columns.{values_from}
-use Rattle.pipe_csv.specs.CsvChunks.{read_rows}
+use Rattle.pipe_csv.specs.CsvRows.{read_rows}
 use Rattle.pipe_csv.proofs.HoldFacts.{RowsFit}
 use Rattle.pipe_scan.specs.Records.{records_at}
 use Rattle.pipe_scan.specs.Stops.{AreMarked}
+use Rattle.pipe_wanted.specs.Wanted.{chosen}
 use Rattle.pipe_source.proofs.RowsLeft.{RowsLeft}
 use Rattle.pipe_source.proofs.row_push.push_rows.Given as goal
 
--- the values of the first rows stand in the columns, and the rest of the records behind them
+-- the wanted values of the first rows stand in the columns, and the rest of the records behind them
 abbrev pub invariant-loop-row : goal.invariant-loop-row
 invariant-loop-row l = record {
   done : List (List AnyValue);
   rows : RowsLeft 1 l.fields (read_rows 1 1 l.fields (take l.count (records_at l.text l.at))) l.row done (take (l.count - l.row) (records_at l.text l.stops.cursor));
   marked : AreMarked l.text l.stops;
   room : length l.ends.items ≡ length l.fields;
-  columns : map (λ c. c.items) l.columns.items ≡ values_from 0 l.fields done;
+  columns : map (λ c. c.items) l.columns.items ≡ chosen l.wanted (values_from 0 l.fields done);
   fit : RowsFit 0 l.fields done;
-  width : vec_len l.columns ≡ length l.fields;
-  next : records_at l.text l.stops.cursor ≡ drop l.row (records_at l.text l.at);
+  width : vec_len l.columns ≡ length (chosen l.wanted l.fields);
 }

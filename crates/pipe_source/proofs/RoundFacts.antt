@@ -1,0 +1,258 @@
+-- Chunks that are read of one file after another.
+use Rattle.std.proofs.Common.{◌≡◌, ◌∙◌, ◌≤◌, ◌<◌, ◌+◌, ◌-◌, ◌*◌, ℕ, zero, suc, List, [], ◌∷◌, ◌++◌, length, map, min, Option, Some, None, refl, sym, ap, arith, subst, append_assoc, zero-mul}
+use Rattle.std.specs.Option.{IfSome}
+use Rattle.std.specs.List.{All, range_with_len}
+use Rattle.std.proofs.lemmas.List.{append-nil, length-append, length-map}
+use Rattle.std.proofs.lemmas.List.Elements.{All-append, All-cons, All-nil}
+use Rattle.pipe_columns.specs.declared.data_chunk.DataChunk.{DataChunk}
+use Rattle.pipe_columns.specs.Frame.{FitsSchema}
+use Rattle.pipe_csv.specs.declared.csv_error.CsvError.{CsvError}
+use Rattle.pipe_csv.specs.declared.csv_error.CsvError.TheVariants as ce
+use Rattle.pipe_io.specs.Files.{Files}
+use Rattle.pipe_source.specs.CsvChunks.{CsvChunks, Stop, chunks_then, no_more, wanted_fields}
+use Rattle.pipe_source.specs.Reader.{StopsAt, given_fields, left_of, stopped}
+use Rattle.pipe_source.specs.Kept.{IsAdvanced, IsKept, IsPlace, IsReading, chunk_at, chunks_at, name_kept, piece_at, place_at, rows_kept, state_behind, state_of}
+use Rattle.pipe_source.specs.Next.{IsNext}
+use Rattle.pipe_source.specs.ReadOn.{HasReadNext, HasReadOn, state_ahead}
+use Rattle.pipe_source.specs.Rounds.{HasStop, StopsWithin}
+use Rattle.pipe_source.specs.declared.kept_text.KeptText.{KeptText}
+use Rattle.pipe_source.specs.declared.reading.Reading.{Reading}
+use Rattle.pipe_source.specs.declared.source_place.SourcePlace.{SourcePlace}
+use Rattle.pipe_source.proofs.KeptFacts.{chunk-there, chunks-given, few-chunks, kept-behind}
+use Rattle.pipe_source.proofs.ReaderFacts.{behind-rows, given-fits}
+
+-- where one list is left behind some chunks, and another behind others, all are
+pub then-then : (xs ys : List DataChunk) (rest : CsvChunks) → chunks_then xs (chunks_then ys rest) ≡ chunks_then (xs ++ ys) rest
+then-then xs ys rest = ap (λ (cs : List DataChunk). record { chunks = cs; stop = rest.stop }) (sym (append_assoc xs ys rest.chunks))
+
+-- so many chunks
+length-range : (first n : ℕ) → length (range_with_len first n) ≡ n
+length-range first zero = refl
+length-range first (suc n) = ap (λ k. suc k) (length-range (first + 1) n)
+
+pub length-chunks : (what : Reading) (k : KeptText) (n : ℕ) → length (chunks_at what k n) ≡ n
+length-chunks what k n = length-map (range_with_len 0 n) (chunk_at what k) ∙ length-range 0 n
+
+-- each of them has the given fields
+all-fit : (what : Reading) (k : KeptText) (ns : List ℕ) → All (λ c. FitsSchema (wanted_fields what.options what.schema what.wanted.items) c.frame) (map (chunk_at what k) ns)
+all-fit what k [] = All-nil (λ (c : DataChunk). FitsSchema (wanted_fields what.options what.schema what.wanted.items) c.frame)
+all-fit what k (n ∷ ns) =
+    All-cons (λ (c : DataChunk). FitsSchema (wanted_fields what.options what.schema what.wanted.items) c.frame) (chunk_at what k n) (map (chunk_at what k) ns)
+    (given-fits what.options what.wanted.items what.schema (name_kept what k) (place_at k.at what.options.chunk_size n) (piece_at what.options.chunk_size n (rows_kept what k))) (all-fit what k ns)
+
+pub chunks-fit : (what : Reading) (k : KeptText) (n : ℕ) → All (λ c. FitsSchema (wanted_fields what.options what.schema what.wanted.items) c.frame) (chunks_at what k n)
+chunks-fit what k n = all-fit what k (range_with_len 0 n)
+
+-- behind all chunks of a text no row of it is left
+pub none-kept : (what : Reading) (n : ℕ) (old new : KeptText) → IsKept what old → IsAdvanced what.options.chunk_size n old new → n ≡ length old.starts.items - old.chunk → rows_kept what new ≡ []
+none-kept what n old new k a e =
+    let enough : old.left ≤ n * what.options.chunk_size = subst (λ i. old.left ≤ i * what.options.chunk_size) (sym e) k.starts.all in
+    let none : new.left ≡ 0 = omega (arith, a.left) in
+    rw none refl
+
+-- so what is left is behind its place
+pub behind-all : (files : Files) (what : Reading) (n : ℕ) (old new : KeptText) → IsKept what old → IsAdvanced what.options.chunk_size n old new → n ≡ length old.starts.items - old.chunk → left_of files (state_of what new) ≡ left_of files (state_behind what new.at)
+behind-all files what n old new k a e = behind-rows files (state_of what new) (none-kept what n old new k a e)
+
+-- a place behind few rows and chunks
+pub place-kept : (what : Reading) (k : KeptText) → IsKept what k → IsPlace what k.at
+place-kept what k kept = record { files = kept.files; rows = omega (arith, kept.few_rows); chunks = omega (arith, kept.few_chunks) }
+
+-- ---- the next file
+
+told-given : (told : Option Files) (what : Reading) (last : SourcePlace) (n : ℕ) (old new : KeptText) → IsReading what → IsNext what told last old → IsAdvanced what.options.chunk_size n old new → old.chunk + n ≤ length old.starts.items
+    → IfSome told (λ files. left_of files (state_behind what last) ≡ chunks_then (chunks_at what old n) (left_of files (state_of what new)))
+told-given None what last n old new reading h a w = tt
+told-given (Some files) what last n old new reading h a w = sym h.same ∙ chunks-given files what n old new reading h.kept a w
+
+told-behind : (told : Option Files) (what : Reading) (n : ℕ) (old new : KeptText) → IsKept what old → IsAdvanced what.options.chunk_size n old new → n ≡ length old.starts.items - old.chunk → IfSome told (λ files. left_of files (state_of what new) ≡ left_of files (state_behind what new.at))
+told-behind None what n old new k a e = tt
+told-behind (Some files) what n old new k a e = behind-all files what n old new k a e
+
+pub has-read-next : (what : Reading) (told : Option Files) (last : SourcePlace) (before now : List DataChunk) (count n : ℕ) (old new : KeptText)
+    → IsReading what → IsNext what told last old → IsAdvanced what.options.chunk_size n old new → length before < count → n ≡ min (length old.starts.items - old.chunk) (count - length before) → now ≡ before ++ chunks_at what old n → HasReadNext what told last before now count new
+has-read-next what told last before now count n old new reading h a few e p =
+    let size : ℕ = what.options.chunk_size in
+    let starts = h.kept.starts in
+    let within : old.chunk + n ≤ length old.starts.items = omega (arith, starts.within) in
+    let first : 0 * size < old.left = rw (zero-mul size) h.some in
+    let there : old.chunk + 0 < length old.starts.items = chunk-there old.text.items size old.left 0 old.starts.items old.chunk starts first in
+    let many : length now ≡ length before + n = ap length p ∙ length-append before (chunks_at what old n) ∙ ap (λ k. length before + k) (length-chunks what old n) in
+    let kept = kept-behind what n old new reading h.kept a within in
+    record {
+      kept = kept;
+      more = chunks_at what old n;
+      pushed = p;
+      some = omega (arith, many, there);
+      few = omega (arith, many);
+      left = told-given told what last n old new reading h a within;
+      fit = chunks-fit what old n;
+      place = place-kept what new kept;
+      all = λ fewer. told-behind told what n old new h.kept a (omega (arith, many));
+    }
+
+-- ---- files one after another
+
+-- none is read yet
+pub read-none : (what : Reading) (told : Option Files) (first : SourcePlace) (before : List DataChunk) → HasReadOn what told first before before None
+read-none what told first before = record {
+  kept = tt;
+  more = [];
+  pushed = sym (append-nil before);
+  left = none told;
+  fit = All-nil (λ (c : DataChunk). FitsSchema (given_fields (state_behind what first)) c.frame);
+} where
+  none : (told : Option Files) → IfSome told (λ files. left_of files (state_behind what first) ≡ chunks_then [] (left_of files (state_behind what first)))
+  none None = tt
+  none (Some files) = refl
+
+-- where files are told, what is left where a reader stands is what is left behind a place
+abbrev pub StandsAt : Reading → Option Files → SourcePlace → Option KeptText → SourcePlace → Type 0
+StandsAt what told first ahead last = IfSome told (λ files. left_of files (state_ahead what first ahead) ≡ left_of files (state_behind what last))
+
+pub stands-first : (what : Reading) (told : Option Files) (first : SourcePlace) → StandsAt what told first None first
+stands-first what None first = tt
+stands-first what (Some files) first = refl
+
+told-more : (told : Option Files) (what : Reading) (first last : SourcePlace) (ahead : Option KeptText) (k : KeptText) (more some : List DataChunk)
+    → IfSome told (λ files. left_of files (state_behind what first) ≡ chunks_then more (left_of files (state_ahead what first ahead))) → StandsAt what told first ahead last
+    → IfSome told (λ files. left_of files (state_behind what last) ≡ chunks_then some (left_of files (state_of what k)))
+    → IfSome told (λ files. left_of files (state_behind what first) ≡ chunks_then (more ++ some) (left_of files (state_of what k)))
+told-more None what first last ahead k more some a b c = tt
+told-more (Some files) what first last ahead k more some a b c = a ∙ ap (chunks_then more) (b ∙ c) ∙ then-then more some (left_of files (state_of what k))
+
+-- one more file is read
+pub read-more : (what : Reading) (told : Option Files) (first last : SourcePlace) (before now new : List DataChunk) (count : ℕ) (ahead : Option KeptText) (k : KeptText)
+    → HasReadOn what told first before now ahead → StandsAt what told first ahead last → HasReadNext what told last now new count k → HasReadOn what told first before new (Some k)
+read-more what told first last before now new count ahead k r s n = record {
+  kept = n.kept;
+  more = r.more ++ n.more;
+  pushed = n.pushed ∙ ap (λ (t : List DataChunk). t ++ n.more) r.pushed ∙ append_assoc before r.more n.more;
+  left = told-more told what first last ahead k r.more n.more r.left s n.left;
+  fit = All-append (λ (c : DataChunk). FitsSchema (given_fields (state_behind what first)) c.frame) r.more n.more r.fit n.fit;
+}
+
+-- none is left behind the last
+pub none-ahead : (what : Reading) (told : Option Files) (first last : SourcePlace) (ahead : Option KeptText) → StandsAt what told first ahead last → IfSome told (λ files. left_of files (state_behind what last) ≡ no_more) → IfSome told (λ files. left_of files (state_ahead what first ahead) ≡ no_more)
+none-ahead what None first last ahead s h = tt
+none-ahead what (Some files) first last ahead s h = s ∙ h
+
+-- a stop behind some chunks is one within more of them
+stop-then : (n : ℕ) (stop : Stop) (more : List DataChunk) (whole rest : CsvChunks) → whole ≡ chunks_then more rest → rest ≡ stopped stop → length more < n → HasStop n stop whole
+stop-then n stop more whole rest w r l =
+    let same : whole ≡ chunks_then more (stopped stop) = w ∙ ap (chunks_then more) r in
+    let count : length (more ++ []) ≡ length more = ap length (append-nil more) in
+    rw same (refl, omega (arith, count))
+
+stops-then : (e : CsvError) (n : ℕ) (more : List DataChunk) (whole rest : CsvChunks) → whole ≡ chunks_then more rest → length more < n → StopsAt e rest → StopsWithin n e whole
+stops-then (ce.Missing file) n more whole rest w l s = stop-then n _ more whole rest w s l
+stops-then (ce.Header file) n more whole rest w l s = stop-then n _ more whole rest w s l
+stops-then (ce.Width file row) n more whole rest w l s = stop-then n _ more whole rest w s l
+stops-then (ce.Field file row column) n more whole rest w l s = stop-then n _ more whole rest w s l
+stops-then ce.Input n more whole rest w l s = tt
+stops-then ce.TooLarge n more whole rest w l s = stop-then n _ more whole rest w s l
+stops-then ce.Memory n more whole rest w l s = tt
+
+-- the files stop behind what was read
+pub stops-behind : (what : Reading) (told : Option Files) (first last : SourcePlace) (before now : List DataChunk) (count : ℕ) (ahead : Option KeptText) (e : CsvError)
+    → HasReadOn what told first before now ahead → StandsAt what told first ahead last → length now < count → IfSome told (λ files. StopsAt e (left_of files (state_behind what last)))
+    → IfSome told (λ files. StopsWithin (count - length before) e (left_of files (state_behind what first)))
+stops-behind what None first last before now count ahead e r s l h = tt
+stops-behind what (Some files) first last before now count ahead e r s l h =
+    let many : length now ≡ length before + length r.more = ap length r.pushed ∙ length-append before r.more in
+    stops-then e (count - length before) r.more _ _ (r.left ∙ ap (chunks_then r.more) s) (omega arith) h
+
+-- and behind the first chunks that were read of a text
+pub stops-first : (told : Option Files) (more : List DataChunk) (whole rest : Files → CsvChunks) (count : ℕ) (e : CsvError)
+    → IfSome told (λ files. whole files ≡ chunks_then more (rest files)) → length more < count → IfSome told (λ files. StopsWithin (count - length more) e (rest files)) → IfSome told (λ files. StopsWithin count e (whole files))
+stops-first None more whole rest count e w l h = tt
+stops-first (Some files) more whole rest count e w l h = within e h where
+  stop : (s : Stop) → HasStop (count - length more) s (rest files) → HasStop count s (whole files)
+  stop s k =
+      let many : length (more ++ (rest files).chunks) ≡ length more + length (rest files).chunks = length-append more (rest files).chunks in
+      rw w (k.0, omega (arith, many, k.1))
+
+  within : (e : CsvError) → StopsWithin (count - length more) e (rest files) → StopsWithin count e (whole files)
+  within (ce.Missing file) k = stop _ k
+  within (ce.Header file) k = stop _ k
+  within (ce.Width file row) k = stop _ k
+  within (ce.Field file row column) k = stop _ k
+  within ce.Input k = tt
+  within ce.TooLarge k = stop _ k
+  within ce.Memory k = tt
+
+-- ---- a round
+
+-- the place behind all rows that are left of a text
+abbrev pub place_past : KeptText → SourcePlace
+place_past k = record { file = k.at.file; chunks = k.at.chunks + (length k.starts.items - k.chunk); rows = k.at.rows + k.left }
+
+-- so many chunks of a text are left
+pub within-all : (what : Reading) (k : KeptText) (n count : ℕ) → IsKept what k → n ≡ min (length k.starts.items - k.chunk) count → k.chunk + n ≤ length k.starts.items
+within-all what k n count kept e = omega (arith, kept.starts.within)
+
+-- it has few rows and chunks before it
+pub place-past : (what : Reading) (k : KeptText) → IsReading what → IsKept what k → IsPlace what (place_past k)
+place-past what k reading kept =
+    let n : ℕ = length k.starts.items - k.chunk in
+    let few = few-chunks what.options.chunk_size k.left n k.text.items k.starts.items k.chunk _ refl reading.size kept.starts (omega (arith, kept.starts.within)) in
+    record { files = kept.files; rows = kept.few_rows; chunks = omega (arith, kept.few_chunks, few) }
+
+-- all chunks of a text go, and the next files are left behind it
+past-given : (files : Files) (what : Reading) (k : KeptText) (n : ℕ) → IsReading what → IsKept what k → n ≡ length k.starts.items - k.chunk → left_of files (state_of what k) ≡ chunks_then (chunks_at what k n) (left_of files (state_behind what (place_past k)))
+past-given files what k n reading kept e =
+    let size : ℕ = what.options.chunk_size in
+    let enough : k.left ≤ n * size = subst (λ i. k.left ≤ i * size) (sym e) kept.starts.all in
+    let past : KeptText = record { at = place_past k; text = k.text; starts = k.starts; chunk = k.chunk + n; left = 0 } in
+    let advanced : IsAdvanced size n k past = record { text = refl; starts = refl; chunk = refl; left = omega arith; file = refl; chunks = omega arith; rows = omega arith } in
+    chunks-given files what n k past reading kept advanced (omega (arith, kept.starts.within)) ∙ ap (chunks_then (chunks_at what k n)) (behind-all files what n k past kept advanced e)
+
+-- a round over the text and the files behind it
+pub round-given : (told : Option Files) (what : Reading) (k : KeptText) (n : ℕ) (ahead : Option KeptText) (chunks now : List DataChunk) → IsReading what → IsKept what k → n ≡ length k.starts.items - k.chunk → chunks ≡ chunks_at what k n → HasReadOn what told (place_past k) chunks now ahead
+    → IfSome told (λ files. left_of files (state_of what k) ≡ chunks_then now (left_of files (state_ahead what (place_past k) ahead)))
+round-given None what k n ahead chunks now reading kept e c r = tt
+round-given (Some files) what k n ahead chunks now reading kept e c r =
+    past-given files what k n reading kept e ∙ ap (λ (t : List DataChunk). chunks_then t (left_of files (state_behind what (place_past k)))) (sym c)
+    ∙ ap (chunks_then chunks) r.left ∙ then-then chunks r.more (left_of files (state_ahead what (place_past k) ahead))
+    ∙ ap (λ (t : List DataChunk). chunks_then t (left_of files (state_ahead what (place_past k) ahead))) (sym r.pushed)
+
+-- where no file behind it was read
+pub stands-past : (files : Files) (what : Reading) (n : ℕ) (old new : KeptText) → IsKept what old → IsAdvanced what.options.chunk_size n old new → n ≡ length old.starts.items - old.chunk → left_of files (state_behind what (place_past old)) ≡ left_of files (state_of what new)
+stands-past files what n old new k a e =
+    let enough : old.left ≤ n * what.options.chunk_size = subst (λ i. old.left ≤ i * what.options.chunk_size) (sym e) k.starts.all in
+    let chunks : old.at.chunks + (length old.starts.items - old.chunk) ≡ new.at.chunks = omega (arith, a.chunks, e) in
+    let rows : old.at.rows + old.left ≡ new.at.rows = omega (arith, a.rows, a.left) in
+    let place : place_past old ≡ new.at = λ i. record { file = sym a.file i; chunks = chunks i; rows = rows i } in
+    ap (λ p. left_of files (state_behind what p)) place ∙ sym (behind-all files what n old new k a e)
+
+pub round-none : (told : Option Files) (what : Reading) (n : ℕ) (old new : KeptText) (chunks now : List DataChunk) → IsReading what → IsKept what old → IsAdvanced what.options.chunk_size n old new → n ≡ length old.starts.items - old.chunk → chunks ≡ chunks_at what old n → HasReadOn what told (place_past old) chunks now None
+    → IfSome told (λ files. left_of files (state_of what old) ≡ chunks_then now (left_of files (state_of what new)))
+round-none None what n old new chunks now reading kept a e c r = tt
+round-none (Some files) what n old new chunks now reading kept a e c r =
+    round-given (Some files) what old n None chunks now reading kept e c r ∙ ap (chunks_then now) (stands-past files what n old new kept a e)
+
+pub over-none : (told : Option Files) (what : Reading) (n : ℕ) (old new : KeptText) → IsKept what old → IsAdvanced what.options.chunk_size n old new → n ≡ length old.starts.items - old.chunk
+    → IfSome told (λ files. left_of files (state_behind what (place_past old)) ≡ no_more) → IfSome told (λ files. left_of files (state_of what new) ≡ no_more)
+over-none None what n old new kept a e h = tt
+over-none (Some files) what n old new kept a e h = sym (stands-past files what n old new kept a e) ∙ h
+
+-- all chunks of it fit
+pub round-fits : (what : Reading) (told : Option Files) (k : KeptText) (n : ℕ) (first : SourcePlace) (ahead : Option KeptText) (chunks now : List DataChunk) → chunks ≡ chunks_at what k n → HasReadOn what told first chunks now ahead → All (λ c. FitsSchema (given_fields (state_of what k)) c.frame) now
+round-fits what told k n first ahead chunks now c r =
+    let front : All (λ (x : DataChunk). FitsSchema (given_fields (state_of what k)) x.frame) chunks = rw c (chunks-fit what k n) in
+    rw r.pushed (All-append (λ (x : DataChunk). FitsSchema (given_fields (state_of what k)) x.frame) chunks r.more front r.fit)
+
+-- the first chunks of it go where no more are asked for
+pub told-first : (told : Option Files) (what : Reading) (n : ℕ) (old new : KeptText) (chunks : List DataChunk) → IsReading what → IsKept what old → IsAdvanced what.options.chunk_size n old new → old.chunk + n ≤ length old.starts.items → chunks ≡ chunks_at what old n
+    → IfSome told (λ files. left_of files (state_of what old) ≡ chunks_then chunks (left_of files (state_of what new)))
+told-first None what n old new chunks reading k a w c = tt
+told-first (Some files) what n old new chunks reading k a w c = rw c (chunks-given files what n old new reading k a w)
+
+-- and what stops behind it stops the round
+pub round-stops : (told : Option Files) (what : Reading) (k : KeptText) (n count : ℕ) (chunks : List DataChunk) (e : CsvError) → IsReading what → IsKept what k → n ≡ length k.starts.items - k.chunk → chunks ≡ chunks_at what k n → length chunks < count
+    → IfSome told (λ files. StopsWithin (count - length chunks) e (left_of files (state_behind what (place_past k)))) → IfSome told (λ files. StopsWithin count e (left_of files (state_of what k)))
+round-stops told what k n count chunks e reading kept all c few h =
+    stops-first told chunks (λ files. left_of files (state_of what k)) (λ files. left_of files (state_behind what (place_past k))) count e (given told) few h where
+      given : (told : Option Files) → IfSome told (λ files. left_of files (state_of what k) ≡ chunks_then chunks (left_of files (state_behind what (place_past k))))
+      given None = tt
+      given (Some files) = rw c (past-given files what k n reading kept all)

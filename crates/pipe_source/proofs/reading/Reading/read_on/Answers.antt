@@ -1,0 +1,32 @@
+use Rattle.std.proofs.Common.{◌<◌, length, rules, subst, Option}
+use Rattle.std.specs.Option.{IfSome}
+use Rattle.pipe_io.specs.Files.{Files}
+use Rattle.pipe_source.specs.Kept.{state_behind}
+use Rattle.pipe_source.specs.Reader.{StopsAt, left_of}
+use Rattle.pipe_source.specs.ReadOn.{HasReadNext}
+use Rattle.pipe_source.proofs.RoundFacts.{read-more, stops-behind}
+use Rattle.pipe_source.proofs.reading.Reading.read_on.Goals as goal
+
+pub files-preserved : goal.files-preserved
+files-preserved g c =
+    let inv = c.files.invariant in
+    let told = g.I.InputFiles.told c.args.input.now in
+    let fewer : length c.files.chunks.items < c.args.count = search rules in
+    let found = rw c.in-Ok-Some.field-0-is at c.in-Ok-Some.ensures.read in
+    let next : HasReadNext c.args.self.now told c.files.last c.files.chunks.items c.read_next.new.chunks.items c.args.count c.in-Ok-Some.text = subst (λ (t : Option Files). HasReadNext c.args.self.now t c.files.last c.files.chunks.items c.read_next.new.chunks.items c.args.count c.in-Ok-Some.text) inv.told found in
+    record {
+      told = search rules;
+      later = search rules;
+      read = read-more c.args.self.now told c.args.first c.files.last c.args.chunks.now.items c.files.chunks.items c.read_next.new.chunks.items c.args.count c.files.ahead c.in-Ok-Some.text inv.read (inv.next fewer) next;
+      few = next.few;
+      place = next.place;
+      next = next.all;
+    }
+
+pub returns-in-Err-clause-stopped : goal.returns-in-Err-clause-stopped
+returns-in-Err-clause-stopped g c =
+    let inv = c.files.invariant in
+    let told = g.I.InputFiles.told c.args.input.now in
+    let fewer : length c.files.chunks.items < c.args.count = search rules in
+    stops-behind c.args.self.now told c.args.first c.files.last c.args.chunks.now.items c.files.chunks.items c.args.count c.files.ahead _ inv.read (inv.next fewer) fewer
+    (subst (λ (t : Option Files). IfSome t (λ files. StopsAt c.in-Err.error (left_of files (state_behind c.args.self.now c.files.last)))) inv.told c.in-Err.ensures.stopped)

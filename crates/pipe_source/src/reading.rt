@@ -1,0 +1,126 @@
+//! What is read of files, and how: their texts one after another, and chunks of a text.
+
+ghost use Rattle.std.specs.Prelude.{◌≡◌, ◌<◌, ◌*◌, IfErr, IfOk, IfSome, IsErrOf};
+ghost use Rattle.pipe_columns.specs.Causes.{HasCause};
+ghost use Rattle.pipe_csv.specs.declared.csv_error.CsvError.TheVariants as csv_error;
+ghost use Rattle.pipe_source.specs.Kept.{IsKept, IsPlace, IsReading, chunk_at, state_behind};
+ghost use Rattle.pipe_source.specs.Next.{IsNextText};
+ghost use Rattle.pipe_source.specs.Reader.{StopsAt, left_of};
+ghost use Rattle.pipe_wanted.specs.Wanted.{chosen};
+
+use crate::file_load::{find_rows, wanted_after};
+use crate::file_text::FileText;
+use crate::kept_text::KeptText;
+use crate::read_options::CsvReadOptions;
+use crate::row_push::push_rows;
+use crate::source_columns::make_chunk;
+use crate::source_place::SourcePlace;
+use pipe_columns::{DataChunk, Field, Schema, Text};
+use pipe_csv::{CsvError, empty_columns};
+use pipe_io::InputFiles;
+use std::alloc::Global;
+
+/// A column gets room for so many values at most before they are there.
+const MOST_ROOM: usize = 65536;
+
+/// The names of files, their schema, which of its columns are wanted and the schema of these where
+/// they aren't all, and how the files are read.
+#[derive(Drop)]
+pub(crate) struct Reading {
+    pub(crate) schema: Schema,
+    pub(crate) wanted: Vec<bool>,
+    pub(crate) kept: Option<Schema>,
+    pub(crate) options: CsvReadOptions,
+    pub(crate) names: Vec<Text>,
+}
+
+impl Reading {
+    /// The fields that are wanted.
+    fn kept_fields(&self) -> &[Field]
+        requires { IsReading self.now }
+        ensures { result.now ≡ chosen self.now.wanted.items self.now.schema }
+    {
+        match &self.kept {
+            Some(kept) => kept.fields(),
+            None => self.schema.fields(),
+        }
+    }
+
+    /// The next file behind a place that has wanted rows, if there is one.
+    pub(crate) fn next_text<I: InputFiles>(
+        &self,
+        alloc: Global,
+        input: &mut I,
+        last: SourcePlace,
+    ) -> Result<Option<KeptText>, CsvError>
+        requires reading { IsReading self.now }
+        requires place { IsPlace self.now last }
+        ensures told { I.told input.new ≡ I.told input.old }
+        ensures found { IfOk result (λ o. IsNextText self.now (I.told input.old) last o) }
+        ensures stopped { IfErr result (λ e. IfSome (I.told input.old)
+            (λ files. StopsAt e (left_of files (state_behind self.now last)))) }
+        ensures cause { HasCause (I.faults input.old) (I.faults input.new)
+            (IsErrOf result csv_error.Input) }
+    {
+        if wanted_after(self.options.n_rows, last.rows) == Some(0) {
+            return Ok(None);
+        }
+        let fields = self.schema.fields();
+        match find_rows(alloc, input, &self.names, last, fields, &self.options) {
+            Ok(Some((place, found))) => {
+                let FileText {
+                    text,
+                    begin: _,
+                    count,
+                    starts,
+                } = found;
+                Ok(Some(KeptText {
+                    at: SourcePlace {
+                        file: place + 1,
+                        chunks: last.chunks,
+                        rows: last.rows,
+                    },
+                    text,
+                    starts,
+                    chunk: 0,
+                    left: count,
+                }))
+            }
+            Ok(None) => Ok(None),
+            Err(error) => Err(error),
+        }
+    }
+
+    /// Chunk n, counted from 0, of the rows that are left of a text.
+    pub(crate) fn chunk_of(
+        &self,
+        alloc: Global,
+        text: &KeptText,
+        n: usize,
+    ) -> Result<DataChunk, CsvError>
+        requires reading { IsReading self.now }
+        requires kept { IsKept self.now text.now }
+        requires some { n * self.now.options.chunk_size < text.now.left }
+        ensures chunk { IfOk result (λ c. c ≡ chunk_at self.now text.now n) }
+        ensures memory { IfErr result (λ e. e ≡ csv_error.Memory) }
+    {
+        let left = text.left;
+        let before = n * self.options.chunk_size;
+        let count = (left - before).min(self.options.chunk_size);
+        let begin = text.starts[text.chunk + n];
+        let at = SourcePlace {
+            file: text.at.file,
+            chunks: text.at.chunks + n as u128,
+            rows: text.at.rows + before as u128,
+        };
+        let fields = self.schema.fields();
+        let kept = self.kept_fields();
+        let mut columns = empty_columns(alloc, kept.len(), count.min(MOST_ROOM))?;
+        let bytes = &text.text;
+        let wanted = &self.wanted;
+        push_rows(alloc, &mut columns, bytes, begin, count, fields, wanted)?;
+        let file = &self.names[text.at.file - 1];
+        let chunk = make_chunk(alloc, &self.options, at, file, kept, columns, count)?;
+        Ok(chunk)
+    }
+}

@@ -1,0 +1,177 @@
+//! Chunks that are read side by side.
+
+ghost use Rattle.std.specs.Prelude.{◌≡◌, ◌≤◌, ◌<◌, ◌+◌, ◌-◌, ◌++◌, ◌∷◌, [], All, IfErr, IfOk, IfSome, IsErrOf, List, Ok, OnOk, length, map};
+ghost use Rattle.pipe_columns.specs.declared.data_chunk.DataChunk.{DataChunk};
+ghost use Rattle.pipe_columns.specs.Causes.{HasCause};
+ghost use Rattle.pipe_columns.specs.Frame.{FitsSchema};
+ghost use Rattle.pipe_csv.specs.declared.csv_error.CsvError.TheVariants as csv_error;
+ghost use Rattle.pipe_source.specs.CsvChunks.{no_more};
+ghost use Rattle.pipe_source.specs.Kept.{IsKept, IsPlace, IsReading, chunks_at, state_behind};
+ghost use Rattle.pipe_source.specs.Reader.{StopsAt, left_of};
+ghost use Rattle.pipe_source.specs.ReadOn.{HasReadNextText, HasReadOn, state_ahead};
+ghost use Rattle.pipe_source.specs.Rounds.{StopsWithin};
+
+use crate::kept_text::KeptText;
+use crate::reading::Reading;
+use crate::source_place::SourcePlace;
+use pipe_columns::DataChunk;
+use pipe_csv::CsvError;
+use pipe_io::InputFiles;
+use std::alloc::{AllocError, Global};
+use std::thread;
+use std::thread::Threads;
+
+/// Adds a chunk.
+fn push_chunk(chunks: &mut Vec<DataChunk>, chunk: DataChunk) -> Result<(), AllocError>
+    ensures { OnOk result (chunks.new.items ≡ chunks.old.items ++ chunk ∷ []) }
+{
+    match chunks.push(chunk) {
+        Ok(()) => Ok(()),
+        Err(_) => Err(AllocError),
+    }
+}
+
+/// Adds chunks, where each was made.
+fn push_made(
+    chunks: &mut Vec<DataChunk>,
+    made: Vec<Result<DataChunk, CsvError>>,
+) -> Result<(), AllocError>
+    ensures { OnOk result ((more : List DataChunk) × (made.items ≡ map Ok more)
+        × (chunks.new.items ≡ chunks.old.items ++ more)) }
+{
+    for chunk in made {
+        match chunk {
+            Ok(chunk) => push_chunk(chunks, chunk)?,
+            Err(_) => return Err(AllocError),
+        }
+    }
+    Ok(())
+}
+
+/// Adds other chunks.
+fn push_all(chunks: &mut Vec<DataChunk>, more: Vec<DataChunk>) -> Result<(), AllocError>
+    ensures { OnOk result (chunks.new.items ≡ chunks.old.items ++ more.items) }
+{
+    for chunk in more {
+        push_chunk(chunks, chunk)?;
+    }
+    Ok(())
+}
+
+impl Reading {
+    /// The first chunks of the rows that are left of a text, as many at a time as there are
+    /// threads.
+    pub(crate) fn chunks_of<H: Threads + Sync>(
+        &self,
+        rt: &H,
+        alloc: Global,
+        text: &KeptText,
+        count: usize,
+        threads: usize,
+    ) -> Result<Vec<DataChunk>, AllocError>
+        requires reading { IsReading self.now }
+        requires kept { IsKept self.now text.now }
+        requires some { text.now.chunk + count ≤ length text.now.starts.items }
+        requires threads { 0 < threads }
+        ensures { IfOk result (λ v. v.items ≡ chunks_at self.now text.now count) }
+    {
+        let mut chunks = Vec::new(alloc);
+        let mut first = 0;
+        while first < count {
+            let some = threads.min(count - first);
+            let made = thread::map_indices(
+                rt,
+                alloc,
+                some,
+                &|n| { self.chunk_of(alloc, text, first + n) },
+            )?;
+            push_made(&mut chunks, made)?;
+            first += some;
+        }
+        Ok(chunks)
+    }
+
+    /// Adds chunks of the next file behind a place, so many in all at most, and tells what is left
+    /// of its text, if there is one.
+    fn read_next<I: InputFiles, H: Threads + Sync>(
+        &self,
+        rt: &H,
+        alloc: Global,
+        input: &mut I,
+        last: SourcePlace,
+        chunks: &mut Vec<DataChunk>,
+        count: usize,
+        threads: usize,
+    ) -> Result<Option<KeptText>, CsvError>
+        requires reading { IsReading self.now }
+        requires place { IsPlace self.now last }
+        requires some { length chunks.old.items < count }
+        requires threads { 0 < threads }
+        ensures told { I.told input.new ≡ I.told input.old }
+        ensures read { IfOk result (λ o. HasReadNextText self.now (I.told input.old) last
+            chunks.old.items chunks.new.items count o) }
+        ensures stopped { IfErr result (λ e. IfSome (I.told input.old)
+            (λ files. StopsAt e (left_of files (state_behind self.now last)))) }
+        ensures cause { HasCause (I.faults input.old) (I.faults input.new)
+            (IsErrOf result csv_error.Input) }
+    {
+        let mut text = match self.next_text(alloc, input, last) {
+            Ok(Some(text)) => text,
+            Ok(None) => return Ok(None),
+            Err(error) => return Err(error),
+        };
+        let some = text.chunks_left().min(count - chunks.len());
+        let Ok(more) = self.chunks_of(rt, alloc, &text, some, threads) else {
+            return Err(CsvError::Memory);
+        };
+        if push_all(chunks, more).is_err() {
+            return Err(CsvError::Memory);
+        }
+        text.advance(some, self.options.chunk_size);
+        Ok(Some(text))
+    }
+
+    /// Adds chunks of the files behind a place, so many in all at most, and tells what is left of
+    /// the text that was read last, if one was. There are fewer only where none is left.
+    pub(crate) fn read_on<I: InputFiles, H: Threads + Sync>(
+        &self,
+        rt: &H,
+        alloc: Global,
+        input: &mut I,
+        first: SourcePlace,
+        chunks: &mut Vec<DataChunk>,
+        count: usize,
+        threads: usize,
+    ) -> Result<Option<KeptText>, CsvError>
+        requires reading { IsReading self.now }
+        requires place { IsPlace self.now first }
+        requires few { length chunks.old.items ≤ count }
+        requires threads { 0 < threads }
+        ensures told { I.told input.new ≡ I.told input.old }
+        ensures read { IfOk result (λ o. HasReadOn self.now (I.told input.old) first
+            chunks.old.items chunks.new.items o) }
+        ensures few { IfOk result (λ _. length chunks.new.items ≤ count) }
+        ensures over { IfOk result (λ o. length chunks.new.items < count
+            → IfSome (I.told input.old)
+            (λ files. left_of files (state_ahead self.now first o) ≡ no_more)) }
+        ensures stopped { IfErr result (λ e. IfSome (I.told input.old)
+            (λ files. StopsWithin (count - length chunks.old.items) e
+            (left_of files (state_behind self.now first)))) }
+        ensures cause { HasCause (I.faults input.old) (I.faults input.new)
+            (IsErrOf result csv_error.Input) }
+    {
+        let mut ahead: Option<KeptText> = None;
+        let mut last = first;
+        'files: while chunks.len() < count {
+            match self.read_next(rt, alloc, input, last, chunks, count, threads) {
+                Ok(Some(text)) => {
+                    last = text.at;
+                    ahead = Some(text);
+                }
+                Ok(None) => return Ok(ahead),
+                Err(error) => return Err(error),
+            }
+        }
+        Ok(ahead)
+    }
+}
