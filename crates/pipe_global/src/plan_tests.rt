@@ -134,24 +134,46 @@ fn arrive_second<R: Naming, H: Wait>(
     }
 }
 
+/// What waits is dumped once the store has refused it.
+fn dump_refused<R: Naming, H: Wait>(
+    rt: &H,
+    alloc: Global,
+    table: &GlobalTable<MemoryStore, R>,
+    shares: &mut Shares<R>,
+) -> Result<(), Fail>
+    requires run { R.run ≡ one_spill_on (store_of R.run 0) }
+    requires shares { shares.old ≡ shares_at 0 2 1 }
+{
+    match table.dump(rt, alloc, &OpenGate, shares) {
+        Ok(()) => return Ok(()),
+        Err(DumpError::Store) => return Err("the store failed again".into()),
+        Err(DumpError::Memory) => {}
+    }
+    match table.dump(rt, alloc, &OpenGate, shares) {
+        Ok(()) => Ok(()),
+        Err(DumpError::Store) => Err("the store failed again".into()),
+        Err(DumpError::Memory) => Err("GlobalTable::dump wants memory".into()),
+    }
+}
+
 /// What waits is dumped, as the plan ends.
 fn dump<R: Naming, H: Wait>(
     rt: &H,
     alloc: Global,
     table: &GlobalTable<MemoryStore, R>,
     shares: &mut Shares<R>,
-) -> Result<bool, Fail>
+) -> Result<(), Fail>
     requires run { R.run ≡ one_spill_on (store_of R.run 0) }
     requires shares { shares.old ≡ shares_at 0 2 0 }
 {
     match table.dump(rt, alloc, &OpenGate, shares) {
-        Ok(()) => return Ok(true),
-        Err(DumpError::Store) => {}
+        Ok(()) => return Ok(()),
+        Err(DumpError::Store) => return dump_refused(rt, alloc, table, shares),
         Err(DumpError::Memory) => {}
     }
     match table.dump(rt, alloc, &OpenGate, shares) {
-        Ok(()) => Ok(false),
-        Err(DumpError::Store) => Err("the store failed again".into()),
+        Ok(()) => Ok(()),
+        Err(DumpError::Store) => dump_refused(rt, alloc, table, shares),
         Err(DumpError::Memory) => Err("GlobalTable::dump wants memory".into()),
     }
 }

@@ -1,5 +1,5 @@
 -- How a run over all its chunks at once ends.
-use Rattle.std.proofs.Common.{◌≡◌, ◌∙◌, ◌<◌, ℕ, true, false, List, [], ◌∷◌, ◌++◌, length, map, refl, sym, ap, subst, arith, length-append, Option, None, Some, Result, Ok, Err, ⊎_elim}
+use Rattle.std.proofs.Common.{◌≡◌, ◌∙◌, ◌<◌, ℕ, Bool, true, false, List, [], ◌∷◌, ◌++◌, length, map, refl, sym, ap, subst, arith, length-append, Option, None, Some, Result, Ok, Err, ⊎_elim}
 use Rattle.std.specs.Prelude.{IfErr, IfOk, is_some}
 use Rattle.std.specs.List.{All, flat_map, slice_index_or}
 use Rattle.std.proofs.lemmas.Bool.{false≢true}
@@ -35,7 +35,7 @@ use Rattle.pipe_run.specs.Fed.{FedSeen}
 use Rattle.pipe_run.specs.Feeding.{chunks_reached, IsBadChunks, IsFeedCause, NoneFell}
 use Rattle.pipe_run.specs.Refusals.{AllFit, AreFew, AreMany, IsBeginCause, IsFirstMisfit, limits_fit}
 use Rattle.pipe_run.specs.Setting.{run_of, Setting}
-use Rattle.pipe_run.specs.WholeRun.{CanBegin, CanRun, EndsRun, IsRunCause, LeavesStores, NoneRose, setting_fits}
+use Rattle.pipe_run.specs.WholeRun.{CanBegin, CanRun, EndsRun, IsRunCause, LeavesStores, NoneRose, setting_fits, setting_suits}
 use Rattle.pipe_run.proofs.Endings.{rose-later}
 use Rattle.pipe_run.proofs.LimitFacts.{fit-count, fit-limits}
 
@@ -92,15 +92,15 @@ told-none : (told : Option (List (List ℕ))) → told ≡ with_frames told []
 told-none None = refl
 told-none (Some frames) = ap (λ (l : List (List ℕ)). Some l) (sym (append-nil frames))
 
--- stores that were not touched have no frame of the run
-pub untouched-frames : (x : Setting) (chunks : List DataChunk) → setting_fits x ≡ true → HaveWholeFrames (run_of x false chunks) x.stores
-untouched-frames x chunks fit =
+-- stores that were not touched have no frame of the run, open or not
+pub untouched-in : (x : Setting) (o : Bool) (chunks : List DataChunk) → setting_fits x ≡ true → HaveWholeFrames (run_of x o chunks) x.stores
+untouched-in x o chunks fit =
     let held : List ℕ = map (λ (s : StoreSeen). s.held) x.stores in
     let limits = fit-limits x.limits (length x.actions) held fit in
     record {
       count = sym (length-map x.stores (λ (s : StoreSeen). s.held)) ∙ fit-count x.limits (length x.actions) held fit;
       each = λ p lt.
-          let r = run_of x false chunks in
+          let r = run_of x o chunks in
           record {
             frames = [];
             pieces = frames-apart r p [] limits.buffer (within-none r p);
@@ -108,19 +108,22 @@ untouched-frames x chunks fit =
           };
     }
 
+pub untouched-frames : (x : Setting) (chunks : List DataChunk) → setting_fits x ≡ true → HaveWholeFrames (run_of x false chunks) x.stores
+untouched-frames x chunks fit = untouched-in x false chunks fit
+
 -- ---- refused as it was begun
 
-pub begin-cause : (x : Setting) (chunks : List DataChunk) (stores : List StoreSeen) (e : PipeError) → IsBeginCause (setting_fits x) (first_fault x.query) e → IsRunCause x chunks stores e
+pub begin-cause : (x : Setting) (chunks : List DataChunk) (stores : List StoreSeen) (e : PipeError) → IsBeginCause (setting_fits x) (first_fault x.query) (setting_suits x) e → IsRunCause x chunks stores e
 begin-cause x chunks stores error.Limits cause = cause
 begin-cause x chunks stores (error.Query f) cause = cause
 begin-cause x chunks stores error.Memory cause = cause
-begin-cause x chunks stores error.Sink cause = absurd cause
+begin-cause x chunks stores error.Sink cause = cause
 begin-cause x chunks stores (error.Schema i) cause = absurd cause
 begin-cause x chunks stores error.TooLarge cause = absurd cause
 begin-cause x chunks stores (error.Store p) cause = absurd cause
 begin-cause x chunks stores (error.Damaged p n) cause = absurd cause
 
-pub begin-left : (x : Setting) (chunks : List DataChunk) (stores : List StoreSeen) (e : PipeError) → IsBeginCause (setting_fits x) (first_fault x.query) e → stores ≡ x.stores → LeavesStores x chunks stores e
+pub begin-left : (x : Setting) (chunks : List DataChunk) (stores : List StoreSeen) (e : PipeError) → IsBeginCause (setting_fits x) (first_fault x.query) (setting_suits x) e → stores ≡ x.stores → LeavesStores x chunks stores e
 begin-left x chunks stores error.Limits cause same = same
 begin-left x chunks stores (error.Query f) cause same = same
 begin-left x chunks stores error.Memory cause same = subst (HaveWholeFrames (run_of x false chunks)) (sym same) (untouched-frames x chunks cause)
@@ -216,7 +219,7 @@ only-memory : (x : Setting) (chunks : List DataChunk) (stores : List StoreSeen) 
     → CanRun x chunks → All (λ s. tells s ≡ true) x.stores → NoneRose x.stores stores → e ≡ error.Memory
 only-memory x chunks stores error.Limits cause left can telling none = absurd (false≢true (sym cause ∙ can.begin.fit))
 only-memory x chunks stores (error.Query f) cause left can telling none = absurd (none-some f (sym can.begin.faultless ∙ cause.1))
-only-memory x chunks stores error.Sink cause left can telling none = absurd cause
+only-memory x chunks stores error.Sink cause left can telling none = absurd (false≢true (sym cause.2 ∙ can.begin.suited))
 only-memory x chunks stores (error.Schema i) cause left can telling none = absurd (fit-misfit x.query.schema chunks i can.feed.fit cause.1)
 only-memory x chunks stores error.TooLarge cause left can telling none = absurd (few-many chunks can.feed.few cause.2)
 only-memory x chunks stores (error.Store p) cause left can telling none = absurd (none p cause.1 cause.2)
@@ -237,7 +240,7 @@ refused x chunks stores e cause left = record {
   complete = only-memory x chunks stores e cause left;
 }
 
-pub begin-ends : (x : Setting) (chunks : List DataChunk) (stores : List StoreSeen) (e : PipeError) → IsBeginCause (setting_fits x) (first_fault x.query) e → stores ≡ x.stores → EndsRun x chunks (Err e) stores
+pub begin-ends : (x : Setting) (chunks : List DataChunk) (stores : List StoreSeen) (e : PipeError) → IsBeginCause (setting_fits x) (first_fault x.query) (setting_suits x) e → stores ≡ x.stores → EndsRun x chunks (Err e) stores
 begin-ends x chunks stores e cause same = refused x chunks stores e (begin-cause x chunks stores e cause) (begin-left x chunks stores e cause same)
 
 pub chunks-ends : (x : Setting) (chunks : List DataChunk) (stores : List StoreSeen) (e : PipeError) → CanBegin x → stores ≡ x.stores → IsBadChunks e

@@ -3,6 +3,8 @@ use Rattle.std.specs.Prelude.{◌≡◌, ◌<◌, ℕ, Bool, true, false, List, 
 use Rattle.pipe_columns.specs.Causes.{Rose}
 use Rattle.pipe_columns.specs.declared.data_chunk.DataChunk.{DataChunk}
 use Rattle.pipe_aggs.specs.Faults.{first_fault}
+use Rattle.pipe_aggs.specs.QueryTrees.{query_tree}
+use Rattle.pipe_model.specs.Output.{key_types}
 use Rattle.pipe_plan.specs.Run.{StoreSeen, tells}
 use Rattle.pipe_global.specs.Partition.{no_store}
 use Rattle.pipe_run.specs.declared.error.PipeError.{PipeError}
@@ -10,31 +12,38 @@ use Rattle.pipe_run.specs.declared.error.PipeError.TheVariants as error
 use Rattle.pipe_run.specs.declared.output.GroupByOutput.{GroupByOutput}
 use Rattle.pipe_run.specs.Answered.{HaveWholeFrames, IsAnswered}
 use Rattle.pipe_run.specs.Finish.{HasPutUntold}
-use Rattle.pipe_run.specs.Refusals.{AllFit, AreMany, CanFeed, IsFirstMisfit, limits_fit}
+use Rattle.pipe_run.specs.Refusals.{AllFit, AreMany, CanFeed, IsFirstMisfit, limits_fit, suits_keys}
 use Rattle.pipe_run.specs.Setting.{run_of, Setting}
 
 -- whether the limits of a setting fit its actions and its stores
 abbrev pub setting_fits : Setting → Bool
 setting_fits x = limits_fit x.limits (length x.actions) (map (λ s. s.held) x.stores)
 
--- a run can be begun: its limits fit, and its query has no fault
+-- whether the kind of sink of a setting suits the keys of its query
+abbrev pub setting_suits : Setting → Bool
+setting_suits x = suits_keys x.limits.sink (key_types (query_tree x.query))
+
+-- a run can be begun: its limits fit, its query has no fault, and its kind of sink suits the keys
 pub record CanBegin (x : Setting) : Type 0 where
   pub fit : setting_fits x ≡ true
   pub faultless : first_fault x.query ≡ None
+  pub suited : setting_suits x ≡ true
 
 -- a run can be made over chunks
 pub record CanRun (x : Setting) (chunks : List DataChunk) : Type 0 where
   pub begin : CanBegin x
   pub feed : CanFeed x.query.schema chunks
 
--- why a run over chunks was refused. Limits, a fault of the query, a chunk that doesn't fit and too
--- many rows or chunks are told in this order, each only where it is so; then a store's faults rose; or a
--- store doesn't tell, and the frame that is named is one that the run put there; or memory ran out
+-- why a run over chunks was refused. Limits, a fault of the query, a kind of sink that doesn't suit the
+-- keys, a chunk that doesn't fit and too many rows or chunks are told in this order, each only where it
+-- is so; then a store's faults rose; or a store doesn't tell, and the frame that is named is one that
+-- the run put there; or memory ran out
 abbrev pub IsRunCause : Setting → List DataChunk → List StoreSeen → PipeError → Type 0
 IsRunCause x chunks stores error.Limits = setting_fits x ≡ false
 IsRunCause x chunks stores (error.Query f) =
     (setting_fits x ≡ true) × (first_fault x.query ≡ Some f)
-IsRunCause x chunks stores error.Sink = ⊥
+IsRunCause x chunks stores error.Sink =
+    (setting_fits x ≡ true) × (first_fault x.query ≡ None) × (setting_suits x ≡ false)
 IsRunCause x chunks stores (error.Schema i) =
     CanBegin x × IsFirstMisfit x.query.schema chunks i
 IsRunCause x chunks stores error.TooLarge =

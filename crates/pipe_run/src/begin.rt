@@ -2,13 +2,15 @@
 
 ghost use Rattle.std.specs.Prelude.{◌≡◌, ◌<◌, ◌≤◌, ◌^◌, [], All, IfErr, IfOk, None, OnOk, map, true, vec_capacity, vec_len};
 ghost use Rattle.pipe_aggs.specs.Faults.{first_fault};
+ghost use Rattle.pipe_aggs.specs.QueryTrees.{query_tree};
+ghost use Rattle.pipe_model.specs.Output.{key_types};
 ghost use Rattle.pipe_plan.specs.Run.{AreLimits, is_generic};
 ghost use Rattle.pipe_run.specs.Feeding.{NoneFell};
-ghost use Rattle.pipe_run.specs.Refusals.{IsBeginCause, limits_fit};
+ghost use Rattle.pipe_run.specs.Refusals.{IsBeginCause, limits_fit, suits_keys};
 
 use crate::begun::Begun;
 use crate::error::PipeError;
-use crate::limits::{copy_of, limits_fit};
+use crate::limits::{copy_of, limits_fit, suits_keys};
 use crate::opening::{marks_of, opened, unused_workers};
 use crate::run::GenericRun;
 use pipe_aggs::{CheckError, CheckedQuery, Query};
@@ -17,8 +19,8 @@ use pipe_spill::SpillStore;
 use std::alloc::{AllocError, Global};
 use std::sync::Wait;
 
-/// The query of a run without fault, where its limits fit.
-pub(crate) fn checked_query<'a, S: SpillStore + Drop>(
+/// The query of a run without fault, where its limits fit and its kind of sink suits the keys.
+pub fn checked_query<'a, S: SpillStore + Drop>(
     alloc: Global,
     query: &'a Query,
     limits: &Limits,
@@ -29,15 +31,23 @@ pub(crate) fn checked_query<'a, S: SpillStore + Drop>(
     ensures fit { OnOk result
         (limits_fit limits.now actions (map (λ s. S.held s) stores.now) ≡ true) }
     ensures faultless { OnOk result (first_fault query.now ≡ None) }
+    ensures suited { OnOk result
+        (suits_keys limits.now.sink (key_types (query_tree query.now)) ≡ true) }
     ensures cause { IfErr result (λ e. IsBeginCause
         (limits_fit limits.now actions (map (λ s. S.held s) stores.now))
-        (first_fault query.now) e) }
+        (first_fault query.now)
+        (suits_keys limits.now.sink (key_types (query_tree query.now))) e) }
 {
     if !limits_fit(limits, actions, stores) {
         return Err(PipeError::Limits);
     }
     match query.check(alloc) {
-        Ok(checked) => Ok(checked),
+        Ok(checked) => {
+            if !suits_keys(limits.sink, checked.key_types()) {
+                return Err(PipeError::Sink);
+            }
+            Ok(checked)
+        }
         Err(CheckError::Fault(fault)) => Err(PipeError::Query(fault)),
         Err(CheckError::Memory) => Err(PipeError::Memory),
     }
@@ -79,7 +89,8 @@ impl<'a, S: SpillStore + Drop + Send> GenericRun<'a, S> {
         }) stores.items) r.stores) }
         ensures cause { IfErr result (λ e. IsBeginCause
             (limits_fit limits.now (vec_len actions) (map (λ s. S.held s) stores.items))
-            (first_fault query.now) e.0) }
+            (first_fault query.now)
+            (suits_keys limits.now.sink (key_types (query_tree query.now))) e.0) }
         ensures back { IfErr result (λ e. e.1.items ≡ stores.items) }
     {
         let checked = match checked_query(alloc, query, limits, actions.len(), &stores) {

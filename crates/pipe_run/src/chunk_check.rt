@@ -47,7 +47,7 @@ pub(crate) fn rows_with(rows: u64, chunks: &[DataChunk]) -> Option<u64>
 }
 
 /// Whether chunks can be fed behind those taken, and then how many rows there are in all.
-pub(crate) fn checked_rows(
+pub fn checked_rows(
     query: &CheckedQuery<'_>,
     taken: &[Snapshot<DataChunk>],
     rows: u64,

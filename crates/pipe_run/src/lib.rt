@@ -34,9 +34,12 @@ mod stores;
 mod test_runs;
 mod whole_run;
 
+pub use begin::checked_query;
+pub use chunk_check::checked_rows;
 pub use error::PipeError;
 pub use group_source::GroupBySource;
 pub use laws::what_a_group_source_gives;
+pub use limits::copy_of;
 pub use output::GroupByOutput;
-pub use run::GenericRun;
+pub use run::{GenericRun, with_marks, with_room};
 pub use whole_run::run_generic;

@@ -1,10 +1,13 @@
-//! The limits of a run, and what they are asked to fit.
+//! The limits of a run, what they are asked to fit, and the keys that a kind of sink suits.
 
 ghost use Rattle.std.specs.Prelude.{◌≡◌, ◌^◌, length, map, nat_lt};
 ghost use Rattle.std.specs.List.{list_all};
-ghost use Rattle.pipe_run.specs.Refusals.{limits_fit};
+ghost use Rattle.pipe_columns.specs.DataType.{is_integer, is_string};
+ghost use Rattle.pipe_run.specs.Refusals.{limits_fit, suits_keys};
 
-use pipe_plan::Limits;
+use pipe_columns::DataType;
+use pipe_exprs::is_integer;
+use pipe_plan::{Limits, SinkKind};
 use pipe_spill::SpillStore;
 
 /// The most workers of a run.
@@ -42,8 +45,40 @@ pub(crate) fn limits_fit<S: SpillStore + Drop>(
         && have_numbers(stores)
 }
 
+/// Whether a type is that of texts.
+fn is_string(dtype: DataType) -> bool
+    ensures { result ≡ is_string dtype }
+{
+    dtype == DataType::String
+}
+
+/// Whether types are those of whole numbers of up to 64 bits.
+fn are_integers(types: &[DataType]) -> bool
+    ensures { result ≡ list_all is_integer types.now }
+{
+    types.iter().all(|dtype| is_integer(*dtype))
+}
+
+/// Whether types are those of texts.
+fn are_strings(types: &[DataType]) -> bool
+    ensures { result ≡ list_all is_string types.now }
+{
+    types.iter().all(|dtype| is_string(*dtype))
+}
+
+/// Whether a kind of sink suits keys of these types.
+pub(crate) fn suits_keys(sink: SinkKind, types: &[DataType]) -> bool
+    ensures { result ≡ suits_keys sink types.now }
+{
+    match sink {
+        SinkKind::Generic => true,
+        SinkKind::Primitive => types.len() == 1 && are_integers(types),
+        SinkKind::Text => types.len() == 1 && are_strings(types),
+    }
+}
+
 /// Limits that are as others.
-pub(crate) fn copy_of(limits: &Limits) -> Limits
+pub fn copy_of(limits: &Limits) -> Limits
     ensures { result ≡ limits.now }
 {
     Limits {

@@ -153,7 +153,7 @@ impl<'a, S: SpillStore + Drop + Send> GenericRun<'a, S> {
 }
 
 /// Marks, with room for so many more.
-fn with_room(
+pub fn with_room(
     mut marks: Vec<Snapshot<DataChunk>>,
     more: usize,
 ) -> Result<Vec<Snapshot<DataChunk>>, AllocError>
@@ -165,7 +165,10 @@ fn with_room(
 }
 
 /// Marks of more chunks, for which there is room.
-fn with_marks(mut marks: Vec<Snapshot<DataChunk>>, chunks: &[DataChunk]) -> Vec<Snapshot<DataChunk>>
+pub fn with_marks(
+    mut marks: Vec<Snapshot<DataChunk>>,
+    chunks: &[DataChunk],
+) -> Vec<Snapshot<DataChunk>>
     requires { vec_len marks + length chunks.now ≤ vec_capacity marks }
     ensures { map (λ c. c.value) result.items
         ≡ map (λ c. c.value) marks.items ++ chunks.now }

@@ -10,7 +10,7 @@ use Rattle.pipe_run.specs.declared.error.PipeError.TheVariants as error
 use Rattle.pipe_run.specs.Feeding.{NoneFell}
 use Rattle.pipe_run.specs.Refusals.{AllFit, AreMany, IsBeginCause, IsFirstMisfit}
 use Rattle.pipe_run.specs.Setting.{Setting}
-use Rattle.pipe_run.specs.WholeRun.{CanBegin, CanRun}
+use Rattle.pipe_run.specs.WholeRun.{CanBegin, CanRun, setting_suits}
 use Rattle.pipe_run.proofs.FeedEnds.{can-feed}
 use Rattle.pipe_run.proofs.LimitFacts.{fit-count, fit-few, fit-former, fit-limits, fit-same}
 use Rattle.pipe_run.proofs.RunEnds.{begin-ends, chunks-ends, feed-ends, fell-twice, finish-ends, fits-setting, memory-ends}
@@ -22,7 +22,7 @@ returns-in-Err g c =
     let seen : S → StoreSeen = λ s. record { held = g.S.SpillStore.held s; told = g.S.SpillStore.told s; faults = g.S.SpillStore.faults s; sure = g.S.SpillStore.sure s } in
     let x : Setting = record { query = c.args.query.now; limits = c.args.limits.now; actions = map (λ v. v.items) c.args.actions.items; stores = map seen c.args.stores.items } in
     let fits = fits-setting seen (λ v. v.items) c.args.query.now c.args.limits.now c.args.actions.items c.args.stores.items c.deref.result.now c.len.result (omega (arith, c.len.ensures, c.args.actions.ok.0)) c.deref.ensures.value in
-    begin-ends x c.args.chunks.items (map seen c.args.stores.items) c.in-Err.error (subst (λ b. IsBeginCause b (first_fault c.args.query.now) c.in-Err.error) (sym fits) c.in-Err.ensures.cause) refl
+    begin-ends x c.args.chunks.items (map seen c.args.stores.items) c.in-Err.error (subst (λ b. IsBeginCause b (first_fault c.args.query.now) (setting_suits x) c.in-Err.error) (sym fits) c.in-Err.ensures.cause) refl
 
 pub returns-in-Err-checked_rows : goal.returns-in-Err-checked_rows
 returns-in-Err-checked_rows g c =
@@ -30,7 +30,7 @@ returns-in-Err-checked_rows g c =
     let seen : S → StoreSeen = λ s. record { held = g.S.SpillStore.held s; told = g.S.SpillStore.told s; faults = g.S.SpillStore.faults s; sure = g.S.SpillStore.sure s } in
     let x : Setting = record { query = c.args.query.now; limits = c.args.limits.now; actions = map (λ v. v.items) c.args.actions.items; stores = map seen c.args.stores.items } in
     let fits = fits-setting seen (λ v. v.items) c.args.query.now c.args.limits.now c.args.actions.items c.args.stores.items c.deref.result.now c.len.result (omega (arith, c.len.ensures, c.args.actions.ok.0)) c.deref.ensures.value in
-    let begin : CanBegin x = record { fit = fits ∙ c.in-Ok.ensures.fit; faultless = c.in-Ok.ensures.faultless } in
+    let begin : CanBegin x = record { fit = fits ∙ c.in-Ok.ensures.fit; faultless = c.in-Ok.ensures.faultless; suited = c.in-Ok.ensures.suited } in
     let chunks : List DataChunk = c.args.chunks.items in
     let e = c.in-Err-checked_rows.error in
     let misfit : (i : ℕ) → e ≡ error.Schema i → IsFirstMisfit c.args.query.now.schema chunks i =
@@ -80,7 +80,7 @@ returns-in-Err-feed g c =
     let seen : S → StoreSeen = λ s. record { held = g.S.SpillStore.held s; told = g.S.SpillStore.told s; faults = g.S.SpillStore.faults s; sure = g.S.SpillStore.sure s } in
     let x : Setting = record { query = c.args.query.now; limits = c.args.limits.now; actions = map (λ v. v.items) c.args.actions.items; stores = map seen c.args.stores.items } in
     let fits = fits-setting seen (λ v. v.items) c.args.query.now c.args.limits.now c.args.actions.items c.args.stores.items c.deref.result.now c.len.result (omega (arith, c.len.ensures, c.args.actions.ok.0)) c.deref.ensures.value in
-    let begin : CanBegin x = record { fit = fits ∙ c.in-Ok.ensures.fit; faultless = c.in-Ok.ensures.faultless } in
+    let begin : CanBegin x = record { fit = fits ∙ c.in-Ok.ensures.fit; faultless = c.in-Ok.ensures.faultless; suited = c.in-Ok.ensures.suited } in
     let chunks : List DataChunk = c.args.chunks.items in
     let are : AreChunksOf (query_tree c.args.query.now) chunks = subst (λ (q : Query). AreChunksOf (query_tree q) chunks) c.in-Ok.ensures.query
     (subst (λ (l : List DataChunk). AreChunksOf (query_tree c.in-Ok.checked) l) c.deref-2.ensures.value c.in-Ok-checked_rows.ensures.chunks) in
@@ -97,7 +97,7 @@ returns g c =
     let seen : S → StoreSeen = λ s. record { held = g.S.SpillStore.held s; told = g.S.SpillStore.told s; faults = g.S.SpillStore.faults s; sure = g.S.SpillStore.sure s } in
     let x : Setting = record { query = c.args.query.now; limits = c.args.limits.now; actions = map (λ v. v.items) c.args.actions.items; stores = map seen c.args.stores.items } in
     let fits = fits-setting seen (λ v. v.items) c.args.query.now c.args.limits.now c.args.actions.items c.args.stores.items c.deref.result.now c.len.result (omega (arith, c.len.ensures, c.args.actions.ok.0)) c.deref.ensures.value in
-    let begin : CanBegin x = record { fit = fits ∙ c.in-Ok.ensures.fit; faultless = c.in-Ok.ensures.faultless } in
+    let begin : CanBegin x = record { fit = fits ∙ c.in-Ok.ensures.fit; faultless = c.in-Ok.ensures.faultless; suited = c.in-Ok.ensures.suited } in
     let chunks : List DataChunk = c.args.chunks.items in
     let are : AreChunksOf (query_tree c.args.query.now) chunks = subst (λ (q : Query). AreChunksOf (query_tree q) chunks) c.in-Ok.ensures.query
     (subst (λ (l : List DataChunk). AreChunksOf (query_tree c.in-Ok.checked) l) c.deref-2.ensures.value c.in-Ok-checked_rows.ensures.chunks) in

@@ -1,7 +1,9 @@
 use Rattle.std.proofs.Common.{◌∙◌, ◌<◌, List, ℕ, arith, length, map, subst, sym, vec_len}
 use Rattle.std.proofs.lemmas.List.{get_or-map, length-map}
 use Rattle.pipe_aggs.specs.Faults.{first_fault}
-use Rattle.pipe_run.specs.Refusals.{IsBeginCause}
+use Rattle.pipe_aggs.specs.QueryTrees.{query_tree}
+use Rattle.pipe_model.specs.Output.{key_types}
+use Rattle.pipe_run.specs.Refusals.{IsBeginCause, suits_keys}
 use Rattle.pipe_run.proofs.LimitFacts.{fit-count, fit-few, fit-former, fit-limits, fit-same}
 use Rattle.pipe_run.proofs.run.GenericRun.begin.Goals as goal
 
@@ -31,7 +33,7 @@ before_chunks-requires-clause-former g c κs lives k d lt =
 
 pub returns-in-Err-clause-cause : goal.returns-in-Err-clause-cause
 returns-in-Err-clause-cause g c =
-    subst (λ b. IsBeginCause b (first_fault c.args.query.now) c.in-Err.error)
+    subst (λ b. IsBeginCause b (first_fault c.args.query.now) (suits_keys c.args.limits.now.sink (key_types (query_tree c.args.query.now))) c.in-Err.error)
     (sym (fit-same (λ s. g.S.SpillStore.held s) c.args.limits.now c.len.result (vec_len c.args.actions) c.deref.result.now c.args.stores.items c.len.ensures c.deref.ensures.value)) c.in-Err.ensures.cause
 
 pub returns-in-Ok-before_chunks-clause-fit : goal.returns-in-Ok-before_chunks-clause-fit
