@@ -2,12 +2,15 @@
 //! written.
 #![tactic(auto)]
 
-pub use pipe_csv::{ChunkSink, CsvError, frame_text, read_chunks, read_into};
+pub use pipe_csv::{CsvError, frame_text};
+pub use pipe_files_sink::{
+    CsvSink, CsvWriterOptions, FilesSender, FilesSink, JsonSink, JsonWriterOptions, WriterCore,
+};
 pub use pipe_io::{
     FileEnd, InputError, InputFiles, MOST_FILE_BYTES, MemoryFiles, MemoryOutput, Output,
     OutputError, RealFiles, RealOutput, read_file, write_all,
 };
 pub use pipe_writers::{
     CsvBatchedWriter, JsonBatchedWriter, OrderedSink, SinkWriter, SliceSink, StreamingVstacker,
-    WriteError,
+    WriteError, write_csv, write_json,
 };

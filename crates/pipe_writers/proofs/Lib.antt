@@ -5,3 +5,4 @@ pub mod WriterFacts
 pub mod CsvFacts
 pub mod JsonFacts
 pub mod RowFacts
+pub mod TextFacts

@@ -8,7 +8,7 @@ use pipe_columns::DataChunk;
 use std::alloc::AllocError;
 
 /// Sorts chunks by their numbers; those of one number stay in the order that they have.
-pub(crate) fn sort_by_number(chunks: &mut Vec<DataChunk>) -> Result<(), AllocError>
+pub fn sort_by_number(chunks: &mut Vec<DataChunk>) -> Result<(), AllocError>
     ensures ok { OnOk result (chunks.new.items ≡ by_number chunks.old.items) }
     ensures moved { IsPermutation chunks.old.items chunks.new.items }
     ensures err { OnErr result (chunks.new.items ≡ chunks.old.items) }

@@ -18,7 +18,7 @@ use pipe_io::Output;
 use std::alloc::{AllocError, Global};
 
 /// How many bytes are sent together: a text is sent once it is so long.
-const MOST_HELD: usize = 1 << 20;
+pub(crate) const MOST_HELD: usize = 1 << 20;
 
 /// Writes rows as lines to an output. It holds no text between two calls.
 #[derive(Drop)]
@@ -26,12 +26,12 @@ pub struct LineWriter<O, L> {
     alloc: Global,
     output: O,
     lines: L,
-    most: usize,
+    pub(crate) most: usize,
     calls: WriterCalls,
 }
 
 /// Sends a text and then the lines of a frame, or where something refuses a front of them.
-fn put_out<O: Output, L: Lines>(
+pub(crate) fn put_out<O: Output, L: Lines>(
     output: &mut O,
     lines: &L,
     text: Vec<u8>,
@@ -58,7 +58,11 @@ fn put_out<O: Output, L: Lines>(
 }
 
 /// A text with the lines' head, where it is due.
-fn head_text<L: Lines>(alloc: Global, lines: &L, begun: bool) -> Result<Vec<u8>, AllocError>
+pub(crate) fn head_text<L: Lines>(
+    alloc: Global,
+    lines: &L,
+    begun: bool,
+) -> Result<Vec<u8>, AllocError>
     ensures { IfOk result (λ v. v.items ≡ head_due begun (L.shape lines.now)) }
 {
     let text = Vec::new(alloc);

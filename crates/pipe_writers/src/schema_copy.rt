@@ -6,7 +6,7 @@ use pipe_columns::{Field, Schema};
 use std::alloc::{AllocError, Global};
 
 /// A schema of the same fields.
-pub(crate) fn copy_schema(alloc: Global, schema: &Schema) -> Result<Schema, AllocError>
+pub fn copy_schema(alloc: Global, schema: &Schema) -> Result<Schema, AllocError>
     ensures { IfOk result (λ s. s ≡ schema.now) }
 {
     let mut fields = Vec::new(alloc);

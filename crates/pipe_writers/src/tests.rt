@@ -99,3 +99,23 @@ fn sink_without_chunks_gives_the_empty_frame(rt: HostRuntime) -> Result<(), Fail
     assert!(rt; sink.fmt() == "ordered_sink" && frame.height() == 0);
     Ok(())
 }
+
+/// The number of writes of four rows, where a text is sent once it has so many bytes, and the text
+/// where one more of them fails.
+const PIECES: [(usize, u64); 3] = [(1, 4), (20, 2), (1 << 20, 1)];
+
+#[test]
+fn text_is_sent_in_pieces(rt: HostRuntime) -> Result<(), Fail> {
+    let alloc = rt.alloc();
+    for (most, writes) in PIECES {
+        for failing in 0..=writes {
+            let mut writer = JsonBatchedWriter::new(alloc, output(alloc, failing)?, texts(alloc)?);
+            writer.most = most;
+            let written = write_one(&mut writer, &frame_of(alloc, &ROWS)?);
+            let told = writer.into_output();
+            assert!(rt; (written == Ok(())) == (failing == writes));
+            assert!(rt; told.bytes().is_empty() == (failing == 0));
+        }
+    }
+    Ok(())
+}

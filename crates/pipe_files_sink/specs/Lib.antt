@@ -1,0 +1,4 @@
+pub mod Joined
+pub mod JoinedState
+pub mod Core
+pub mod CoreState
