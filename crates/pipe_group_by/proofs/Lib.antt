@@ -1,0 +1,10 @@
+pub mod Numbering
+pub mod Dealt
+pub mod Turns
+pub mod Rounds
+pub mod Sending
+pub mod Combining
+pub mod Untouched
+pub mod Taking
+pub mod Begun
+pub mod AtOnce

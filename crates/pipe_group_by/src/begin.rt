@@ -1,0 +1,76 @@
+//! A run before its first chunk.
+
+ghost use Rattle.std.specs.Prelude.{◌≡◌, [], IfErr, IfOk, None, OnOk, map, true, vec_len};
+ghost use Rattle.pipe_aggs.specs.Faults.{first_fault};
+ghost use Rattle.pipe_aggs.specs.QueryTrees.{query_tree};
+ghost use Rattle.pipe_model.specs.Output.{key_types};
+ghost use Rattle.pipe_run.specs.Feeding.{NoneFell};
+ghost use Rattle.pipe_run.specs.Refusals.{IsBeginCause, limits_fit, suits_keys};
+
+use crate::group_by_run::{GroupByRun, Kind};
+use crate::kind::is_generic;
+use crate::typed_run::TypedRun;
+use pipe_aggs::Query;
+use pipe_plan::{Limits, SpillAction};
+use pipe_run::{GenericRun, PipeError};
+use pipe_spill::SpillStore;
+use std::alloc::Global;
+use std::sync::Wait;
+
+impl<'a, S: SpillStore + Drop + Send> GroupByRun<'a, S> {
+    /// A run before its first chunk, one partition for each store. It is refused with `Limits` where the
+    /// limits don't fit, with `Query` where the query has a fault, with `Sink` where the kind of sink
+    /// doesn't suit its keys, or with `Memory`; the stores come back as they were.
+    pub fn begin<H: Wait>(
+        rt: &H,
+        alloc: Global,
+        query: &'a Query,
+        limits: &Limits,
+        actions: Vec<Vec<SpillAction>>,
+        stores: Vec<S>,
+    ) -> Result<GroupByRun<'a, S>, (PipeError, Vec<S>)>
+        ensures fit { OnOk result
+            (limits_fit limits.now (vec_len actions) (map (λ s. S.held s) stores.items) ≡ true) }
+        ensures faultless { OnOk result (first_fault query.now ≡ None) }
+        ensures suited { OnOk result
+            (suits_keys limits.now.sink (key_types (query_tree query.now)) ≡ true) }
+        ensures setting { IfOk result (λ r. r.setting ≡ record {
+          query = query.now;
+          limits = limits.now;
+          actions = map (λ v. v.items) actions.items;
+          stores = map (λ s. record {
+            held = S.held s;
+            told = S.told s;
+            faults = S.faults s;
+            sure = S.sure s;
+          }) stores.items;
+        }) }
+        ensures chunks { IfOk result (λ r. r.chunks ≡ []) }
+        ensures counted { IfOk result (λ r. NoneFell (map (λ s. record {
+          held = S.held s;
+          told = S.told s;
+          faults = S.faults s;
+          sure = S.sure s;
+        }) stores.items) r.stores) }
+        ensures cause { IfErr result (λ e. IsBeginCause
+            (limits_fit limits.now (vec_len actions) (map (λ s. S.held s) stores.items))
+            (first_fault query.now)
+            (suits_keys limits.now.sink (key_types (query_tree query.now))) e.0) }
+        ensures back { IfErr result (λ e. e.1.items ≡ stores.items) }
+    {
+        if !is_generic(limits.sink) {
+            return match TypedRun::begin(alloc, query, limits, actions, stores) {
+                Ok(run) => Ok(GroupByRun {
+                    kind: Kind::Typed(run),
+                }),
+                Err(refusal) => Err(refusal),
+            };
+        }
+        match GenericRun::begin(rt, alloc, query, limits, actions, stores) {
+            Ok(run) => Ok(GroupByRun {
+                kind: Kind::Generic(run),
+            }),
+            Err(refusal) => Err(refusal),
+        }
+    }
+}

@@ -1,0 +1,51 @@
+//! The end of a run.
+
+ghost use Rattle.std.specs.Prelude.{◌≡◌, IfErr, IfOk, false, map};
+ghost use Rattle.pipe_run.specs.Answered.{HaveWholeFrames, IsAnswered};
+ghost use Rattle.pipe_run.specs.Finish.{IsFinishCause};
+ghost use Rattle.pipe_run.specs.Setting.{run_of};
+
+use crate::group_by_run::{GroupByRun, Kind};
+use pipe_global::Gate;
+use pipe_run::{GroupByOutput, PipeError};
+use pipe_spill::SpillStore;
+use std::alloc::Global;
+use std::sync::Wait;
+use std::thread::Threads;
+
+impl<'a, S: SpillStore + Drop + Send> GroupByRun<'a, S> {
+    /// Ends the run: what partitions hold and workers kept gives the groups. The stores come back in
+    /// order.
+    pub fn finish<G: Gate + Sync, H: Threads + Wait + Sync>(
+        self,
+        rt: &H,
+        alloc: Global,
+        gate: &G,
+    ) -> (Result<GroupByOutput, PipeError>, Vec<S>)
+        ensures answered { IfOk result.0 (λ out. IsAnswered
+            (run_of self.entry.setting false self.entry.chunks) out (map (λ s. record {
+              held = S.held s;
+              told = S.told s;
+              faults = S.faults s;
+              sure = S.sure s;
+            }) result.1.items)) }
+        ensures cause { IfErr result.0 (λ e. IsFinishCause self.entry (map (λ s. record {
+          held = S.held s;
+          told = S.told s;
+          faults = S.faults s;
+          sure = S.sure s;
+        }) result.1.items) e) }
+        ensures back { IfErr result.0 (λ _. HaveWholeFrames
+            (run_of self.entry.setting false self.entry.chunks) (map (λ s. record {
+              held = S.held s;
+              told = S.told s;
+              faults = S.faults s;
+              sure = S.sure s;
+            }) result.1.items)) }
+    {
+        match self.kind {
+            Kind::Generic(run) => run.finish(rt, alloc, gate),
+            Kind::Typed(run) => run.finish(alloc),
+        }
+    }
+}

@@ -1,0 +1,34 @@
+//! Group-by runs of every kind of sink: fed in rounds, or over all chunks at once.
+#![tactic(auto)]
+
+mod begin;
+mod combined;
+mod feed;
+mod finish;
+mod group_by_run;
+mod kind;
+mod positions;
+#[cfg(test)]
+mod refusal_tests;
+#[cfg(test)]
+mod row_tests;
+#[cfg(test)]
+mod test_runs;
+#[cfg(test)]
+mod thread_tests;
+mod typed_begin;
+mod typed_feed;
+mod typed_finish;
+mod typed_job;
+mod typed_round;
+mod typed_run;
+#[cfg(test)]
+mod typed_tests;
+mod typed_whole;
+mod whole_run;
+
+pub use group_by_run::GroupByRun;
+pub use pipe_run::{
+    GenericRun, GroupByOutput, GroupBySource, PipeError, run_generic, what_a_group_source_gives,
+};
+pub use whole_run::run_group_by;

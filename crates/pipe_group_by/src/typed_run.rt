@@ -1,0 +1,99 @@
+//! A run of typed sinks that is fed in rounds.
+
+ghost use Rattle.std.specs.Prelude.{◌≡◌, ◌<◌, map, true};
+ghost use Rattle.pipe_plan.specs.Journals.{IsWhole, journal_of};
+ghost use Rattle.pipe_run.specs.Answered.{HaveReplayedFrames, HaveWholeFrames};
+ghost use Rattle.pipe_run.specs.Setting.{run_of};
+
+use pipe_aggs::CheckedQuery;
+use pipe_columns::DataChunk;
+use pipe_global::Journal;
+use pipe_plan::{Limits, SpillAction};
+use pipe_sinks::PausedSink;
+use pipe_spill::SpillStore;
+use std::marker::Model;
+use std::snapshot::Snapshot;
+
+/// A run of typed sinks: each worker's sink keeps all keys, so no row overflows, no event is made and
+/// the stores are untouched. Contracts see it as any other run.
+#[derive(Drop)]
+pub(crate) struct TypedRun<'a, S: SpillStore + Drop> {
+    pub(crate) query: CheckedQuery<'a>,
+    pub(crate) limits: Limits,
+    pub(crate) actions: Vec<Vec<SpillAction>>,
+    pub(crate) stores: Vec<S>,
+    pub(crate) sinks: Vec<PausedSink>,
+    pub(crate) chunks: Vec<Snapshot<DataChunk>>,
+    pub(crate) rows: u64,
+    pub(crate) journal: Journal,
+}
+
+impl<'a, S: SpillStore + Drop> Model for TypedRun<'a, S> {
+    ghost use Rattle.std.specs.Prelude.{◌≡◌, [], map};
+    ghost use Rattle.pipe_run.specs.Fed.{FedSeen};
+    ghost use Rattle.pipe_group_by.specs.Typed.{IsTypedRun, typed_seen};
+
+    ghost Value = { FedSeen };
+
+    ghost view = { λ r. typed_seen (record {
+      query = r.query;
+      limits = r.limits;
+      actions = map (λ v. v.items) r.actions.items;
+      stores = map (λ s. record {
+        held = S.held s;
+        told = S.told s;
+        faults = S.faults s;
+        sure = S.sure s;
+      }) r.stores.items;
+    }) (map (λ c. c.value) r.chunks.items) };
+
+    ghost invariant = { λ r. IsTypedRun (record {
+      query = r.query;
+      limits = r.limits;
+      actions = map (λ v. v.items) r.actions.items;
+      stores = map (λ s. record {
+        held = S.held s;
+        told = S.told s;
+        faults = S.faults s;
+        sure = S.sure s;
+      }) r.stores.items;
+    }) (map (λ c. c.value) r.chunks.items) r.sinks.items r.rows × (r.journal ≡ []) };
+}
+
+impl<'a, S: SpillStore + Drop> TypedRun<'a, S> {
+    /// The journal of any partition: no event is in it. It takes no memory.
+    pub(crate) fn journal(&self, partition: usize) -> &Journal
+        requires { partition < self.now.setting.limits.partitions }
+        ensures is { result.now ≡ journal_of self.now.journals partition }
+        ensures whole { IsWhole (run_of self.now.setting true self.now.chunks) partition result.now }
+    {
+        let _ = partition;
+        &self.journal
+    }
+
+    /// Gives the run up, and hands the stores back, in order. It takes no memory.
+    pub(crate) fn into_stores(self) -> Vec<S>
+        ensures same { map (λ s. record {
+          held = S.held s;
+          told = S.told s;
+          faults = S.faults s;
+          sure = S.sure s;
+        }) result.items ≡ self.entry.setting.stores }
+        ensures frames { HaveReplayedFrames (run_of self.entry.setting true self.entry.chunks)
+            self.entry.journals (map (λ s. record {
+              held = S.held s;
+              told = S.told s;
+              faults = S.faults s;
+              sure = S.sure s;
+            }) result.items) }
+        ensures back { HaveWholeFrames (run_of self.entry.setting true self.entry.chunks) (map (λ s. record {
+          held = S.held s;
+          told = S.told s;
+          faults = S.faults s;
+          sure = S.sure s;
+        }) result.items) }
+    {
+        let TypedRun { stores, .. } = self;
+        stores
+    }
+}

@@ -1,0 +1,53 @@
+//! A run of typed sinks over all its chunks at once.
+
+ghost use Rattle.std.specs.Prelude.{◌≡◌, false, map};
+ghost use Rattle.pipe_plan.specs.Run.{is_generic};
+ghost use Rattle.pipe_run.specs.WholeRun.{EndsRun};
+
+use crate::typed_run::TypedRun;
+use pipe_aggs::Query;
+use pipe_columns::DataChunk;
+use pipe_plan::{Limits, SpillAction};
+use pipe_run::{GroupByOutput, PipeError};
+use pipe_spill::SpillStore;
+use std::alloc::Global;
+use std::thread::Threads;
+
+/// The groups of chunks by a query with one key, of which each worker's sink keeps all.
+pub(crate) fn run_typed<S: SpillStore + Drop, H: Threads + Sync>(
+    rt: &H,
+    alloc: Global,
+    chunks: Vec<DataChunk>,
+    query: &Query,
+    limits: &Limits,
+    actions: Vec<Vec<SpillAction>>,
+    stores: Vec<S>,
+) -> (Result<GroupByOutput, PipeError>, Vec<S>)
+    requires typed { is_generic limits.now.sink ≡ false }
+    ensures { EndsRun (record {
+      query = query.now;
+      limits = limits.now;
+      actions = map (λ v. v.items) actions.items;
+      stores = map (λ s. record {
+        held = S.held s;
+        told = S.told s;
+        faults = S.faults s;
+        sure = S.sure s;
+      }) stores.items;
+    }) chunks.items result.0 (map (λ s. record {
+      held = S.held s;
+      told = S.told s;
+      faults = S.faults s;
+      sure = S.sure s;
+    }) result.1.items) }
+{
+    let run = match TypedRun::begin(alloc, query, limits, actions, stores) {
+        Ok(run) => run,
+        Err((error, stores)) => return (Err(error), stores),
+    };
+    let run = match run.feed(rt, alloc, chunks) {
+        Ok(run) => run,
+        Err((error, stores)) => return (Err(error), stores),
+    };
+    run.finish(alloc)
+}

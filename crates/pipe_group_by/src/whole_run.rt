@@ -1,0 +1,52 @@
+//! A run over all its chunks at once.
+
+ghost use Rattle.std.specs.Prelude.{◌≡◌, map};
+ghost use Rattle.pipe_run.specs.WholeRun.{EndsRun};
+
+use crate::kind::is_generic;
+use crate::typed_whole::run_typed;
+use pipe_aggs::Query;
+use pipe_columns::DataChunk;
+use pipe_global::Gate;
+use pipe_plan::{Limits, SpillAction};
+use pipe_run::{GroupByOutput, PipeError, run_generic};
+use pipe_spill::SpillStore;
+use std::alloc::Global;
+use std::sync::Wait;
+use std::thread::Threads;
+
+/// The groups of chunks by a query: its workers take the chunks in turn, in threads. With the generic
+/// sink they spill to the stores, one for each partition, as their actions say; a typed sink keeps all
+/// keys. The stores come back in order.
+pub fn run_group_by<S: SpillStore + Drop + Send, G: Gate + Sync, H: Threads + Wait + Sync>(
+    rt: &H,
+    alloc: Global,
+    chunks: Vec<DataChunk>,
+    query: &Query,
+    limits: &Limits,
+    actions: Vec<Vec<SpillAction>>,
+    stores: Vec<S>,
+    gate: &G,
+) -> (Result<GroupByOutput, PipeError>, Vec<S>)
+    ensures { EndsRun (record {
+      query = query.now;
+      limits = limits.now;
+      actions = map (λ v. v.items) actions.items;
+      stores = map (λ s. record {
+        held = S.held s;
+        told = S.told s;
+        faults = S.faults s;
+        sure = S.sure s;
+      }) stores.items;
+    }) chunks.items result.0 (map (λ s. record {
+      held = S.held s;
+      told = S.told s;
+      faults = S.faults s;
+      sure = S.sure s;
+    }) result.1.items) }
+{
+    if is_generic(limits.sink) {
+        return run_generic(rt, alloc, chunks, query, limits, actions, stores, gate);
+    }
+    run_typed(rt, alloc, chunks, query, limits, actions, stores)
+}
