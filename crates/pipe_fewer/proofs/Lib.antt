@@ -1,0 +1,3 @@
+pub mod AlikeRuns
+pub mod FewerFacts
+pub mod WidenedFacts

@@ -1,0 +1,2 @@
+pub mod FewerColumns
+pub mod Widened

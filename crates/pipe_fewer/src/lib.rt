@@ -1,0 +1,4 @@
+//! Runs over the columns that a query names alone.
+#![tactic(auto)]
+
+mod laws;

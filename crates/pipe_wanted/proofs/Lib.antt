@@ -1,0 +1,2 @@
+pub mod WantedFacts
+pub mod ChosenFacts
