@@ -1,6 +1,5 @@
 -- The actions of lists of letters that are lent.
-use Rattle.std.proofs.Common.{◌≡◌, ◌∙◌, ◌≤◌, ◌-◌, ◌++◌, ◌∷◌, [], List, ℕ, zero, suc, Bor, Option, true, length, map, take, replicate, nat_le, if◌then◌else◌, refl, ap, ap₂, sym, arith}
-use Rattle.std.proofs.Math.Seq.{take-length}
+use Rattle.std.proofs.Common.{◌≡◌, ◌∙◌, ◌≤◌, ◌-◌, ◌++◌, ◌∷◌, [], List, ℕ, zero, suc, Bor, Option, true, length, map, take, replicate, nat_le, refl, ap, ap₂, sym, arith}
 use Rattle.std.proofs.lemmas.List.{length-map, map-append}
 use Rattle.std.proofs.lemmas.Grind.{common_steps}
 use Rattle.std.proofs.lemmas.Bool.Decides.{nat_tests}

@@ -1,5 +1,5 @@
 -- When words are taken.
-use Rattle.std.proofs.Common.{◌≡◌, ◌∙◌, ℕ, List, [], ◌∷◌, Option, Some, None, Bor, map, option_map, unwrap_or, codes, refl, sym, ap, inl, inr, subst}
+use Rattle.std.proofs.Common.{◌≡◌, ◌∙◌, ℕ, List, [], ◌∷◌, Option, Some, None, Bor, map, option_map, unwrap_or, codes, refl, ap, inl, inr, subst}
 use Rattle.std.specs.Prelude.{true, false}
 use Rattle.clap.specs.Kinds.{HasKind, Kinds}
 use Rattle.clap.specs.Values.{kind_of}

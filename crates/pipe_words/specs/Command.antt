@@ -27,11 +27,15 @@ worker_app =
     (with_option bare_app (codes "workers")) (codes "partitions")) (codes "spill-size"))
     (codes "buffer")) (codes "payloads")) (codes "actions")) (codes "spill-dir")
 
+-- the same with the options of rows
+abbrev pub row_app : App
+row_app =
+    with_option (with_option (with_option worker_app (codes "chunk")) (codes "rows"))
+    (codes "generate")
+
 -- the command: its options, and then its words
 abbrev pub tool_app : App
-tool_app =
-    with_rule (with_option (with_option (with_option (with_option worker_app
-    (codes "sink")) (codes "chunk")) (codes "rows")) (codes "format")) words_rule
+tool_app = with_rule (with_option (with_option row_app (codes "sink")) (codes "format")) words_rule
 
 -- whether no kind of fault is listed
 abbrev pub is_faultless : Kinds → Bool

@@ -2,7 +2,6 @@
 use Rattle.std.specs.Prelude.{ℕ, ◌+◌, ◌*◌, ◌-◌, ◌&&◌, nat_le, Bool, List, length, fold, Option, Some, None, option_and_then, if◌then◌else◌}
 use Rattle.std.specs.List.{list_all}
 use Rattle.std.specs.Char.{is_ascii_digit}
-use Rattle.clap.specs.Words.{Row, first_of}
 
 -- the number that digits write
 abbrev pub number_of : List ℕ → ℕ
@@ -29,7 +28,8 @@ number_or absent low high (Some text) = option_and_then (within low high) (read_
 abbrev pub most : ℕ
 most = 18446744073709551615
 
--- a number that may be left away
-abbrev pub limit_of : Option (List ℕ) → Option (Option ℕ)
-limit_of None = Some None
-limit_of (Some text) = option_and_then (λ n. Some (Some n)) (option_and_then (within 0 most) (read_number text))
+-- a number up to another, which may be left away
+abbrev pub up_to : ℕ → Option (List ℕ) → Option (Option ℕ)
+up_to high None = Some None
+up_to high (Some text) =
+    option_and_then (λ n. Some (Some n)) (option_and_then (within 0 high) (read_number text))

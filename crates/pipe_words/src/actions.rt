@@ -1,6 +1,6 @@
 //! The actions of workers.
 
-ghost use Rattle.std.specs.Prelude.{◌≡◌, ◌==◌, IfOk, map, option_map};
+ghost use Rattle.std.specs.Prelude.{◌≡◌, ◌==◌, IfOk, IfSome, length, map, option_map, vec_len};
 ghost use Rattle.std.specs.List.{slice_split};
 ghost use Rattle.pipe_words.specs.Actions.{action_of, actions_of, each_of, list_of, parts_of};
 
@@ -54,8 +54,9 @@ fn parts_of<'a>(alloc: Global, value: Option<&'a str>) -> Result<Vec<&'a str>, A
 
 /// The actions of lists of letters, where each letter stands for one.
 fn read_lists(alloc: Global, parts: &[&str]) -> Result<Option<Vec<Vec<SpillAction>>>, AllocError>
-    ensures { IfOk result (λ o. option_map (λ v. map (λ l. l.items) v.items) o
+    ensures lists { IfOk result (λ o. option_map (λ v. map (λ l. l.items) v.items) o
         ≡ each_of (λ x. list_of x.now) parts.now) }
+    ensures count { IfOk result (λ o. IfSome o (λ v. vec_len v ≡ length parts.now)) }
 {
     let mut lists = Vec::new(alloc);
     for i in 0..parts.len() {
@@ -73,8 +74,9 @@ pub(crate) fn actions_of(
     workers: usize,
     value: Option<&str>,
 ) -> Result<Option<Vec<Vec<SpillAction>>>, AllocError>
-    ensures { IfOk result (λ o. option_map (λ v. map (λ l. l.items) v.items) o
+    ensures actions { IfOk result (λ o. option_map (λ v. map (λ l. l.items) v.items) o
         ≡ actions_of workers (option_map (λ s. s.now) value.entry)) }
+    ensures count { IfOk result (λ o. IfSome o (λ v. vec_len v ≡ workers)) }
 {
     let mut parts = parts_of(alloc, value)?;
     if parts.len() > workers {

@@ -2,7 +2,7 @@
 
 ghost use Rattle.std.specs.Prelude.{◌≡◌, IfOk, map, option_map};
 ghost use Rattle.clap.specs.Words.{app_of, first_of, found_of, rows_of};
-ghost use Rattle.pipe_words.specs.Command.{bare_app, found_in, tool_app, with_option, worker_app, words_in};
+ghost use Rattle.pipe_words.specs.Command.{bare_app, found_in, row_app, tool_app, with_option, worker_app, words_in};
 
 use clap::error::ErrorKind;
 use clap::{Arg, ArgAction, ArgMatches, Command};
@@ -42,14 +42,22 @@ fn worker_command<'a>(alloc: Global) -> Result<Command<'a>, AllocError>
     with_option(alloc, command, "spill-dir")
 }
 
+/// The same with the options of rows.
+fn row_command<'a>(alloc: Global) -> Result<Command<'a>, AllocError>
+    ensures { IfOk result (λ c. app_of c ≡ row_app) }
+{
+    let command = worker_command(alloc)?;
+    let command = with_option(alloc, command, "chunk")?;
+    let command = with_option(alloc, command, "rows")?;
+    with_option(alloc, command, "generate")
+}
+
 /// The command.
 fn tool_command<'a>(alloc: Global) -> Result<Command<'a>, AllocError>
     ensures { IfOk result (λ c. app_of c ≡ tool_app) }
 {
-    let command = worker_command(alloc)?;
+    let command = row_command(alloc)?;
     let command = with_option(alloc, command, "sink")?;
-    let command = with_option(alloc, command, "chunk")?;
-    let command = with_option(alloc, command, "rows")?;
     let command = with_option(alloc, command, "format")?;
     let words = Arg::new(alloc, "words").action(ArgAction::Append);
     command.arg(words)

@@ -6,9 +6,10 @@ mod command;
 mod numbers;
 mod options;
 mod plan;
+mod rows;
 mod words;
 
-pub use plan::Plan;
+pub use plan::{Format, Plan};
 pub use words::read_words;
 
 #[cfg(test)]

@@ -1,7 +1,7 @@
 //! The numbers of options.
 
 ghost use Rattle.std.specs.Prelude.{◌≡◌, ◌≤◌, IfSome, option_map};
-ghost use Rattle.pipe_words.specs.Numbers.{limit_of, number_or, read_number, within};
+ghost use Rattle.pipe_words.specs.Numbers.{number_or, read_number, up_to, within};
 
 /// The most digits of a number.
 const DIGITS: usize = 20;
@@ -27,6 +27,7 @@ fn read_number(text: &[u8]) -> Option<u128>
 fn within(low: usize, high: usize, number: u128) -> Option<usize>
     ensures number { result ≡ within low high number }
     ensures low { IfSome result (λ n. low ≤ n) }
+    ensures high { IfSome result (λ n. n ≤ high) }
 {
     if number < low as u128 || number > high as u128 {
         return None;
@@ -41,9 +42,11 @@ pub(crate) fn number_or(
     high: usize,
     value: Option<&str>,
 ) -> Option<usize>
-    requires { low ≤ absent }
+    requires low { low ≤ absent }
+    requires high { absent ≤ high }
     ensures number { result ≡ number_or absent low high (option_map (λ s. s.now) value.entry) }
     ensures low { IfSome result (λ n. low ≤ n) }
+    ensures high { IfSome result (λ n. n ≤ high) }
 {
     match value {
         Some(text) => within(low, high, read_number(text.as_bytes())?),
@@ -51,12 +54,13 @@ pub(crate) fn number_or(
     }
 }
 
-/// A number that may be left away.
-pub(crate) fn limit_of(value: Option<&str>) -> Option<Option<usize>>
-    ensures { result ≡ limit_of (option_map (λ s. s.now) value.entry) }
+/// A number up to another, which may be left away.
+pub(crate) fn up_to(high: usize, value: Option<&str>) -> Option<Option<usize>>
+    ensures number { result ≡ up_to high (option_map (λ s. s.now) value.entry) }
+    ensures high { IfSome result (λ o. IfSome o (λ n. n ≤ high)) }
 {
     match value {
-        Some(text) => Some(Some(within(0, usize::MAX, read_number(text.as_bytes())?)?)),
+        Some(text) => Some(Some(within(0, high, read_number(text.as_bytes())?)?)),
         None => Some(None),
     }
 }

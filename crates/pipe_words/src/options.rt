@@ -1,11 +1,12 @@
 //! The values of options.
 
-ghost use Rattle.std.specs.Prelude.{◌≡◌, option_map};
+ghost use Rattle.std.specs.Prelude.{◌≡◌, IfSome, option_map};
 ghost use Rattle.clap.specs.Words.{found_of, rows_of};
-ghost use Rattle.pipe_words.specs.Plans.{is_format, limits_of, sink_named};
+ghost use Rattle.pipe_words.specs.Plans.{AreWithin, format_named, limits_of, sink_named};
 
 use crate::command::value_of;
 use crate::numbers::number_or;
+use crate::plan::Format;
 use clap::ArgMatches;
 use pipe_plan::{Limits, SinkKind};
 
@@ -21,19 +22,21 @@ fn sink_named(name: Option<&str>) -> Option<SinkKind>
     }
 }
 
-/// Whether an option names the format that is written.
-pub(crate) fn is_format(name: Option<&str>) -> bool
-    ensures { result ≡ is_format (option_map (λ s. s.now) name.entry) }
+/// The format of a name.
+pub(crate) fn format_named(name: Option<&str>) -> Option<Format>
+    ensures { result ≡ format_named (option_map (λ s. s.now) name.entry) }
 {
     match name {
-        None => true,
-        Some(name) => name == "csv",
+        None | Some("csv") => Some(Format::Csv),
+        Some("json") => Some(Format::Json),
+        Some(_) => None,
     }
 }
 
 /// The sink and the numbers of a run, as options say them.
 pub(crate) fn limits_of(matches: &ArgMatches<'_>) -> Option<Limits>
-    ensures { result ≡ limits_of (rows_of (found_of matches.now)) }
+    ensures limits { result ≡ limits_of (rows_of (found_of matches.now)) }
+    ensures within { IfSome result (λ l. AreWithin l) }
 {
     let sink = sink_named(value_of(matches, "sink"))?;
     let workers = number_or(1, 1, 256, value_of(matches, "workers"))?;

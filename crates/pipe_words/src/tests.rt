@@ -1,6 +1,6 @@
 //! What words say, word by word.
 
-use crate::plan::Plan;
+use crate::plan::{Format, Plan};
 use crate::words::read_words;
 use pipe_columns::Text;
 use pipe_plan::SpillAction;
@@ -47,6 +47,12 @@ fn show_plan(alloc: Global, plan: &Plan) -> Result<String, AllocError> {
     if let Some(rows) = plan.rows {
         write!(shown, " rows={rows}")?;
     }
+    if plan.format == Format::Json {
+        write!(shown, " json")?;
+    }
+    if let Some(seed) = plan.generate {
+        write!(shown, " seed={seed}")?;
+    }
     for word in &plan.words {
         write!(shown, " {}", word.as_str())?;
     }
@@ -65,7 +71,7 @@ fn show_words(alloc: Global, words: &[&str]) -> Result<String, AllocError> {
     }
 }
 
-const TAKEN: [(&[&str], &str); 9] = [
+const TAKEN: [(&[&str], &str); 12] = [
     (&["Q"], "Generic 1 1 10000 2048 64 50000 [,] Q"),
     (
         &["Q", "a", "b", "a"],
@@ -125,8 +131,20 @@ const TAKEN: [(&[&str], &str); 9] = [
         "Generic 1 4096 10000 2048 64 50000 [,] rows=18446744073709551615 Q",
     ),
     (
+        &["Q", "--format=json", "--rows", "2"],
+        "Generic 1 1 10000 2048 64 50000 [,] rows=2 json Q",
+    ),
+    (
         &["--chunk", "1", "--", "--rows", "-"],
         "Generic 1 1 10000 2048 64 1 [,] --rows -",
+    ),
+    (
+        &["--generate", "4294967295"],
+        "Generic 1 1 10000 2048 64 50000 [,] rows=1000 seed=4294967295",
+    ),
+    (
+        &["--rows", "10000000", "--generate=0"],
+        "Generic 1 1 10000 2048 64 50000 [,] rows=10000000 seed=0",
     ),
 ];
 
@@ -139,7 +157,7 @@ fn words_that_are_taken(rt: HostRuntime) -> Result<(), Fail> {
     Ok(())
 }
 
-const REFUSED: [&[&str]; 30] = [
+const REFUSED: [&[&str]; 34] = [
     &[],
     &["--help"],
     &["-h", "Q"],
@@ -164,11 +182,15 @@ const REFUSED: [&[&str]; 30] = [
     &["--spill-size", "99999999999999999999", "Q"],
     &["--payloads", "\u{0661}", "Q"],
     &["--sink", "Generic", "Q"],
-    &["--format", "json", "Q"],
+    &["--format", "JSON", "Q"],
     &["--actions", "n,", "Q"],
     &["--actions", "x", "Q"],
     &["--actions", "n, m", "--workers", "2", "Q"],
-    &["--generate", "7"],
+    &["--generate"],
+    &["--generate", "4294967296"],
+    &["--generate", "7", "Q"],
+    &["--generate", "7", "--", "Q"],
+    &["--generate", "7", "--rows", "10000001"],
     &["--rows", "1"],
 ];
 

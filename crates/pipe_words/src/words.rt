@@ -1,14 +1,15 @@
 //! What the words of a command say.
 
-ghost use Rattle.std.specs.Prelude.{◌≡◌, ◌<◌, IfOk, IfSome, map, option_map};
+ghost use Rattle.std.specs.Prelude.{◌≡◌, IfOk, IfSome, map, option_map};
 ghost use Rattle.clap.specs.Words.{found_of, rows_of};
-ghost use Rattle.pipe_words.specs.Plans.{plan_of, plan_seen, rows_plan};
+ghost use Rattle.pipe_words.specs.Plans.{CanRun, plan_of, plan_seen, rows_plan};
 
 use crate::actions::actions_of;
 use crate::command::{find_in, value_of, words_of};
-use crate::numbers::{limit_of, number_or};
-use crate::options::{is_format, limits_of};
+use crate::numbers::number_or;
+use crate::options::{format_named, limits_of};
 use crate::plan::Plan;
+use crate::rows::{are_fit, limit_of, seed_of};
 use clap::ArgMatches;
 use pipe_columns::Text;
 use std::alloc::{AllocError, Global};
@@ -23,11 +24,11 @@ fn copy_of(alloc: Global, value: Option<&str>) -> Result<Option<Text>, AllocErro
     }
 }
 
-/// What matches say, where each value is one of its option and there is a word.
+/// What matches say, where each value is one of its option and the words are as they should be.
 fn read_matches(alloc: Global, matches: &ArgMatches<'_>) -> Result<Option<Plan>, AllocError>
     ensures plan { IfOk result (λ o. option_map plan_seen o
         ≡ rows_plan (rows_of (found_of matches.now))) }
-    ensures chunk { IfOk result (λ o. IfSome o (λ p. 0 < p.chunk)) }
+    ensures run { IfOk result (λ o. IfSome o (λ p. CanRun (plan_seen p))) }
 {
     let Some(limits) = limits_of(matches) else {
         return Ok(None);
@@ -35,18 +36,21 @@ fn read_matches(alloc: Global, matches: &ArgMatches<'_>) -> Result<Option<Plan>,
     let Some(chunk) = number_or(50000, 1, usize::MAX, value_of(matches, "chunk")) else {
         return Ok(None);
     };
-    let Some(rows) = limit_of(value_of(matches, "rows")) else {
+    let Some(generate) = seed_of(value_of(matches, "generate")) else {
+        return Ok(None);
+    };
+    let Some(rows) = limit_of(generate, value_of(matches, "rows")) else {
         return Ok(None);
     };
     let Some(actions) = actions_of(alloc, limits.workers, value_of(matches, "actions"))? else {
         return Ok(None);
     };
-    if !is_format(value_of(matches, "format")) {
+    let Some(format) = format_named(value_of(matches, "format")) else {
         return Ok(None);
-    }
+    };
     let spill_dir = copy_of(alloc, value_of(matches, "spill-dir"))?;
     let words = words_of(alloc, matches)?;
-    if words.is_empty() {
+    if !are_fit(generate, &words) {
         return Ok(None);
     }
     Ok(Some(Plan {
@@ -55,6 +59,8 @@ fn read_matches(alloc: Global, matches: &ArgMatches<'_>) -> Result<Option<Plan>,
         actions,
         spill_dir,
         rows,
+        format,
+        generate,
         words,
     }))
 }
@@ -71,10 +77,11 @@ fn lend<'a>(alloc: Global, words: &'a [Text]) -> Result<Vec<&'a str>, AllocError
 }
 
 /// What the words of a command say; `None` where they are refused: where the command doesn't take
-/// them, a value isn't one of its option, or no word belongs to none.
+/// them, a value isn't one of its option, no word belongs to none and no rows are generated, or a word
+/// stands beside generated rows.
 pub fn read_words(alloc: Global, words: &[Text]) -> Result<Option<Plan>, AllocError>
     ensures plan { IfOk result (λ o. option_map plan_seen o ≡ plan_of words.now) }
-    ensures chunk { IfOk result (λ o. IfSome o (λ p. 0 < p.chunk)) }
+    ensures run { IfOk result (λ o. IfSome o (λ p. CanRun (plan_seen p))) }
 {
     let lent = lend(alloc, words)?;
     match find_in(alloc, &lent)? {

@@ -8,7 +8,7 @@ use std::alloc::AllocError;
 
 /// Makes the store of each partition of a run.
 pub trait StoreMaker {
-    type Store: SpillStore + Drop;
+    type Store: SpillStore + Drop + Send;
 
     /// The store of a partition, in a folder or, where none is named, in memory. It touches no disk.
     fn make(&mut self, dir: Option<&Text>, partition: usize) -> Result<Self::Store, AllocError>

@@ -24,7 +24,7 @@ impl<'a, R: Files> ProgramStores<'a, R> {
     }
 }
 
-impl<'a, R: Files> StoreMaker for ProgramStores<'a, R> {
+impl<'a, R: Files + Sync> StoreMaker for ProgramStores<'a, R> {
     type Store = ProgramStore<&'a R>;
 
     fn make(

@@ -1,0 +1,2 @@
+pub mod MadeFacts
+pub mod Heights

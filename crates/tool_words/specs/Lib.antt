@@ -1,0 +1,4 @@
+pub mod Asked
+pub mod Reading
+pub mod Requests
+pub mod WorkedQuery
