@@ -20,13 +20,16 @@ use Rattle.pipe_global.specs.Partition.{no_store}
 use Rattle.pipe_run.specs.declared.error.PipeError.{PipeError}
 use Rattle.pipe_run.specs.declared.error.PipeError.TheVariants as pipe_error
 use Rattle.pipe_run.specs.Fed.{FedSeen}
-use Rattle.pipe_run.specs.Feeding.{IsFeedCause, NoneFell}
+use Rattle.pipe_run.specs.Answered.{HaveWholeFrames}
+use Rattle.pipe_run.specs.Feeding.{chunks_reached, IsFeedCause, NoneFell}
 use Rattle.pipe_run.specs.Finish.{IsFinishCause}
-use Rattle.pipe_run.specs.Refusals.{AreMany, IsFirstMisfit}
+use Rattle.pipe_run.specs.Refusals.{AllFit, AreMany, IsFirstMisfit}
+use Rattle.pipe_run.specs.Setting.{run_of, Setting}
 use Rattle.pipe_run.proofs.Feeding.{height-append}
 use Rattle.pipe_source.specs.CsvChunks.{chunks_then, CsvChunks, Stop, too_large}
 use Rattle.pipe_source.specs.Reader.{left_of, ReaderState}
 use Rattle.tool_run.specs.declared.counted.Counted.{Counted}
+use Rattle.tool_run.specs.Answering.{HaveFront}
 use Rattle.tool_run.specs.Reading.{AreAll, are_few, EndsBy, end_of, stop_of}
 use Rattle.tool_run.specs.Rounds.{AreTaken, are_few_behind, EndsBehind, end_behind, HasNone}
 
@@ -126,6 +129,29 @@ fell-then before now after one two = record {
 -- nor over none
 pub fell-none : (stores : List StoreSeen) → NoneFell stores stores
 fell-none stores = record { count = refl; each = λ p within. omega arith }
+
+-- ---- what is left of the stores
+
+-- whole frames of a run over chunks that fit
+pub front-of : (x now : Setting) (is_open : Bool) (chunks : List DataChunk) (stores : List StoreSeen) → now ≡ x → AllFit x.query.schema chunks
+    → HaveWholeFrames (run_of now is_open chunks) stores → HaveFront x stores
+front-of x now is_open chunks stores same fit whole = record {
+  chunks = chunks;
+  is_open = is_open;
+  fit = fit;
+  frames = subst (λ (s : Setting). HaveWholeFrames (run_of s is_open chunks) stores) same whole;
+}
+
+-- the chunks that a refused feed reached fit where all do
+pub reached-fit : (fields : List Field) (s : FedSeen) (chunks : List DataChunk) (err : PipeError) → AllFit fields s.chunks → AllFit fields (s.chunks ++ chunks) → AllFit fields (chunks_reached s chunks err)
+reached-fit fields s chunks (pipe_error.Schema i) few all = few
+reached-fit fields s chunks pipe_error.TooLarge few all = few
+reached-fit fields s chunks (pipe_error.Store p) few all = all
+reached-fit fields s chunks pipe_error.Memory few all = all
+reached-fit fields s chunks pipe_error.Limits few all = few
+reached-fit fields s chunks (pipe_error.Query f) few all = few
+reached-fit fields s chunks pipe_error.Sink few all = few
+reached-fit fields s chunks (pipe_error.Damaged p n) few all = few
 
 -- ---- before the first round
 

@@ -7,19 +7,21 @@ use Rattle.pipe_run.specs.declared.output.GroupByOutput.{GroupByOutput}
 use Rattle.pipe_run.specs.Answered.{HaveWholeFrames, IsAnswered}
 use Rattle.pipe_run.specs.Fed.{FedSeen}
 use Rattle.pipe_run.specs.Finish.{IsFinishCause}
+use Rattle.pipe_run.specs.Refusals.{AllFit}
 use Rattle.pipe_run.specs.Setting.{run_of, Setting}
 use Rattle.pipe_source.specs.Reader.{ReaderState}
 use Rattle.tool_run.specs.declared.error.FileRunError.{FileRunError}
 use Rattle.tool_run.specs.declared.error.FileRunError.TheVariants as error
 use Rattle.tool_run.specs.Reading.{AreAll, are_few, EndsBy}
 
--- the run over all chunks that a reader had left was answered
+-- the run over all chunks that a reader had left, which fit its query, was answered
 pub record IsAnsweredFrom
     (x : Setting) (told : Option Files) (first : ReaderState) (out : GroupByOutput)
     (stores : List StoreSeen) : Type 0 where
   pub chunks : List DataChunk
   pub all : AreAll told first chunks
   pub few : are_few chunks ≡ true
+  pub fit : AllFit x.query.schema chunks
   pub answered : IsAnswered (run_of x false chunks) out stores
 
 -- why a run over files ends early: their reading does; or a store's faults rose; or a store doesn't
@@ -29,8 +31,9 @@ abbrev pub IsRunEnd :
 IsRunEnd s told first stores (error.Read e) = EndsBy told first e
 IsRunEnd s told first stores (error.Run e) = IsFinishCause s stores e
 
--- stores have their former frames, and then whole frames of a run over chunks
+-- stores have their former frames, and then whole frames of a run over chunks that fit its query
 pub record HaveFront (x : Setting) (stores : List StoreSeen) : Type 0 where
   pub chunks : List DataChunk
   pub is_open : Bool
+  pub fit : AllFit x.query.schema chunks
   pub frames : HaveWholeFrames (run_of x is_open chunks) stores

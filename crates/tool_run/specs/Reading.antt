@@ -1,7 +1,7 @@
 -- Chunks that are read of all that a reader has left, and why their reading ends early.
 use Rattle.std.specs.Prelude.{◌≡◌, ◌&&◌, ◌^◌, nat_lt, Bool, List, length, Option, Some, None, IfSome, if◌then◌else◌}
 use Rattle.pipe_columns.specs.declared.data_chunk.DataChunk.{DataChunk}
-use Rattle.pipe_csv.specs.CsvChunks.{field, header, missing, width}
+use Rattle.pipe_csv.specs.CsvRows.{field, header, missing, width}
 use Rattle.pipe_csv.specs.declared.csv_error.CsvError.{CsvError}
 use Rattle.pipe_csv.specs.declared.csv_error.CsvError.TheVariants as csv_error
 use Rattle.pipe_io.specs.Files.{Files}

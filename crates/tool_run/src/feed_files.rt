@@ -4,7 +4,8 @@ ghost use Rattle.std.specs.Prelude.{◌≡◌, ◌<◌, [], IfErr, IfOk, map, tr
 ghost use Rattle.pipe_columns.specs.Causes.{Rose};
 ghost use Rattle.pipe_csv.specs.declared.csv_error.CsvError.TheVariants as csv_error;
 ghost use Rattle.pipe_run.specs.Feeding.{NoneFell};
-ghost use Rattle.pipe_source.specs.CsvChunks.{source_fields};
+ghost use Rattle.pipe_run.specs.Refusals.{AllFit};
+ghost use Rattle.pipe_source.specs.Reader.{given_fields};
 ghost use Rattle.tool_run.specs.Reading.{AreAll, are_few};
 ghost use Rattle.tool_run.specs.Answering.{HaveFront, IsRunEnd};
 ghost use Rattle.tool_run.specs.declared.error.FileRunError.TheVariants as error;
@@ -13,16 +14,16 @@ use crate::counted::Counted;
 use crate::error::FileRunError;
 use crate::read_round::{MOST, read_round};
 use pipe_global::Gate;
+use pipe_group_by::GroupByRun;
 use pipe_io::InputFiles;
-use pipe_run::GenericRun;
 use pipe_source::ChunkReader;
 use pipe_spill::SpillStore;
 use std::alloc::Global;
 use std::sync::Wait;
 use std::thread::Threads;
 
-/// Feeds all chunks that a reader has left into a run that was fed none, so many at a time. The chunks
-/// of a round are dropped before the next is read.
+/// Feeds all chunks that a reader has left into a run that was fed none, so many at a time, which are
+/// read in so many threads. The chunks of a round are dropped before the next is read.
 pub(crate) fn feed_files<
     'a,
     S: SpillStore + Drop + Send,
@@ -33,18 +34,20 @@ pub(crate) fn feed_files<
     rt: &H,
     alloc: Global,
     gate: &G,
-    run: GenericRun<'a, S>,
+    run: GroupByRun<'a, S>,
     input: &mut I,
     reader: &mut ChunkReader,
     most: usize,
-) -> Result<GenericRun<'a, S>, (FileRunError, Vec<S>)>
+    threads: usize,
+) -> Result<GroupByRun<'a, S>, (FileRunError, Vec<S>)>
     requires most { 0 < most }
+    requires threads { 0 < threads }
     requires none { run.chunks ≡ [] }
-    requires fits { source_fields reader.old.options reader.old.schema
-        ≡ run.setting.query.schema }
+    requires fits { given_fields reader.old ≡ run.setting.query.schema }
     ensures setting { IfOk result (λ r. r.setting ≡ run.entry.setting) }
     ensures all { IfOk result (λ r. AreAll (I.told input.old) reader.old r.chunks) }
     ensures few { IfOk result (λ r. are_few r.chunks ≡ true) }
+    ensures fit { IfOk result (λ r. AllFit run.entry.setting.query.schema r.chunks) }
     ensures counted { IfOk result (λ r. NoneFell run.entry.stores r.stores) }
     ensures cause { IfErr result (λ e. IsRunEnd run.entry (I.told input.old) reader.old (map (λ s. record {
       held = S.held s;
@@ -64,7 +67,7 @@ pub(crate) fn feed_files<
     let mut run = run;
     let mut before = Counted { chunks: 0, rows: 0 };
     for _ in 0..MOST {
-        let (chunks, counted) = match read_round(alloc, input, reader, most, before) {
+        let (chunks, counted) = match read_round(rt, alloc, input, reader, most, threads, before) {
             Ok(read) => read,
             Err(error) => return Err((FileRunError::Read(error), run.into_stores())),
         };

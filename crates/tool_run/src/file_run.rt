@@ -3,23 +3,24 @@
 ghost use Rattle.std.specs.Prelude.{◌≡◌, ◌<◌, [], IfErr, IfOk, map};
 ghost use Rattle.pipe_columns.specs.Causes.{Rose};
 ghost use Rattle.pipe_csv.specs.declared.csv_error.CsvError.TheVariants as csv_error;
-ghost use Rattle.pipe_source.specs.CsvChunks.{source_fields};
+ghost use Rattle.pipe_source.specs.Reader.{given_fields};
 ghost use Rattle.tool_run.specs.Answering.{HaveFront, IsAnsweredFrom, IsRunEnd};
 ghost use Rattle.tool_run.specs.declared.error.FileRunError.TheVariants as error;
 
 use crate::error::FileRunError;
 use crate::feed_files::feed_files;
 use pipe_global::Gate;
+use pipe_group_by::GroupByRun;
 use pipe_io::InputFiles;
-use pipe_run::{GenericRun, GroupByOutput};
+use pipe_run::GroupByOutput;
 use pipe_source::ChunkReader;
 use pipe_spill::SpillStore;
 use std::alloc::Global;
 use std::sync::Wait;
 use std::thread::Threads;
 
-/// Feeds all chunks that a reader has left into a run that was fed none, so many at a time, and ends
-/// the run. The stores come back in order.
+/// Feeds all chunks that a reader has left into a run that was fed none, so many at a time, which are
+/// read in so many threads, and ends the run. The stores come back in order.
 pub fn run_files<
     'a,
     S: SpillStore + Drop + Send,
@@ -30,15 +31,16 @@ pub fn run_files<
     rt: &H,
     alloc: Global,
     gate: &G,
-    run: GenericRun<'a, S>,
+    run: GroupByRun<'a, S>,
     input: &mut I,
     reader: &mut ChunkReader,
     most: usize,
+    threads: usize,
 ) -> (Result<GroupByOutput, FileRunError>, Vec<S>)
     requires most { 0 < most }
+    requires threads { 0 < threads }
     requires none { run.chunks ≡ [] }
-    requires fits { source_fields reader.old.options reader.old.schema
-        ≡ run.setting.query.schema }
+    requires fits { given_fields reader.old ≡ run.setting.query.schema }
     ensures answered { IfOk result.0 (λ out. IsAnsweredFrom run.entry.setting
         (I.told input.old) reader.old out (map (λ s. record {
           held = S.held s;
@@ -61,7 +63,7 @@ pub fn run_files<
       sure = S.sure s;
     }) result.1.items)) }
 {
-    let run = match feed_files(rt, alloc, gate, run, input, reader, most) {
+    let run = match feed_files(rt, alloc, gate, run, input, reader, most, threads) {
         Ok(run) => run,
         Err((error, stores)) => return (Err(error), stores),
     };

@@ -1,13 +1,16 @@
-use Rattle.std.proofs.Common.{rules, ◌≡◌, ◌∙◌, ◌<◌, ◌≤◌, ◌^◌, ◌++◌, List, [], length, refl, sym, ap, subst, arith, Option}
+use Rattle.std.proofs.Common.{rules, true, ◌≡◌, ◌∙◌, ◌<◌, ◌≤◌, ◌^◌, ◌++◌, List, [], length, refl, sym, ap, subst, arith, Option}
 use Rattle.std.specs.List.{All}
 use Rattle.pipe_columns.specs.declared.data_chunk.DataChunk.{DataChunk}
+use Rattle.pipe_columns.specs.declared.schema.Field.{Field}
 use Rattle.pipe_columns.specs.Frame.{FitsSchema}
 use Rattle.pipe_io.specs.Files.{Files}
 use Rattle.pipe_model.specs.Rows.{total_height}
+use Rattle.pipe_run.specs.Feeding.{chunks_reached}
+use Rattle.pipe_run.specs.Refusals.{AllFit}
 use Rattle.pipe_run.specs.Setting.{Setting}
-use Rattle.pipe_source.specs.CsvChunks.{source_fields}
+use Rattle.pipe_source.specs.Reader.{given_fields}
 use Rattle.tool_run.specs.Rounds.{AreTaken, EndsBehind, HasNone}
-use Rattle.tool_run.proofs.FeedFacts.{chunks-more, ends-behind, feed-cause, fell-none, fell-then, fit-more, fit-none, rows-more, taken-all, taken-none, taken-then}
+use Rattle.tool_run.proofs.FeedFacts.{chunks-more, ends-behind, feed-cause, fell-none, fell-then, fit-more, fit-none, front-of, reached-fit, rows-more, taken-all, taken-none, taken-then}
 use Rattle.tool_run.proofs.feed_files.feed_files.Goals as goal
 
 pub loop-init : goal.loop-init
@@ -34,6 +37,20 @@ returns-in-Err-clause-cause g c =
     ends-behind c.loop.before (g.I.InputFiles.told c.args.input.now) c.args.reader.now c.loop.reader c.loop.run.chunks c.in-Err.error inv.chunks inv.rows inv.taken
     (subst (λ (t : Option Files). EndsBehind c.loop.before t c.loop.reader c.in-Err.error) inv.told c.in-Err.ensures.ends)
 
+pub returns-in-Err-clause-back : goal.returns-in-Err-clause-back
+returns-in-Err-clause-back g c =
+    let inv = c.loop.invariant in
+    front-of c.args.run.setting c.loop.run.setting true c.loop.run.chunks _ inv.setting inv.fit c.into_stores.ensures.back
+
+pub returns-in-Err-feed-clause-back : goal.returns-in-Err-feed-clause-back
+returns-in-Err-feed-clause-back g c =
+    let inv = c.loop.invariant in
+    let more : List DataChunk = c.in-Ok.read.0.items in
+    let fields : List Field = c.args.run.setting.query.schema in
+    let fit : AllFit fields (c.loop.run.chunks ++ more) = fit-more fields (given_fields c.loop.reader) c.loop.run.chunks more inv.fields inv.fit c.in-Ok.ensures.fit in
+    front-of c.args.run.setting c.loop.run.setting true (chunks_reached c.loop.run more c.in-Err-feed.error) _ inv.setting
+    (reached-fit fields c.loop.run more c.in-Err-feed.error inv.fit fit) c.in-Err-feed.ensures.back
+
 pub returns-in-Err-feed-clause-cause : goal.returns-in-Err-feed-clause-cause
 returns-in-Err-feed-clause-cause g c =
     let inv = c.loop.invariant in
@@ -42,7 +59,7 @@ returns-in-Err-feed-clause-cause g c =
     let rows : c.in-Ok.read.1.rows ≡ total_height all = rows-more c.loop.before c.in-Ok.read.1 c.loop.run.chunks more all refl inv.rows c.in-Ok.ensures.rows in
     let chunks : c.in-Ok.read.1.chunks ≡ length all = chunks-more c.loop.before c.in-Ok.read.1 c.loop.run.chunks more all refl inv.chunks c.in-Ok.ensures.chunks in
     let fit : All (λ (x : DataChunk). FitsSchema c.args.run.setting.query.schema x.frame) all =
-    fit-more c.args.run.setting.query.schema (source_fields c.loop.reader.options c.loop.reader.schema) c.loop.run.chunks more inv.fields inv.fit c.in-Ok.ensures.fit in
+    fit-more c.args.run.setting.query.schema (given_fields c.loop.reader) c.loop.run.chunks more inv.fields inv.fit c.in-Ok.ensures.fit in
     feed-cause c.args.run c.loop.run more _ c.in-Err-feed.error inv.counted
     (subst (λ (s : Setting). All (λ (x : DataChunk). FitsSchema s.query.schema x.frame) all) (sym inv.setting) fit)
     (subst (λ n. n < 2 ^ 32) rows c.in-Ok.ensures.few.1) (subst (λ n. n < 2 ^ 32) chunks c.in-Ok.ensures.few.0)
@@ -59,6 +76,13 @@ returns-then-is_last-clause-all g c =
     taken-all told c.args.reader.now c.read_round.new.reader c.in-Ok-feed.run'.chunks
     (taken-then told c.args.reader.now c.loop.reader c.read_round.new.reader c.loop.run.chunks more c.in-Ok-feed.run'.chunks c.in-Ok-feed.ensures.chunks inv.taken step) none
 
+pub returns-then-is_last-clause-fit : goal.returns-then-is_last-clause-fit
+returns-then-is_last-clause-fit g c =
+    let inv = c.loop.invariant in
+    let more : List DataChunk = c.in-Ok.read.0.items in
+    let fields : List Field = c.args.run.setting.query.schema in
+    subst (AllFit fields) (sym c.in-Ok-feed.ensures.chunks) (fit-more fields (given_fields c.loop.reader) c.loop.run.chunks more inv.fields inv.fit c.in-Ok.ensures.fit)
+
 pub returns-then-is_last-clause-counted : goal.returns-then-is_last-clause-counted
 returns-then-is_last-clause-counted g c = fell-then c.args.run.stores c.loop.run.stores c.in-Ok-feed.run'.stores c.loop.invariant.counted c.in-Ok-feed.ensures.counted
 
@@ -71,7 +95,7 @@ loop-preserved g c =
     let is : now ≡ c.loop.run.chunks ++ more = c.in-Ok-feed.ensures.chunks in
     let step : AreTaken told c.loop.reader more c.read_round.new.reader = subst (λ (t : Option Files). AreTaken t c.loop.reader more c.read_round.new.reader) inv.told c.in-Ok.ensures.taken in
     let fit : All (λ (x : DataChunk). FitsSchema c.args.run.setting.query.schema x.frame) (c.loop.run.chunks ++ more) =
-    fit-more c.args.run.setting.query.schema (source_fields c.loop.reader.options c.loop.reader.schema) c.loop.run.chunks more inv.fields inv.fit c.in-Ok.ensures.fit in
+    fit-more c.args.run.setting.query.schema (given_fields c.loop.reader) c.loop.run.chunks more inv.fields inv.fit c.in-Ok.ensures.fit in
     let full : c.args.most ≤ length more = search rules in
     record {
       told = search rules;

@@ -3,7 +3,7 @@ use Rattle.std.specs.List.{All}
 use Rattle.pipe_columns.specs.Frame.{FitsSchema}
 use Rattle.pipe_model.specs.Rows.{total_height}
 use Rattle.pipe_run.specs.Feeding.{NoneFell}
-use Rattle.pipe_source.specs.CsvChunks.{source_fields}
+use Rattle.pipe_source.specs.Reader.{given_fields}
 use Rattle.tool_run.specs.Rounds.{AreTaken}
 use Rattle.tool_run.proofs.feed_files.feed_files.Given as goal
 
@@ -15,7 +15,7 @@ invariant-loop g l =
       told : input.told l.input ≡ input.told l.fn.input;
       later : input.faults l.fn.input ≤ input.faults l.input;
       setting : l.run.setting ≡ l.fn.run.setting;
-      fields : source_fields l.reader.options l.reader.schema ≡ l.fn.run.setting.query.schema;
+      fields : given_fields l.reader ≡ l.fn.run.setting.query.schema;
       chunks : l.before.chunks ≡ length l.run.chunks;
       rows : l.before.rows ≡ total_height l.run.chunks;
       few_chunks : l.before.chunks < 2 ^ 32;

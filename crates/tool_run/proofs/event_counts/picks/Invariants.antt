@@ -1,0 +1,7 @@
+use Rattle.std.proofs.Common.{◌≡◌, ◌≤◌, ◌*◌, ◌^◌, take}
+use Rattle.tool_run.specs.MadeLines.{picks}
+use Rattle.tool_run.proofs.event_counts.picks.Given as goal
+
+-- those of the journals so far
+abbrev pub invariant-loop-journal : goal.invariant-loop-journal
+invariant-loop-journal l = (l.count ≡ picks (take l.journal-index l.journals)) × (l.count ≤ l.journal-index * 2 ^ 64)
