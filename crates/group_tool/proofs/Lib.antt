@@ -1,1 +1,5 @@
-pub mod AskedFacts
+pub mod MadeFacts
+pub mod NarrowFacts
+pub mod RunFacts
+pub mod StoreFacts
+pub mod ToolFacts

@@ -1,73 +1,107 @@
--- The faults of a run, their statuses and their causes.
-use Rattle.std.specs.Prelude.{◌≡◌, ◌⊎◌, ℕ, List, Option, ⊤, Result, Ok, Err}
+-- The faults of a run: their statuses, their lines and their causes.
+use Rattle.std.specs.Prelude.{◌≡◌, ℕ, true, List, ◌++◌, codes, Option, Some, IfSome, ⊤}
+use Rattle.std.specs.Fmt.{decimal}
+use Rattle.pipe_aggs.specs.declared.query_fault.QueryFault.{QueryFault}
+use Rattle.pipe_aggs.specs.declared.query_fault.QueryFault.TheVariants as query_fault
+use Rattle.pipe_csv.specs.CsvRows.{field, header, missing, width}
 use Rattle.pipe_io.specs.Files.{Files}
+use Rattle.pipe_plan.specs.Run.{StoreSeen}
+use Rattle.pipe_source.specs.CsvChunks.{Stop, misfit, too_large}
+use Rattle.tool_words.specs.Asked.{Asked, refused}
+use Rattle.tool_words.specs.declared.refusal.Refusal.{Refusal}
+use Rattle.tool_words.specs.declared.refusal.Refusal.TheVariants as refusal
 use Rattle.group_tool.specs.declared.fault.ToolFault.{ToolFault}
 use Rattle.group_tool.specs.declared.fault.ToolFault.TheVariants as fault
-use Rattle.group_tool.specs.Asked.{Asked, faulty, no_json, no_query, other_words}
-use Rattle.group_tool.specs.declared.status.TheConstants.{DONE, INPUT_FAILED, INPUT_REFUSED, NOT_BUILT, NO_MEMORY, OUTPUT_FAILED, QUERY_REFUSED, TOO_LARGE}
-use Rattle.group_tool.specs.Headline.{IsDue}
-use Rattle.group_tool.specs.Status.{status_line}
-use Rattle.pipe_csv.specs.declared.csv_error.CsvError.{CsvError}
-use Rattle.pipe_csv.specs.declared.csv_error.CsvError.TheVariants as e
+use Rattle.group_tool.specs.declared.status.TheConstants.{DAMAGED, INPUT_FAILED, INPUT_REFUSED, NO_MEMORY, OUTPUT_FAILED, QUERY_REFUSED, STORE_FAILED, TOO_LARGE, WORDS_REFUSED}
+use Rattle.group_tool.specs.Asking.{has_folder, stop_due}
+use Rattle.group_tool.specs.Ended.{HasFailed, HasUntold}
+
+-- the exit status of words that are refused
+abbrev pub refusal_status : Refusal → ℕ
+refusal_status refusal.Words = WORDS_REFUSED
+refusal_status refusal.NotJson = QUERY_REFUSED
+refusal_status refusal.NotAQuery = QUERY_REFUSED
+refusal_status (refusal.Faulty f) = QUERY_REFUSED
+refusal_status refusal.UnfitSink = WORDS_REFUSED
 
 -- the exit status of a fault
 abbrev pub status_of : ToolFault → ℕ
-status_of fault.NotBuilt = NOT_BUILT
-status_of fault.NotJson = QUERY_REFUSED
-status_of fault.NotAQuery = QUERY_REFUSED
-status_of (fault.Faulty f) = QUERY_REFUSED
-status_of fault.Refused = INPUT_REFUSED
+status_of (fault.Refused r) = refusal_status r
+status_of (fault.Missing file) = INPUT_REFUSED
+status_of (fault.Header file) = INPUT_REFUSED
+status_of (fault.Width file row) = INPUT_REFUSED
+status_of (fault.Field file row column) = INPUT_REFUSED
 status_of fault.InputFailed = INPUT_FAILED
 status_of fault.OutputFailed = OUTPUT_FAILED
 status_of fault.TooLarge = TOO_LARGE
+status_of (fault.Store partition) = STORE_FAILED
+status_of (fault.Damaged partition number) = DAMAGED
 status_of fault.Memory = NO_MEMORY
 
--- what is asked where the words have this fault
-abbrev pub asked_by : ToolFault → Asked
-asked_by fault.NotJson = no_json
-asked_by fault.NotAQuery = no_query
-asked_by (fault.Faulty f) = faulty f
-asked_by f = other_words
+-- ---- lines
+
+-- the name by which a fault of a query is told
+abbrev pub fault_name : QueryFault → List ℕ
+fault_name query_fault.DoubleName = codes "DoubleName"
+fault_name query_fault.NoKey = codes "NoKey"
+fault_name query_fault.BadNode = codes "BadNode"
+fault_name query_fault.UnknownColumn = codes "UnknownColumn"
+fault_name query_fault.IllTyped = codes "IllTyped"
+fault_name query_fault.KeyHasAggregate = codes "KeyHasAggregate"
+fault_name query_fault.NotConvertible = codes "NotConvertible"
+fault_name query_fault.SumOfDate = codes "SumOfDate"
+fault_name query_fault.DoubleOutput = codes "DoubleOutput"
+fault_name query_fault.NegativeSlice = codes "NegativeSlice"
+
+-- how refused words are told
+abbrev pub refusal_text : Refusal → List ℕ
+refusal_text refusal.Words = codes "words refused"
+refusal_text refusal.NotJson = codes "query refused: json"
+refusal_text refusal.NotAQuery = codes "query refused: shape"
+refusal_text (refusal.Faulty f) = codes "query refused: " ++ fault_name f
+refusal_text refusal.UnfitSink = codes "sink does not fit"
+
+-- how a fault is told
+abbrev pub fault_text : ToolFault → List ℕ
+fault_text (fault.Refused r) = refusal_text r
+fault_text (fault.Missing file) = codes "file " ++ (decimal file ++ codes ": missing")
+fault_text (fault.Header file) = codes "file " ++ (decimal file ++ codes ": header")
+fault_text (fault.Width file row) =
+    codes "file " ++ (decimal file ++ (codes " row " ++ (decimal row ++ codes ": width")))
+fault_text (fault.Field file row column) =
+    codes "file " ++ (decimal file ++ (codes " row " ++ (decimal row
+    ++ (codes " column " ++ (decimal column ++ codes ": field")))))
+fault_text fault.InputFailed = codes "input failed"
+fault_text fault.OutputFailed = codes "output failed"
+fault_text fault.TooLarge = codes "too large"
+fault_text (fault.Store partition) = codes "store " ++ (decimal partition ++ codes " failed")
+fault_text (fault.Damaged partition number) =
+    codes "store " ++ (decimal partition
+    ++ (codes " frame " ++ (decimal number ++ codes " damaged")))
+fault_text fault.Memory = codes "out of memory"
 
 -- the line of a fault
 abbrev pub fault_line : ToolFault → List ℕ
-fault_line f = status_line (asked_by f) (status_of f)
+fault_line f = fault_text f ++ codes "\n"
 
--- the fault that an error of CSV makes
-abbrev pub csv_fault : CsvError → ToolFault
-csv_fault (e.Header f) = fault.Refused
-csv_fault (e.Width f r) = fault.Refused
-csv_fault (e.Field f r c) = fault.Refused
-csv_fault e.Input = fault.InputFailed
-csv_fault e.TooLarge = fault.TooLarge
-csv_fault e.Memory = fault.Memory
-csv_fault (e.Missing f) = fault.Refused
+-- ---- causes
 
--- a fault of the words says what they ask for; nothing is said of want of memory
-abbrev pub IsOfWords : ToolFault → Asked → Type 0
-IsOfWords fault.NotBuilt a = a ≡ other_words
-IsOfWords fault.NotJson a = a ≡ no_json
-IsOfWords fault.NotAQuery a = a ≡ no_query
-IsOfWords (fault.Faulty f) a = a ≡ faulty f
-IsOfWords fault.Memory a = ⊤
-IsOfWords f a = ⊥
+-- where the input tells its files, their reading ends for this
+abbrev pub EndsFor : Stop → Asked → Option Files → Type 0
+EndsFor stop a told = IfSome told (λ files. stop_due a files ≡ Some stop)
 
--- what a fault says of what is asked and, where the input tells them, of its files; nothing is said
--- of what failed outside
-abbrev pub IsCaused : ToolFault → Asked → Option Files → Type 0
-IsCaused fault.Refused a told = IsDue INPUT_REFUSED a told
-IsCaused fault.InputFailed a told = ⊤
-IsCaused fault.OutputFailed a told = IsDue DONE a told
-IsCaused fault.TooLarge a told = IsDue TOO_LARGE a told
-IsCaused f a told = IsOfWords f a
-
--- a fault that comes before anything is written
-abbrev pub IsBefore : ToolFault → Type 0
-IsBefore fault.OutputFailed = ⊥
-IsBefore fault.Memory = ⊥
-IsBefore f = ⊤
-
--- a fault of this status ended a run, or want of memory did
-abbrev pub EndsWith : {A : Type 0} → ℕ → Result A ToolFault → Type 0
-EndsWith status (Ok v) = ⊥
-EndsWith status (Err f) = (status_of f ≡ status) ⊎ (f ≡ fault.Memory)
+-- what a fault says of what is asked, of the files, where the input tells them, and of the stores;
+-- nothing is said of an input or an output that failed, or of want of memory
+abbrev pub IsCaused : ToolFault → Asked → Option Files → List StoreSeen → Type 0
+IsCaused (fault.Refused r) a told stores = a ≡ refused r
+IsCaused (fault.Missing file) a told stores = EndsFor (misfit (missing file)) a told
+IsCaused (fault.Header file) a told stores = EndsFor (misfit (header file)) a told
+IsCaused (fault.Width file row) a told stores = EndsFor (misfit (width file row)) a told
+IsCaused (fault.Field file row column) a told stores =
+    EndsFor (misfit (field file row column)) a told
+IsCaused fault.InputFailed a told stores = ⊤
+IsCaused fault.OutputFailed a told stores = ⊤
+IsCaused fault.TooLarge a told stores = EndsFor too_large a told
+IsCaused (fault.Store p) a told stores = (has_folder a ≡ true) × HasFailed stores p
+IsCaused (fault.Damaged p n) a told stores = (has_folder a ≡ true) × HasUntold stores p n
+IsCaused fault.Memory a told stores = ⊤

@@ -1,85 +1,107 @@
--- What a run of the tool is asked, and what it owes.
-use Rattle.std.specs.Prelude.{◌≡◌, ◌⊎◌, ℕ, nat_lt, List, [], ◌∷◌, length, codes, Option, Some, None, is_ok, if◌then◌else◌, IfSome}
+-- What a run of the tool owes: the answer, what is written of it, and what is left of its stores.
+use Rattle.std.specs.Prelude.{◌≡◌, true, false, ℕ, Bool, List, [], All, length, Option, None, IfSome}
 use Rattle.std.specs.Io.KnownBytes.{Appends}
-use Rattle.pipe_columns.specs.declared.schema.Field.{Field}
 use Rattle.pipe_columns.specs.declared.data_chunk.DataChunk.{DataChunk}
-use Rattle.pipe_model.specs.Query.{QueryTree}
-use Rattle.pipe_model.specs.Answer.{answer}
-use Rattle.pipe_csv.specs.CsvChunks.{CsvChunks, ReadOptions, csv_chunks, text_rows}
-use Rattle.pipe_io.specs.Files.{Files, file_of}
+use Rattle.pipe_io.specs.Files.{Files}
 use Rattle.pipe_io.specs.Output.{WroteFront}
-use Rattle.pipe_csv.specs.Texts.{csv_text}
-use Rattle.group_tool.specs.Asked.{Asked, asks, faulty, no_json, no_query, other_words}
-use Rattle.pipe_io.specs.declared.whole_file.TheConstants.{MOST_FILE_BYTES}
-use Rattle.group_tool.specs.declared.read.TheConstants.{CHUNK_ROWS}
-use Rattle.group_tool.specs.declared.status.TheConstants.{DONE, INPUT_FAILED, INPUT_REFUSED, NOT_BUILT, NO_MEMORY, OUTPUT_FAILED, QUERY_REFUSED, TOO_LARGE}
+use Rattle.pipe_model.specs.Answer.{answer}
+use Rattle.pipe_model.specs.Query.{QueryTree}
+use Rattle.pipe_plan.specs.declared.event.PartitionEvent.{PartitionEvent}
+use Rattle.pipe_plan.specs.Run.{StoreSeen}
+use Rattle.pipe_run.specs.Answered.{HaveWholeFrames, IsAnswered}
+use Rattle.pipe_run.specs.declared.output.GroupByOutput.{GroupByOutput}
+use Rattle.pipe_words.specs.Plans.{PlanSeen}
+use Rattle.tool_made.specs.MadeQuery.{made_tree}
+use Rattle.tool_run.specs.Reading.{are_few}
+use Rattle.tool_words.specs.Asked.{Asked, asks, makes, refused}
+use Rattle.group_tool.specs.Asking.{asked_run, input_chunks}
+use Rattle.group_tool.specs.Formats.{text_in}
+use Rattle.group_tool.specs.Ended.{IsMade}
+use Rattle.group_tool.specs.MadeRun.{HasMadeLines, TellAnswer}
 
--- the name of the file that is read: standard input
-abbrev pub input_name : List ℕ
-input_name = codes "-"
+-- the text that a query owes over files
+abbrev pub answer_text : Files → PlanSeen → QueryTree → List ℕ
+answer_text files p q =
+    text_in p.format (answer (input_chunks files p q).chunks q p.limits.partitions)
 
--- how standard input is cut into chunks
-abbrev pub read_options : ReadOptions
-read_options = record { chunk_size = CHUNK_ROWS }
+-- where files are told, these are the chunks of all that are read, and there is no stop
+abbrev pub AreInput : PlanSeen → QueryTree → Option Files → List DataChunk → Type 0
+AreInput p q told chunks =
+    IfSome told (λ files. input_chunks files p q ≡ record { chunks = chunks; stop = None })
 
--- the chunks of standard input
-abbrev pub input_chunks : Files → List Field → CsvChunks
-input_chunks files schema = csv_chunks files (input_name ∷ []) schema read_options
+-- the run over stores as they were made and over all chunks of the files was answered
+pub record HasRunTo
+    (p : PlanSeen) (q : QueryTree) (told : Option Files) (out : GroupByOutput)
+    (stores : List StoreSeen) : Type 0 where
+  pub made : List StoreSeen
+  pub are_made : All (IsMade p.spill_dir) made
+  pub count : length made ≡ p.limits.partitions
+  pub chunks : List DataChunk
+  pub are_input : AreInput p q told chunks
+  pub few : are_few chunks ≡ true
+  pub answered : IsAnswered (asked_run p q false chunks made) out stores
 
--- the text that a query owes
-abbrev pub answer_text : Files → QueryTree → List ℕ
-answer_text files q = csv_text (answer (input_chunks files q.schema).chunks q 1)
+-- such a run has these journals and these stores, and this is the text of its frame
+pub record HasAnswer
+    (p : PlanSeen) (q : QueryTree) (told : Option Files)
+    (journals : List (List PartitionEvent)) (stores : List StoreSeen) (text : List ℕ) : Type 0 where
+  pub out : GroupByOutput
+  pub run : HasRunTo p q told out stores
+  pub journals_are : journals ≡ out.journals
+  pub text_is : text ≡ text_in p.format out.frame
 
--- the status that a text owes, where nothing fails: too many bytes come before a misfit
-abbrev pub text_status : List Field → List ℕ → ℕ
-text_status schema text =
-    if nat_lt MOST_FILE_BYTES (length text) then TOO_LARGE
-    else (if is_ok (text_rows 1 schema text) then DONE else INPUT_REFUSED)
+-- the run of what is asked for was answered, and the output grew by exactly the text of its frame, or
+-- over generated rows by the lines that tell of it
+abbrev pub IsWritten :
+    Asked → Option Files → Option (List ℕ) → Option (List ℕ)
+    → List (List PartitionEvent) → List StoreSeen → Type 0
+IsWritten (refused r) told old new journals stores = ⊥
+IsWritten (asks p q) told old new journals stores =
+    (text : List ℕ) × HasAnswer p q told journals stores text × Appends old new text
+IsWritten (makes p m) told old new journals stores =
+    (text : List ℕ) × HasMadeLines p m journals stores text × Appends old new text
 
--- the status that a file owes, where nothing fails; a missing one is refused
-abbrev pub file_status : List Field → Option (List ℕ) → ℕ
-file_status schema None = INPUT_REFUSED
-file_status schema (Some text) = text_status schema text
+-- the run of what is asked for was answered, and the output grew by a front of that text
+abbrev pub IsBegun :
+    Asked → Option Files → Option (List ℕ) → Option (List ℕ)
+    → List (List PartitionEvent) → List StoreSeen → Type 0
+IsBegun (refused r) told old new journals stores = ⊥
+IsBegun (asks p q) told old new journals stores =
+    (text : List ℕ) × HasAnswer p q told journals stores text × WroteFront old new text
+IsBegun (makes p m) told old new journals stores =
+    (text : List ℕ) × HasMadeLines p m journals stores text × WroteFront old new text
 
--- the status that is owed over files, where nothing fails: other than one word is not built, and a
--- word that is no query or has a fault is refused
-abbrev pub due_status : Asked → Files → ℕ
-due_status other_words files = NOT_BUILT
-due_status no_json files = QUERY_REFUSED
-due_status no_query files = QUERY_REFUSED
-due_status (faulty f) files = QUERY_REFUSED
-due_status (asks q) files = file_status q.schema (file_of files input_name)
+-- where the input tells its files, the output grew by exactly the text that is owed over them; over
+-- generated rows by the lines of a run whose frame is the answer
+abbrev pub IsAnswerWritten :
+    Asked → Option Files → Option (List ℕ) → Option (List ℕ) → Type 0
+IsAnswerWritten (refused r) told old new = ⊥
+IsAnswerWritten (asks p q) told old new =
+    IfSome told (λ files. Appends old new (answer_text files p q))
+IsAnswerWritten (makes p m) told old new =
+    (text : List ℕ) × TellAnswer p m text × Appends old new text
 
--- where the input tells its files, this status is due
-abbrev pub IsDue : ℕ → Asked → Option Files → Type 0
-IsDue status a told = IfSome told (λ files. due_status a files ≡ status)
+-- the run of what is asked for was answered
+abbrev pub HasRun :
+    Asked → Option Files → List (List PartitionEvent) → List StoreSeen → Type 0
+HasRun (refused r) told journals stores = ⊥
+HasRun (asks p q) told journals stores = (text : List ℕ) × HasAnswer p q told journals stores text
+HasRun (makes p m) told journals stores = (text : List ℕ) × HasMadeLines p m journals stores text
 
--- where the input tells its files, a status is the one due, or that of a fault of reading, of
--- writing or of memory
-abbrev pub EndsAsDue : ℕ → Asked → Option Files → Type 0
-EndsAsDue status a told =
-    IfSome told (λ files.
-    (status ≡ due_status a files) ⊎ (status ≡ INPUT_FAILED) ⊎ (status ≡ OUTPUT_FAILED)
-    ⊎ (status ≡ NO_MEMORY))
+-- stores have whole frames of a run that stopped, and no others
+pub record HaveFront (p : PlanSeen) (q : QueryTree) (stores : List StoreSeen) : Type 0 where
+  pub made : List StoreSeen
+  pub are_made : All (IsMade p.spill_dir) made
+  pub chunks : List DataChunk
+  pub is_open : Bool
+  pub frames : HaveWholeFrames (asked_run p q is_open chunks made) stores
 
--- where the input tells its files, these are the chunks of standard input, which fits
-abbrev pub AreInput : List Field → Option Files → List DataChunk → Type 0
-AreInput schema told chunks =
-    IfSome told (λ files. input_chunks files schema ≡ record { chunks = chunks; stop = None })
+-- the run of what is asked for stopped: there are no journals
+abbrev pub HasStopped : Asked → List (List PartitionEvent) → List StoreSeen → Type 0
+HasStopped (refused r) journals stores = ⊥
+HasStopped (asks p q) journals stores = (journals ≡ []) × HaveFront p q stores
+HasStopped (makes p m) journals stores = (journals ≡ []) × HaveFront p made_tree stores
 
--- a query is asked for and, where the input tells its files, this is the text that it owes
-abbrev pub IsAnswerText : Asked → Option Files → List ℕ → Type 0
-IsAnswerText (asks q) told text = IfSome told (λ files. text ≡ answer_text files q)
-IsAnswerText a told text = ⊥
-
--- a query is asked for and, where input and output tell, the output grew by exactly the text that
--- it owes
-abbrev pub IsAnswered : Asked → Option Files → Option (List ℕ) → Option (List ℕ) → Type 0
-IsAnswered (asks q) told old new = IfSome told (λ files. Appends old new (answer_text files q))
-IsAnswered a told old new = ⊥
-
--- a query is asked for and, where input and output tell, the output grew by a front of the text
--- that it owes
-abbrev pub IsBegun : Asked → Option Files → Option (List ℕ) → Option (List ℕ) → Type 0
-IsBegun (asks q) told old new = IfSome told (λ files. WroteFront old new (answer_text files q))
-IsBegun a told old new = ⊥
+-- no run was begun: there are neither journals nor stores
+abbrev pub HasNoRun : List (List PartitionEvent) → List StoreSeen → Type 0
+HasNoRun journals stores = (journals ≡ []) × (stores ≡ [])

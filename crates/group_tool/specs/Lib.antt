@@ -1,5 +1,8 @@
-pub mod Asked
-pub mod WorkedQuery
-pub mod Status
+pub mod Asking
+pub mod Ended
+pub mod MadeRun
 pub mod Headline
 pub mod Faults
+pub mod Inside
+pub mod Status
+pub mod Formats

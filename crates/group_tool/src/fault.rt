@@ -1,104 +1,131 @@
-//! The faults of a run, and how they are reported.
+//! The faults of a run.
 
-ghost use Rattle.std.specs.Prelude.{◌≡◌, ◌≢◌};
-ghost use Rattle.std.specs.Io.KnownBytes.{Appends};
-ghost use Rattle.pipe_columns.specs.Causes.{Rose};
-ghost use Rattle.pipe_io.specs.Output.{WroteFront};
-ghost use Rattle.group_tool.specs.Asked.{faulty, refusal_line};
-ghost use Rattle.group_tool.specs.Faults.{fault_line, status_of};
+ghost use Rattle.std.specs.Prelude.{◌≡◌};
+ghost use Rattle.group_tool.specs.Faults.{refusal_status, status_of};
+ghost use Rattle.group_tool.specs.Inside.{ask_fault, CanCome, file_fault, read_fault, run_fault};
 
 use crate::status::{
-    INPUT_FAILED, INPUT_REFUSED, NO_MEMORY, NOT_BUILT, OUTPUT_FAILED, QUERY_REFUSED, TOO_LARGE,
+    DAMAGED, INPUT_FAILED, INPUT_REFUSED, NO_MEMORY, OUTPUT_FAILED, QUERY_REFUSED, STORE_FAILED,
+    TOO_LARGE, WORDS_REFUSED,
 };
-use pipe_aggs::QueryFault;
-use pipe_ends::{Output, OutputError, write_all};
+use pipe_csv::CsvError;
+use pipe_run::PipeError;
+use tool_run::FileRunError;
+use tool_words::{AskError, Refusal};
 
-/// Why a run ended without its answer.
+/// Why a run ended without its answer. Files, rows and columns are counted from 1, and the header is
+/// no row.
 #[derive(Debug, Drop, PartialEq, Eq)]
 pub enum ToolFault {
-    /// There isn't exactly one word.
-    NotBuilt,
-    /// The word is no JSON.
-    NotJson,
-    /// The JSON is no query.
-    NotAQuery,
-    /// The query has a fault.
-    Faulty(QueryFault),
-    /// There is no such file, or its text doesn't fit.
-    Refused,
+    /// The words are refused.
+    Refused(Refusal),
+    /// No file has the name.
+    Missing {
+        file: usize,
+    },
+    /// The first record isn't the schema's names, in order.
+    Header {
+        file: usize,
+    },
+    /// A row has another number of fields than the schema.
+    Width {
+        file: usize,
+        row: usize,
+    },
+    /// A field doesn't read as its column's type.
+    Field {
+        file: usize,
+        row: usize,
+        column: usize,
+    },
     /// A read failed.
     InputFailed,
     /// A write failed.
     OutputFailed,
-    /// The file has more bytes than are read.
+    /// A file has more bytes than are read, or there are too many rows or chunks.
     TooLarge,
+    /// The store of a partition failed.
+    Store {
+        partition: usize,
+    },
+    /// The store of a partition gave another frame under a number than was put.
+    Damaged {
+        partition: usize,
+        number: u64,
+    },
     /// Memory ran out.
     Memory,
 }
 
+/// The exit status of words that are refused.
+fn refusal_status(refusal: Refusal) -> u8
+    ensures { result ≡ refusal_status refusal }
+{
+    match refusal {
+        Refusal::Words => WORDS_REFUSED,
+        Refusal::NotJson => QUERY_REFUSED,
+        Refusal::NotAQuery => QUERY_REFUSED,
+        Refusal::Faulty(_) => QUERY_REFUSED,
+        Refusal::UnfitSink => WORDS_REFUSED,
+    }
+}
+
 /// The exit status of a fault.
-fn status(fault: &ToolFault) -> u8
+pub fn status_of(fault: &ToolFault) -> u8
     ensures { result ≡ status_of fault.now }
 {
     match fault {
-        ToolFault::NotBuilt => NOT_BUILT,
-        ToolFault::NotJson => QUERY_REFUSED,
-        ToolFault::NotAQuery => QUERY_REFUSED,
-        ToolFault::Faulty(_) => QUERY_REFUSED,
-        ToolFault::Refused => INPUT_REFUSED,
+        ToolFault::Refused(refusal) => refusal_status(*refusal),
+        ToolFault::Missing { .. } => INPUT_REFUSED,
+        ToolFault::Header { .. } => INPUT_REFUSED,
+        ToolFault::Width { .. } => INPUT_REFUSED,
+        ToolFault::Field { .. } => INPUT_REFUSED,
         ToolFault::InputFailed => INPUT_FAILED,
         ToolFault::OutputFailed => OUTPUT_FAILED,
         ToolFault::TooLarge => TOO_LARGE,
+        ToolFault::Store { .. } => STORE_FAILED,
+        ToolFault::Damaged { .. } => DAMAGED,
         ToolFault::Memory => NO_MEMORY,
     }
 }
 
-/// The line of a query's fault, with its end.
-fn query_line(fault: QueryFault) -> &'static [u8]
-    ensures { result.now ≡ refusal_line (faulty fault) }
+/// The fault of words that ask for nothing.
+pub fn ask_fault(error: AskError) -> ToolFault
+    ensures { result ≡ ask_fault error }
 {
-    match fault {
-        QueryFault::DoubleName => b"query refused: DoubleName\n",
-        QueryFault::NoKey => b"query refused: NoKey\n",
-        QueryFault::BadNode => b"query refused: BadNode\n",
-        QueryFault::UnknownColumn => b"query refused: UnknownColumn\n",
-        QueryFault::IllTyped => b"query refused: IllTyped\n",
-        QueryFault::KeyHasAggregate => b"query refused: KeyHasAggregate\n",
-        QueryFault::NotConvertible => b"query refused: NotConvertible\n",
-        QueryFault::SumOfDate => b"query refused: SumOfDate\n",
-        QueryFault::DoubleOutput => b"query refused: DoubleOutput\n",
-        QueryFault::NegativeSlice => b"query refused: NegativeSlice\n",
+    match error {
+        AskError::Refused(refusal) => ToolFault::Refused(refusal),
+        AskError::Memory => ToolFault::Memory,
     }
 }
 
-/// The line of a fault, with its end.
-fn line(fault: &ToolFault) -> &'static [u8]
-    ensures { result.now ≡ fault_line fault.now }
+/// The fault of files that are not read to their end.
+fn read_fault(error: CsvError) -> ToolFault
+    ensures { result ≡ read_fault error }
 {
-    match fault {
-        ToolFault::NotBuilt => b"not built\n",
-        ToolFault::NotJson => b"query refused: json\n",
-        ToolFault::NotAQuery => b"query refused: shape\n",
-        ToolFault::Faulty(fault) => query_line(*fault),
-        ToolFault::Refused => b"input refused\n",
-        ToolFault::InputFailed => b"input failed\n",
-        ToolFault::OutputFailed => b"output failed\n",
-        ToolFault::TooLarge => b"too large\n",
-        ToolFault::Memory => b"out of memory\n",
+    match error {
+        CsvError::Missing { file } => ToolFault::Missing { file },
+        CsvError::Header { file } => ToolFault::Header { file },
+        CsvError::Width { file, row } => ToolFault::Width { file, row },
+        CsvError::Field { file, row, column } => ToolFault::Field { file, row, column },
+        CsvError::Input => ToolFault::InputFailed,
+        CsvError::TooLarge => ToolFault::TooLarge,
+        CsvError::Memory => ToolFault::Memory,
     }
 }
 
-/// Reports a fault by its line, and answers its exit status. Where memory is wanting for the line the
-/// status is that of wanting memory.
-pub fn report<E: Output>(messages: &mut E, fault: ToolFault) -> u8
-    ensures status { result ≢ NO_MEMORY → result ≡ status_of fault }
-    ensures whole { result ≢ NO_MEMORY → (Rose (E.faults messages.old) (E.faults messages.new) → ⊥)
-        → Appends (E.told messages.old) (E.told messages.new) (fault_line fault) }
-    ensures front { WroteFront (E.told messages.old) (E.told messages.new) (fault_line fault) }
+/// The fault of a run over files. Its limits, its query and its chunks were tested before.
+pub fn file_fault(error: FileRunError) -> ToolFault
+    requires { CanCome error }
+    ensures { result ≡ file_fault error }
 {
-    match write_all(messages, line(&fault)) {
-        Ok(()) => status(&fault),
-        Err(OutputError::Failed) => status(&fault),
-        Err(OutputError::Memory) => NO_MEMORY,
+    match error {
+        FileRunError::Read(error) => read_fault(error),
+        FileRunError::Run(PipeError::Store { partition }) => ToolFault::Store { partition },
+        FileRunError::Run(PipeError::Damaged { partition, number }) => {
+            ToolFault::Damaged { partition, number }
+        }
+        FileRunError::Run(PipeError::Memory) => ToolFault::Memory,
+        FileRunError::Run(_) => unreachable!(),
     }
 }

@@ -1,96 +1,60 @@
-//! The groups of the rows of standard input.
+//! What reads the files of a plan.
 
-ghost use Rattle.std.specs.Prelude.{◌≡◌, IfOk, IfErr, IsErrOf, OnOk};
-ghost use Rattle.pipe_aggs.specs.declared.query.Query.{Query};
-ghost use Rattle.pipe_aggs.specs.QueryTrees.{query_tree};
-ghost use Rattle.pipe_columns.specs.Causes.{Rose};
-ghost use Rattle.group_tool.specs.Asked.{asks};
-ghost use Rattle.group_tool.specs.Faults.{IsCaused, csv_fault};
-ghost use Rattle.group_tool.specs.Headline.{AreInput, IsDue};
-ghost use Rattle.group_tool.specs.declared.fault.ToolFault.TheVariants as fault;
+ghost use Rattle.std.specs.Prelude.{◌≡◌, ◌<◌, ◌≤◌, IfOk, length, vec_len};
+ghost use Rattle.pipe_io.specs.Files.{Files};
+ghost use Rattle.pipe_source.specs.CsvChunks.{csv_chunks, narrowed};
+ghost use Rattle.pipe_source.specs.Reader.{given_fields, left_of};
+ghost use Rattle.pipe_wanted.specs.Wanted.{chosen};
+ghost use Rattle.tool_words.specs.Asked.{files_named};
 
-use crate::fault::ToolFault;
-use crate::status::DONE;
-use pipe_aggs::CheckedQuery;
-use pipe_columns::{DataChunk, Text};
-use pipe_ends::{ChunkSink, CsvError, FileEnd, InputFiles, read_file, read_into};
-use pipe_tables::QueryGroups;
+use pipe_columns::{Schema, Text};
+use pipe_source::{ChunkReader, CsvReadOptions};
 use std::alloc::{AllocError, Global};
 
-/// The most rows of a chunk.
-pub const CHUNK_ROWS: usize = 50000;
-
-/// The fault that an error of CSV makes.
-fn fault_of(error: CsvError) -> ToolFault
-    ensures { result ≡ csv_fault error }
+/// The names of the files that words ask for: those behind the query, or standard input.
+fn files_named(alloc: Global, mut words: Vec<Text>) -> Result<Vec<Text>, AllocError>
+    ensures { IfOk result (λ v. v.items ≡ files_named words.items) }
 {
-    match error {
-        CsvError::Header { .. } => ToolFault::Refused,
-        CsvError::Width { .. } => ToolFault::Refused,
-        CsvError::Field { .. } => ToolFault::Refused,
-        CsvError::Missing { .. } => ToolFault::Refused,
-        CsvError::Input => ToolFault::InputFailed,
-        CsvError::TooLarge => ToolFault::TooLarge,
-        CsvError::Memory => ToolFault::Memory,
+    if words.is_empty() {
+        return Ok(words);
     }
-}
-
-/// The groups of a query, as what takes the chunks of its input.
-#[derive(Drop)]
-struct GroupSink<'a> {
-    alloc: Global,
-    groups: QueryGroups<'a>,
-}
-
-impl<'a> ChunkSink for GroupSink<'a> {
-    ghost fields = { λ s. s.groups.query.schema };
-
-    ghost taken = { λ s. s.groups.taken };
-
-    ghost Kept = { Query };
-
-    ghost kept = { λ s. s.groups.query };
-
-    fn take(self, chunk: DataChunk) -> Result<Self, AllocError> {
-        let GroupSink { alloc, groups } = self;
-        let groups = groups.add(alloc, &chunk)?;
-        Ok(GroupSink { alloc, groups })
+    let _query = words.remove(0);
+    if words.is_empty() {
+        words.push(Text::new(alloc, "-")?)?;
     }
+    Ok(words)
 }
 
-/// The groups of a query over the chunks of standard input, each of which is dropped before the next
-/// is read. The size of the file is tested before its text.
-pub fn read_groups<'a, I: InputFiles>(
+/// What reads the files that words ask for, in chunks of so many rows and of the wanted columns alone,
+/// up to a limit of rows.
+pub fn reader_of(
     alloc: Global,
-    input: &mut I,
-    query: &'a CheckedQuery<'a>,
-) -> Result<QueryGroups<'a>, ToolFault>
-    ensures query { IfOk result (λ g. g.query ≡ query.now) }
-    ensures read { IfOk result (λ g. AreInput query.now.schema (I.told input.old) g.taken) }
-    ensures fits { OnOk result (IsDue DONE (asks (query_tree query.now)) (I.told input.old)) }
-    ensures cause { IfErr result
-        (λ f. IsCaused f (asks (query_tree query.now)) (I.told input.old)) }
-    ensures failed { IsErrOf result fault.InputFailed
-        → Rose (I.faults input.old) (I.faults input.new) }
-    ensures written { IsErrOf result fault.OutputFailed → ⊥ }
+    words: Vec<Text>,
+    schema: Schema,
+    wanted: Vec<bool>,
+    chunk: usize,
+    rows: Option<usize>,
+) -> Result<ChunkReader, AllocError>
+    requires size { 0 < chunk }
+    requires wanted { vec_len wanted ≤ length schema }
+    ensures left { IfOk result (λ r. (files : Files) → left_of files r
+        ≡ narrowed r.options wanted.items
+        (csv_chunks files (files_named words.items) schema r.options)) }
+    ensures schema { IfOk result (λ r. r.schema ≡ schema) }
+    ensures fields { IfOk result (λ r. given_fields r ≡ chosen wanted.items schema) }
+    ensures options { IfOk result (λ r. r.options ≡ record {
+      chunk_size = chunk;
+      n_rows = rows;
+      row_index = None;
+      include_file_path = None;
+    }) }
 {
-    let Ok(name) = Text::new(alloc, "-") else {
-        return Err(ToolFault::Memory);
+    let names = files_named(alloc, words)?;
+    let options = CsvReadOptions {
+        chunk_size: chunk,
+        n_rows: rows,
+        row_index: None,
+        include_file_path: None,
     };
-    let text = match read_file(alloc, input, &name) {
-        Ok(text) => text,
-        Err(FileEnd::Missing) => return Err(ToolFault::Refused),
-        Err(FileEnd::Failed) => return Err(ToolFault::InputFailed),
-        Err(FileEnd::TooLarge) => return Err(ToolFault::TooLarge),
-        Err(FileEnd::Memory) => return Err(ToolFault::Memory),
-    };
-    let Ok(groups) = QueryGroups::new(alloc, query) else {
-        return Err(ToolFault::Memory);
-    };
-    let schema = &query.query().schema;
-    let sink = GroupSink { alloc, groups };
-    match read_into(alloc, &text, 1, schema, CHUNK_ROWS, sink) {
-        Ok(sink) => Ok(sink.groups),
-        Err(error) => Err(fault_of(error)),
-    }
+    ChunkReader::of_columns(alloc, names, schema, options, wanted)
 }

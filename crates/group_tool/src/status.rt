@@ -3,10 +3,13 @@
 /// The answer was written.
 pub const DONE: u8 = 0;
 
-/// The word is no JSON, no query, or a query with a fault.
+/// The words are refused, or the sink doesn't fit the query.
+pub const WORDS_REFUSED: u8 = 2;
+
+/// The query's word is no JSON, no query, or a query with a fault.
 pub const QUERY_REFUSED: u8 = 3;
 
-/// There is no such file, or its text doesn't fit the schema.
+/// A file isn't there, or its text doesn't fit the schema.
 pub const INPUT_REFUSED: u8 = 4;
 
 /// Reading failed.
@@ -15,11 +18,14 @@ pub const INPUT_FAILED: u8 = 5;
 /// Writing failed.
 pub const OUTPUT_FAILED: u8 = 6;
 
-/// The file has more bytes than are read.
+/// A file has more bytes than are read, or there are too many rows or chunks.
 pub const TOO_LARGE: u8 = 7;
+
+/// The store of a partition failed.
+pub const STORE_FAILED: u8 = 8;
+
+/// A store gave back another frame than was put.
+pub const DAMAGED: u8 = 9;
 
 /// Memory ran out.
 pub const NO_MEMORY: u8 = 10;
-
-/// There isn't exactly one word.
-pub const NOT_BUILT: u8 = 11;

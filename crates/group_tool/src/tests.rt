@@ -2,49 +2,82 @@
 
 mod aggregates;
 mod answers;
+mod columns;
 mod expressions;
 mod failing_calls;
+mod files;
+mod formats;
+mod generated;
 mod order;
+mod recorded;
 mod refusals;
+mod spills;
 mod twins;
+mod workers;
 
+use crate::ended::ToolEnd;
 use crate::tests::twins::ask_plain;
 use crate::tool::run_tool;
 use pipe_columns::Text;
-use pipe_ends::{MemoryFiles, MemoryOutput};
-use std::alloc::Global;
+use pipe_global::{Gate, OpenGate};
+use pipe_io::{InputFiles, MemoryFiles, MemoryOutput};
+use pipe_spill::MemoryStore;
+use std::alloc::{AllocError, Global};
 use std::process::Abort;
+use std::sync::Wait;
 use std::test::Fail;
+use std::thread::Threads;
+use tool_stores::StoreMaker;
 
 /// The sum and the count of `v` by `k`.
 const SUM_AND_COUNT: &str =
     r#"{"schema":[["k","Int64"],["v","Int64"]],"keys":["k"],"aggs":[{"alias":[{"sum":"v"},"s"]},{"alias":[{"count":"v"},"c"]}]}"#;
 
-/// A run and its outcome: what standard input holds, if it is there, and which calls fail, numbered
-/// from 0.
+/// The sum of `v` by `k`.
+const SUM: &str =
+    r#"{"schema":[["k","Int64"],["v","Int64"]],"keys":["k"],"aggs":[{"alias":[{"sum":"v"},"s"]}]}"#;
+
+/// Makes stores in memory that never fail.
+#[derive(Drop)]
+struct MemoryStores {
+    alloc: Global,
+}
+
+impl StoreMaker for MemoryStores {
+    type Store = MemoryStore;
+
+    fn make(&mut self, _dir: Option<&Text>, _partition: usize) -> Result<MemoryStore, AllocError> {
+        Ok(MemoryStore::new(self.alloc, Vec::new(self.alloc)))
+    }
+}
+
+/// A name and a text.
+type File<'w> = (&'w str, &'w str);
+
+/// A run and its outcome: its files, and which calls fail, numbered from 0.
 #[derive(Drop)]
 struct Run<'w> {
     words: &'w [&'w str],
-    text: Option<&'static str>,
-    input_fails: &'static [u64],
-    output_fails: &'static [u64],
-    message_fails: &'static [u64],
+    files: &'w [File<'w>],
+    input_fails: &'w [u64],
+    output_fails: &'w [u64],
+    message_fails: &'w [u64],
     status: u8,
-    output: &'static str,
-    line: &'static str,
+    output: &'w str,
+    line: &'w str,
 }
 
-/// Words over a text, with no failing call.
+/// Words over files, with no failing call.
 fn plain_run<'w>(
     words: &'w [&'w str],
-    text: &'static str,
+    files: &'w [File<'w>],
     status: u8,
-    output: &'static str,
-    line: &'static str,
+    output: &'w str,
+    line: &'w str,
 ) -> Run<'w> {
     Run {
         words,
-        text: Some(text),
+        files,
         input_fails: &[],
         output_fails: &[],
         message_fails: &[],
@@ -54,25 +87,66 @@ fn plain_run<'w>(
     }
 }
 
-/// Runs the tool, and asks for the outcome.
-fn drive(rt: &(impl Abort + Alloc<A = Global>), run: &Run<'_>) -> Result<(), Fail> {
-    let alloc = rt.alloc();
-    let mut words = Vec::new(alloc);
-    for word in run.words {
-        words.push(Text::new(alloc, word)?)?;
+/// Copies of words.
+fn texts_of(alloc: Global, words: &[&str]) -> Result<Vec<Text>, Fail> {
+    let mut texts = Vec::new(alloc);
+    for word in words {
+        texts.push(Text::new(alloc, word)?)?;
     }
+    Ok(texts)
+}
+
+/// The files of a run, in memory.
+fn files_of(alloc: Global, run: &Run<'_>) -> Result<MemoryFiles, Fail> {
     let mut files = Vec::new(alloc);
-    if let Some(text) = run.text {
-        let bytes = Vec::from_slice(alloc, text.as_bytes())?;
-        files.push((Text::new(alloc, "-")?, bytes))?;
+    for file in run.files {
+        let bytes = Vec::from_slice(alloc, file.1.as_bytes())?;
+        files.push((Text::new(alloc, file.0)?, bytes))?;
     }
-    let mut input = MemoryFiles::new(files, Vec::from_slice(alloc, run.input_fails)?);
+    Ok(MemoryFiles::new(files, Vec::from_slice(alloc, run.input_fails)?))
+}
+
+/// Runs the tool over an input, stores and a gate, and asks for the outcome.
+fn run_over<
+    H: Abort + Alloc<A = Global> + Threads + Wait + Sync,
+    I: InputFiles,
+    M: StoreMaker,
+    G: Gate + Sync,
+>(
+    rt: &H,
+    run: &Run<'_>,
+    input: &mut I,
+    maker: &mut M,
+    gate: &G,
+) -> Result<ToolEnd<M::Store>, Fail> {
+    let alloc = rt.alloc();
+    let words = texts_of(alloc, run.words)?;
     let mut output = MemoryOutput::new(alloc, Vec::from_slice(alloc, run.output_fails)?);
     let mut messages = MemoryOutput::new(alloc, Vec::from_slice(alloc, run.message_fails)?);
-    let status = run_tool(alloc, &words, &mut input, &mut output, &mut messages);
-    assert_eq!(rt; status, run.status);
+    let end = run_tool(
+        rt,
+        alloc,
+        &words,
+        input,
+        &mut output,
+        &mut messages,
+        maker,
+        gate,
+    );
+    assert_eq!(rt; end.status, run.status);
     assert_eq!(rt; output.bytes(), run.output.as_bytes());
     assert_eq!(rt; messages.bytes(), run.line.as_bytes());
+    Ok(end)
+}
+
+/// Runs the tool, and asks for the outcome.
+fn drive<H: Abort + Alloc<A = Global> + Threads + Wait + Sync>(
+    rt: &H,
+    run: &Run<'_>,
+) -> Result<(), Fail> {
+    let mut input = files_of(rt.alloc(), run)?;
+    let mut maker = MemoryStores { alloc: rt.alloc() };
+    let _end = run_over(rt, run, &mut input, &mut maker, &OpenGate)?;
     Ok(())
 }
 
@@ -80,10 +154,14 @@ fn drive(rt: &(impl Abort + Alloc<A = Global>), run: &Run<'_>) -> Result<(), Fai
 type Answer = (&'static str, &'static str, &'static str);
 
 /// Asks each query over its text for its answer, and the plain program too.
-fn answer_all(rt: &(impl Abort + Alloc<A = Global>), answers: &[Answer]) -> Result<(), Fail> {
+fn answer_all<H: Abort + Alloc<A = Global> + Threads + Wait + Sync>(
+    rt: &H,
+    answers: &[Answer],
+) -> Result<(), Fail> {
     for answer in answers {
         let words = [answer.0];
-        drive(rt, &plain_run(&words, answer.1, 0, answer.2, ""))?;
+        let files = [("-", answer.1)];
+        drive(rt, &plain_run(&words, &files, 0, answer.2, ""))?;
         ask_plain(rt, answer.0, answer.1, answer.2)?;
     }
     Ok(())

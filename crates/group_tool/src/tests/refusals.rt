@@ -3,7 +3,9 @@
 use crate::tests::{Run, SUM_AND_COUNT, drive, plain_run};
 use std::alloc::Global;
 use std::process::Abort;
+use std::sync::Wait;
 use std::test::Fail;
+use std::thread::Threads;
 
 /// A word, and the line that refuses it.
 type Refusal = (&'static str, &'static str);
@@ -116,11 +118,38 @@ const FAULTS: [Refusal; 18] = [
     ),
 ];
 
+/// Words, their status, and the line that refuses them.
+type WordsRefusal = (&'static [&'static str], u8, &'static str);
+
+const WORDS: [WordsRefusal; 9] = [
+    (&[], 2, "words refused\n"),
+    (&["--help"], 2, "words refused\n"),
+    (&["--workers", "0", SUM_AND_COUNT], 2, "words refused\n"),
+    (&["--chunk", "0", SUM_AND_COUNT], 2, "words refused\n"),
+    (&["--rows", "1"], 2, "words refused\n"),
+    // the words come before the query, and the query before the sink
+    (&["--workers", "0", "{"], 2, "words refused\n"),
+    (&["--sink", "text", "{"], 3, "query refused: json\n"),
+    (&["--sink", "text", SUM_AND_COUNT], 2, "sink does not fit\n"),
+    (
+        &[
+            "--sink=number",
+            r#"{"schema":[["k","Date"]],"keys":["k"],"aggs":[]}"#,
+        ],
+        2,
+        "sink does not fit\n",
+    ),
+];
+
 /// Asks each word to be refused by its line.
-fn refuse_all(rt: &(impl Abort + Alloc<A = Global>), refusals: &[Refusal]) -> Result<(), Fail> {
+fn refuse_all<H: Abort + Alloc<A = Global> + Threads + Wait + Sync>(
+    rt: &H,
+    refusals: &[Refusal],
+) -> Result<(), Fail> {
     for refusal in refusals {
         let words = [refusal.0];
-        drive(rt, &plain_run(&words, "k,v\n1,5\n", 3, "", refusal.1))?;
+        let files = [("-", "k,v\n1,5\n")];
+        drive(rt, &plain_run(&words, &files, 3, "", refusal.1))?;
     }
     Ok(())
 }
@@ -135,34 +164,38 @@ fn queries_with_faults(rt: HostRuntime) -> Result<(), Fail> {
     refuse_all(&rt, &FAULTS)
 }
 
-/// No word, and two: they are counted before they are read.
 #[test]
-fn other_words_than_one(rt: HostRuntime) -> Result<(), Fail> {
-    drive(&rt, &plain_run(&[], "k,v\n1,5\n", 11, "", "not built\n"))?;
-    let twice = [SUM_AND_COUNT, SUM_AND_COUNT];
-    drive(&rt, &plain_run(&twice, "k,v\n1,5\n", 11, "", "not built\n"))?;
-    drive(
-        &rt,
-        &plain_run(&["{", "{"], "k,v\n1,5\n", 11, "", "not built\n"),
-    )
+fn words_that_are_refused(rt: HostRuntime) -> Result<(), Fail> {
+    for (words, status, line) in WORDS {
+        drive(
+            &rt,
+            &plain_run(words, &[("-", "k,v\n1,5\n")], status, "", line),
+        )?;
+    }
+    Ok(())
 }
 
 /// A query is refused before the input is begun, and also where its line is not written.
 #[test]
 fn before_the_input(rt: HostRuntime) -> Result<(), Fail> {
-    let missing = Run {
-        text: None,
-        ..plain_run(&["[]"], "", 3, "", "query refused: shape\n")
-    };
-    drive(&rt, &missing)?;
+    drive(
+        &rt,
+        &plain_run(&["[]"], &[], 3, "", "query refused: shape\n"),
+    )?;
     let failing = Run {
         input_fails: &[0, 1],
-        ..plain_run(&["{"], "k,v\n1,5\n", 3, "", "query refused: json\n")
+        ..plain_run(
+            &["{"],
+            &[("-", "k,v\n1,5\n")],
+            3,
+            "",
+            "query refused: json\n",
+        )
     };
     drive(&rt, &failing)?;
     let untold = Run {
         message_fails: &[0],
-        ..plain_run(&["{"], "k,v\n1,5\n", 3, "", "")
+        ..plain_run(&["{"], &[("-", "k,v\n1,5\n")], 3, "", "")
     };
     drive(&rt, &untold)
 }

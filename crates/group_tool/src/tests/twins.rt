@@ -1,34 +1,58 @@
 //! The tool beside the plain program, whose groups stand in a sorted list: both answer alike.
 
-use crate::read::CHUNK_ROWS;
+use crate::tests::{MemoryStores, texts_of};
 use crate::tool::run_tool;
-use crate::words::{checked_query, words_query};
-use pipe_columns::Text;
-use pipe_ends::{MemoryFiles, MemoryOutput, frame_text, read_chunks};
+use pipe_columns::{DataChunk, Schema, Text};
+use pipe_csv::frame_text;
+use pipe_global::OpenGate;
+use pipe_io::{MemoryFiles, MemoryOutput};
 use pipe_plain::{are_chunks, plain_answer};
+use pipe_source::{ChunkReader, CsvReadOptions};
+use pipe_wanted::chosen_schema;
 use std::alloc::Global;
 use std::fmt::Write;
 use std::process::Abort;
+use std::sync::Wait;
 use std::test::Fail;
+use std::thread::Threads;
+use tool_words::{Request, read_request};
 
-/// The greatest text that is asked about.
-const MOST: usize = 1 << 20;
+/// The rows of a chunk of the plain program.
+const CHUNK_ROWS: usize = 50000;
+
+/// The chunks of a text, which are few.
+fn chunks_of(alloc: Global, text: &[u8], schema: Schema) -> Result<Vec<DataChunk>, Fail> {
+    let options = CsvReadOptions {
+        chunk_size: CHUNK_ROWS,
+        n_rows: None,
+        row_index: None,
+        include_file_path: None,
+    };
+    let file = (Text::new(alloc, "a")?, Vec::from_slice(alloc, text)?);
+    let mut input = MemoryFiles::new(vec![in alloc; file]?, Vec::new(alloc));
+    let names = vec![in alloc; Text::new(alloc, "a")?]?;
+    let mut reader = ChunkReader::new(alloc, names, schema, options);
+    let mut chunks = Vec::new(alloc);
+    for _ in 0..9 {
+        match reader.next_chunk(alloc, &mut input) {
+            Ok(Some(chunk)) => chunks.push(chunk)?,
+            Ok(None) => return Ok(chunks),
+            Err(_) => return Err("a text that does not fit".into()),
+        }
+    }
+    Err("more chunks".into())
+}
 
 /// What the plain program answers to a query over a text.
 fn plain_text(alloc: Global, word: &str, text: &[u8]) -> Result<Vec<u8>, Fail> {
-    let words = vec![in alloc; Text::new(alloc, word)?]?;
-    let Ok(query) = words_query(alloc, &words) else {
-        return Err("no query".into());
+    let Ok(Request::Answer(question)) = read_request(alloc, &texts_of(alloc, &[word])?) else {
+        return Err("no question".into());
     };
-    let Ok(checked) = checked_query(alloc, &query) else {
+    let Ok(checked) = question.query.check(alloc) else {
         return Err("a query with a fault".into());
     };
-    if text.len() > MOST {
-        return Err("a greater text".into());
-    }
-    let Ok(chunks) = read_chunks(alloc, text, 1, &query.schema, CHUNK_ROWS) else {
-        return Err("a text that does not fit".into());
-    };
+    let schema = chosen_schema(alloc, &[], question.query.schema.fields())?;
+    let chunks = chunks_of(alloc, text, schema)?;
     if !are_chunks(&chunks, &checked) {
         return Err("other chunks".into());
     }
@@ -37,8 +61,8 @@ fn plain_text(alloc: Global, word: &str, text: &[u8]) -> Result<Vec<u8>, Fail> {
 }
 
 /// Asks the plain program for an answer.
-pub fn ask_plain(
-    rt: &(impl Abort + Alloc<A = Global>),
+pub fn ask_plain<H: Abort + Alloc<A = Global>>(
+    rt: &H,
     word: &str,
     text: &str,
     answer: &str,
@@ -48,14 +72,61 @@ pub fn ask_plain(
     Ok(())
 }
 
+/// Options that change no answer of one partition, by turns.
+fn options_of(turn: usize) -> &'static [&'static str] {
+    match turn {
+        0 => &[],
+        1 => &["--workers", "3", "--chunk", "97"],
+        _ => &[
+            "--spill-size",
+            "5",
+            "--buffer",
+            "7",
+            "--payloads",
+            "1",
+            "--chunk",
+            "50",
+            "--actions",
+            "dmd",
+        ],
+    }
+}
+
+/// The turn behind one of three.
+fn next_turn(turn: usize) -> usize {
+    match turn {
+        0 => 1,
+        1 => 2,
+        _ => 0,
+    }
+}
+
 /// What the tool answers.
-fn tool_text(alloc: Global, word: &str, text: &[u8]) -> Result<Vec<u8>, Fail> {
-    let words = vec![in alloc; Text::new(alloc, word)?]?;
+fn tool_text<H: Abort + Alloc<A = Global> + Threads + Wait + Sync>(
+    rt: &H,
+    options: &[&str],
+    word: &str,
+    text: &[u8],
+) -> Result<Vec<u8>, Fail> {
+    let alloc = rt.alloc();
+    let mut words = texts_of(alloc, options)?;
+    words.push(Text::new(alloc, word)?)?;
     let file = (Text::new(alloc, "-")?, Vec::from_slice(alloc, text)?);
     let mut input = MemoryFiles::new(vec![in alloc; file]?, Vec::new(alloc));
     let mut output = MemoryOutput::new(alloc, Vec::new(alloc));
     let mut messages = MemoryOutput::new(alloc, Vec::new(alloc));
-    if run_tool(alloc, &words, &mut input, &mut output, &mut messages) == 0 {
+    let mut maker = MemoryStores { alloc };
+    let end = run_tool(
+        rt,
+        alloc,
+        &words,
+        &mut input,
+        &mut output,
+        &mut messages,
+        &mut maker,
+        &OpenGate,
+    );
+    if end.status == 0 {
         Ok(Vec::from_slice(alloc, output.bytes())?)
     } else {
         Err("the tool refused".into())
@@ -109,26 +180,31 @@ const WANTED: [&str; 5] = [
     r#","maintain_order":true"#,
     r#","slice":[3,40]"#,
     r#","slice":[2,9],"maintain_order":true"#,
-    r#","slice":[2990,100]"#,
+    r#","slice":[890,100]"#,
 ];
 
 /// How many rows, and of how many values.
-const SIZES: [(u32, u32); 4] = [(0, 1), (40, 1), (700, 60), (5000, 3000)];
+const SIZES: [(u32, u32); 4] = [(0, 1), (40, 1), (700, 60), (1500, 900)];
 
-/// Asks both every query over a text.
-fn ask_both(rt: &(impl Abort + Alloc<A = Global>), text: &str) -> Result<(), Fail> {
-    let alloc = rt.alloc();
+/// Asks both every query over a text, the tool by each option in turn.
+fn ask_all<H: Abort + Alloc<A = Global> + Threads + Wait + Sync>(
+    rt: &H,
+    text: &str,
+) -> Result<(), Fail> {
+    let mut turn = 0;
     for keys in KEYS {
         for aggs in AGGS {
             for wanted in WANTED {
-                let word = format!(in alloc;
+                let word = format!(in rt.alloc();
                     r#"{{"schema":[["i","Int64"],["u","UInt8"],["b","Boolean"],["d","Date"],["t","String"],["x","Int64"]],"keys":{keys},"aggs":{aggs}{wanted}}}"#
                 )?;
-                let plain = plain_text(alloc, &word, text.as_bytes())?;
-                let own = tool_text(alloc, &word, text.as_bytes())?;
+                let plain = plain_text(rt.alloc(), &word, text.as_bytes())?;
+                let own = tool_text(rt, options_of(turn), &word, text.as_bytes())?;
                 assert!(rt; own.as_slice() == plain.as_slice());
+                turn = next_turn(turn);
             }
         }
+        turn = next_turn(turn);
     }
     Ok(())
 }
@@ -137,7 +213,7 @@ fn ask_both(rt: &(impl Abort + Alloc<A = Global>), text: &str) -> Result<(), Fai
 fn tool_and_plain_program_answer_alike(rt: HostRuntime) -> Result<(), Fail> {
     for size in SIZES {
         let text = made_text(rt.alloc(), size.0, size.1)?;
-        ask_both(&rt, &text)?;
+        ask_all(&rt, &text)?;
     }
     Ok(())
 }

@@ -1,0 +1,12 @@
+use Rattle.std.proofs.Common.{◌≡◌, All, length, option_map}
+use Rattle.group_tool.specs.Ended.{IsMade, stores_seen}
+use Rattle.group_tool.proofs.stores.make_stores.Given as goal
+
+-- each store so far is as it was made
+abbrev pub invariant-loop-partition : goal.invariant-loop-partition
+invariant-loop-partition g l =
+    let store = g.M.Store.SpillStore in
+    record {
+      made : All (IsMade (option_map (λ f. f.now) l.folder)) (stores_seen store.held store.told store.faults store.sure l.stores.items);
+      count : length l.stores.items ≡ l.partition;
+    }

@@ -1,0 +1,12 @@
+-- The text of a frame in the format that is asked for.
+use Rattle.std.specs.Prelude.{ℕ, List}
+use Rattle.pipe_columns.specs.Frame.{FrameData}
+use Rattle.pipe_csv.specs.Texts.{csv_text}
+use Rattle.pipe_words.specs.declared.plan.Format.{Format}
+use Rattle.pipe_words.specs.declared.plan.Format.TheVariants as format
+use Rattle.pipe_writers.specs.JsonText.{json_text}
+
+-- the text of a frame: CSV behind a line of names, or a line of JSON for each row
+abbrev pub text_in : Format → FrameData → List ℕ
+text_in format.Csv frame = csv_text frame
+text_in format.Json frame = json_text frame
