@@ -370,13 +370,9 @@ OPTION = re.compile(r"(?<![\w-])--[a-z][a-z-]*")
 
 
 def program_options():
-    found = set()
-    for path in files_below("crates/group_tool/src", ".rt"):
-        if "tests" not in path:
-            text = read(path)
-            found.update(re.findall(r'"(--[a-z][a-z-]*)"', text))
-            found.update(f"--{name}" for name in re.findall(r'\blong(?:\(| = )"([a-z][a-z-]*)"', text))
-    return found
+    """The options of the program's command, as pipe_words makes it."""
+    text = read("crates/pipe_words/src/command.rt")
+    return {f"--{name}" for name in re.findall(r'with_option\(alloc, command, "([a-z][a-z-]*)"\)', text)}
 
 
 def script_options(names):

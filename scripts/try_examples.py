@@ -71,7 +71,7 @@ def examples():
         found = list(blocks(lines))
         for at, (language, number, block, end) in enumerate(found):
             command = "\n".join(block)
-            if language != "sh" or SHIPPED not in command or "printf" not in command:
+            if language != "sh" or SHIPPED not in command or not re.search("printf|--generate", command):
                 continue
             if re.search(r"[\[:]X[\]}]", command):
                 for head, line, row in rows_behind(lines, end):
