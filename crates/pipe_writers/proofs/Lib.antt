@@ -4,5 +4,6 @@ pub mod LineFacts
 pub mod WriterFacts
 pub mod CsvFacts
 pub mod JsonFacts
+pub mod PlainFacts
 pub mod RowFacts
 pub mod TextFacts

@@ -11,4 +11,5 @@ pub mod LinesAdded
 pub mod WriterLaws
 pub mod CsvWritten
 pub mod JsonHeads
+pub mod PlainBytes
 pub mod Waiting

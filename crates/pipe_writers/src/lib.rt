@@ -8,6 +8,8 @@ mod csv_record;
 mod csv_writer;
 mod frame_writer;
 mod json_lines;
+mod json_plain;
+mod json_value;
 mod json_writer;
 mod kept_chunks;
 mod laws;

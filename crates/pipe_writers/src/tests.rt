@@ -49,14 +49,14 @@ fn output(alloc: Global, failing: u64) -> Result<MemoryOutput, AllocError> {
     Ok(MemoryOutput::new(alloc, Vec::from_slice(alloc, &[failing])?))
 }
 
-const ROWS: [&str; 4] = ["a", "x\"y", "", "\u{1}\\\n\u{7f}é"];
+const ROWS: [&str; 4] = ["abcdefgh", "x\"y", "", "\u{1}\\\n\u{7f}éab"];
 
 #[test]
 fn rows_become_csv(rt: HostRuntime) -> Result<(), Fail> {
     let alloc = rt.alloc();
     let mut writer = CsvBatchedWriter::new(alloc, output(alloc, 9)?, texts(alloc)?, true);
     let written = write_one(&mut writer, &frame_of(alloc, &ROWS)?);
-    let text = "t\na\n\"x\"\"y\"\n\"\"\n\"\u{1}\\\n\u{7f}é\"\n";
+    let text = "t\nabcdefgh\n\"x\"\"y\"\n\"\"\n\"\u{1}\\\n\u{7f}éab\"\n";
     assert!(rt; written == Ok(()) && writer.into_output().bytes() == text.as_bytes());
     Ok(())
 }
@@ -66,8 +66,8 @@ fn rows_become_json(rt: HostRuntime) -> Result<(), Fail> {
     let alloc = rt.alloc();
     let mut writer = JsonBatchedWriter::new(alloc, output(alloc, 9)?, texts(alloc)?);
     let written = write_one(&mut writer, &frame_of(alloc, &ROWS)?);
-    let text =
-        "{\"t\":\"a\"}\n{\"t\":\"x\\\"y\"}\n{\"t\":\"\"}\n{\"t\":\"\\u0001\\\\\\n\u{7f}é\"}\n";
+    let text = "{\"t\":\"abcdefgh\"}\n{\"t\":\"x\\\"y\"}\n{\"t\":\"\"}\n\
+        {\"t\":\"\\u0001\\\\\\n\u{7f}éab\"}\n";
     assert!(rt; written == Ok(()) && writer.into_output().bytes() == text.as_bytes());
     Ok(())
 }

@@ -22,8 +22,10 @@ loop-i-preserved c names are =
     let at : value ≡ get_or c.index-columns-i.result.values c.args.row value = rw c.values.ensures.values at c.index-values-row.is in
     let is : get_or values i value ≡ value = value_is c.args.frame.now.height columns i c.args.row c.index-columns-i.result value c.columns-columns.ensures.height within there c.requires.within at in
     let head : c.deref.result.now ≡ head_at names i = c.deref.ensures.value ∙ head_is names c.args.heads.now i c.index-heads-i.result are named c.index-heads-i.is in
-    let made : c.in_ok-text-2.text.items ≡ (c.loop-i.text.items ++ c.deref.result.now) ++ json_value value = c.in_ok-text-2.ensures ∙ ap (λ (bs : List ℕ). bs ++ json_value value) c.in_ok-text.ensures in
-    member_more names values i value _ c.loop-i.text.items c.deref.result.now c.in_ok-text-2.text.items named (omega (arith, wide, within)) is (c.loop-i.invariant names are) head made
+    let now : List ℕ = c.append_value.new.text.items in
+    let put : c.extend_from_slice.new.self.items ≡ c.loop-i.text.items ++ c.deref.result.now = c.in_ok-extend_from_slice.ensures.items in
+    let made : now ≡ (c.loop-i.text.items ++ c.deref.result.now) ++ json_value value = c.in_ok-append_value.ensures ∙ ap (λ (bs : List ℕ). bs ++ json_value value) put in
+    member_more names values i value _ c.loop-i.text.items c.deref.result.now now named (omega (arith, wide, within)) is (c.loop-i.invariant names are) head made
 
 pub returns : goal.returns
 returns c names are =
