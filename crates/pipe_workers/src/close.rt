@@ -73,6 +73,7 @@ impl<'a, S: SpillStore + Drop, R: Naming, G: Gate> GenericGroupby2<'a, S, R, G> 
         ensures closed { OnOk result (HasClosed R.run self.old.shares.worker self.new) }
         ensures stopped { OnErr result
             (HasStopped R.run self.old.shares.worker stop.Memory self.new) }
+        ensures turns { self.new.turns ≡ self.old.turns }
     {
         let _query = self.shared.query();
         match send_rests(rt, &self.shared, &mut self.table, &mut self.shares) {

@@ -34,6 +34,7 @@ impl<'a, S: SpillStore + Drop, R: Naming, G: Gate> GenericGroupby2<'a, S, R, G> 
             (next_position R.run self.old + 1) self.new) }
         ensures stopped { IfErr result
             (λ end. HasStopped R.run self.old.shares.worker end self.new) }
+        ensures open { self.new.closed ≡ self.old.closed }
     {
         let workers = self.shared.workers();
         let position = self.shares.worker() + self.turns * workers;
