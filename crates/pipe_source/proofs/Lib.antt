@@ -11,3 +11,4 @@ pub mod SourceFacts
 pub mod ChosenColumns
 pub mod RoundFacts
 pub mod ChunksFit
+pub mod PieceRows

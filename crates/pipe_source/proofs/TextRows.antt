@@ -50,7 +50,7 @@ ok-anywhere None a b v e = cc
 ok-anywhere (Some w) a b v e = ap Ok (same_Ok {E = Misfit} w v e)
 
 -- what reads in front, and what reads after it
-after-parts : {A : Type 0} (a : Result A Misfit) (rest : Result (List A) Misfit) (first : A) (more all : List A) → a ≡ Ok first → rest ≡ Ok more → all ≡ first ∷ more → after a rest ≡ Ok all
+pub after-parts : {A : Type 0} (a : Result A Misfit) (rest : Result (List A) Misfit) (first : A) (more all : List A) → a ≡ Ok first → rest ≡ Ok more → all ≡ first ∷ more → after a rest ≡ Ok all
 after-parts a rest first more all e h g = rw (e, h, g) refl
 
 -- the fields of a row read alike in any row

@@ -9,3 +9,4 @@ pub mod Next
 pub mod Source
 pub mod Rounds
 pub mod ReadOn
+pub mod PieceRows

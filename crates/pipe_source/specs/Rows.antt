@@ -1,5 +1,5 @@
 -- Of the proofs alone: rows that stand in a text, and what reading them tells.
-use Rattle.std.specs.Prelude.{◌≡◌, ◌≤◌, ◌<◌, ◌*◌, ℕ, Bool, true, false, List, [], ◌∷◌, length, take, drop, get_or, Option, Some, Result, Ok, Err, IfSome, ⊤}
+use Rattle.std.specs.Prelude.{◌≡◌, ◌≤◌, ◌<◌, ◌*◌, ◌-◌, ◌^◌, ℕ, Bool, true, false, List, [], ◌∷◌, length, take, drop, get_or, Option, Some, unwrap_or, Result, Ok, Err, IfSome, ⊤}
 use Rattle.pipe_columns.specs.declared.any_value.AnyValue.{AnyValue}
 use Rattle.pipe_columns.specs.declared.schema.Field.{Field}
 use Rattle.pipe_wanted.specs.Wanted.{chosen}
@@ -11,7 +11,7 @@ use Rattle.pipe_csv.specs.declared.csv_error.CsvError.TheVariants as csv_error
 use Rattle.pipe_io.specs.Files.{Files, IsWhole, file_of}
 use Rattle.pipe_io.specs.declared.whole_file.TheConstants.{MOST_FILE_BYTES}
 use Rattle.pipe_scan.specs.Records.{records_at}
-use Rattle.pipe_source.specs.CsvChunks.{Stop, file_rows, misfit, too_large}
+use Rattle.pipe_source.specs.CsvChunks.{Stop, file_rows, misfit, text_rows, too_large}
 use Rattle.pipe_source.specs.declared.read_options.CsvReadOptions.{CsvReadOptions}
 use Rattle.pipe_source.specs.declared.source_place.SourcePlace.{SourcePlace}
 use Rattle.pipe_source.specs.declared.file_text.FileText.{FileText}
@@ -41,6 +41,12 @@ pub record AreStarts (text : List ℕ) (at size count : ℕ) (starts : List ℕ)
   pub each : (k : ℕ) → k < length starts
       → (k * size < count) × IsStart text at (k * size) (get_or starts k 0)
   pub all : count ≤ length starts * size
+
+-- the wanted rows of a text are the first of the records from a place on, behind its header
+abbrev pub HasRowsFrom : ℕ → List Field → List ℕ → ℕ → Type 0
+HasRowsFrom file schema text begin = (wanted : Option ℕ)
+    → text_rows file wanted schema text
+    ≡ read_rows file 1 schema (take (unwrap_or wanted (2 ^ 64 - 1)) (records_at text begin))
 
 -- a text that was read whole and looked over has the wanted rows of its file
 pub record IsLoaded

@@ -11,6 +11,7 @@ ghost use Rattle.pipe_source.specs.Reader.{AreFew, Gives, StopsAt, given_fields,
 ghost use Rattle.pipe_csv.specs.declared.csv_error.CsvError.TheVariants as csv_error;
 
 use crate::kept_text::KeptText;
+use crate::looks::Alone;
 use crate::read_options::CsvReadOptions;
 use crate::reading::Reading;
 use crate::source_place::SourcePlace;
@@ -142,7 +143,7 @@ impl ChunkReader {
         ensures rows { self.new.at.rows ≡ self.old.at.rows }
         ensures chunks { self.new.at.chunks ≡ self.old.at.chunks }
     {
-        match self.what.next_text(alloc, input, self.text.at) {
+        match self.what.next_text(&Alone, alloc, input, self.text.at) {
             Ok(Some(text)) => {
                 self.text = text;
                 Ok(true)

@@ -8,7 +8,7 @@ ghost use Rattle.pipe_source.specs.Found.{Finds, StopsFrom};
 ghost use Rattle.pipe_source.specs.Rows.{IsLoaded, StopsTold};
 
 use crate::file_text::FileText;
-use crate::look_over::look_over;
+use crate::looks::Looks;
 use crate::read_options::CsvReadOptions;
 use crate::source_place::SourcePlace;
 use pipe_columns::{Field, Text};
@@ -39,7 +39,8 @@ fn is_numbered(index: &Option<(Text, u32)>, given: u128, count: usize) -> bool
 }
 
 /// Reads the file of a name whole, and looks over its wanted rows.
-fn load_file<I: InputFiles>(
+fn load_file<I: InputFiles, L: Looks>(
+    looks: &L,
     alloc: Global,
     input: &mut I,
     name: &Text,
@@ -47,6 +48,7 @@ fn load_file<I: InputFiles>(
     fields: &[Field],
     options: &CsvReadOptions,
 ) -> Result<FileText, CsvError>
+    requires ready { L.ready }
     requires few { at.rows ≤ 2 ^ 100 }
     requires size { 0 < options.now.chunk_size }
     ensures told { I.told input.new ≡ I.told input.old }
@@ -66,7 +68,7 @@ fn load_file<I: InputFiles>(
     };
     let wanted = wanted_after(options.n_rows, at.rows);
     let size = options.chunk_size;
-    let (begin, count, starts) = match look_over(alloc, &text, fields, at.file, wanted, size) {
+    let (begin, count, starts) = match looks.look(alloc, &text, fields, at.file, wanted, size) {
         Ok(found) => found,
         Err(error) => return Err(error),
     };
@@ -82,7 +84,8 @@ fn load_file<I: InputFiles>(
 }
 
 /// Reads files from a place on, up to the first that has wanted rows.
-pub(crate) fn find_rows<I: InputFiles>(
+pub(crate) fn find_rows<I: InputFiles, L: Looks>(
+    looks: &L,
     alloc: Global,
     input: &mut I,
     names: &[Text],
@@ -90,6 +93,7 @@ pub(crate) fn find_rows<I: InputFiles>(
     fields: &[Field],
     options: &CsvReadOptions,
 ) -> Result<Option<(usize, FileText)>, CsvError>
+    requires ready { L.ready }
     requires few { last.rows ≤ 2 ^ 100 }
     requires size { 0 < options.now.chunk_size }
     requires wanted { is_any_wanted (wanted_after options.now.n_rows last.rows) ≡ true }
@@ -107,7 +111,7 @@ pub(crate) fn find_rows<I: InputFiles>(
             chunks: last.chunks,
             rows: last.rows,
         };
-        match load_file(alloc, input, &names[i], at, fields, options) {
+        match load_file(looks, alloc, input, &names[i], at, fields, options) {
             Ok(found) => {
                 if found.count > 0 {
                     return Ok(Some((i, found)));

@@ -9,6 +9,10 @@ mod file_text;
 mod kept_text;
 mod laws;
 mod look_over;
+mod looks;
+mod piece_check;
+mod piece_rows;
+mod piece_starts;
 mod read_options;
 mod reading;
 mod round;
@@ -28,5 +32,7 @@ pub use source_place::SourcePlace;
 mod bad_text_tests;
 #[cfg(test)]
 mod memory_tests;
+#[cfg(test)]
+mod piece_tests;
 #[cfg(test)]
 mod tests;

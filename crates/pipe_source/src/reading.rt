@@ -11,6 +11,7 @@ ghost use Rattle.pipe_wanted.specs.Wanted.{chosen};
 use crate::file_load::{find_rows, wanted_after};
 use crate::file_text::FileText;
 use crate::kept_text::KeptText;
+use crate::looks::Looks;
 use crate::read_options::CsvReadOptions;
 use crate::row_push::push_rows;
 use crate::source_columns::make_chunk;
@@ -47,12 +48,14 @@ impl Reading {
     }
 
     /// The next file behind a place that has wanted rows, if there is one.
-    pub(crate) fn next_text<I: InputFiles>(
+    pub(crate) fn next_text<I: InputFiles, L: Looks>(
         &self,
+        looks: &L,
         alloc: Global,
         input: &mut I,
         last: SourcePlace,
     ) -> Result<Option<KeptText>, CsvError>
+        requires ready { L.ready }
         requires reading { IsReading self.now }
         requires place { IsPlace self.now last }
         ensures told { I.told input.new ≡ I.told input.old }
@@ -66,7 +69,8 @@ impl Reading {
             return Ok(None);
         }
         let fields = self.schema.fields();
-        match find_rows(alloc, input, &self.names, last, fields, &self.options) {
+        let names = &self.names;
+        match find_rows(looks, alloc, input, names, last, fields, &self.options) {
             Ok(Some((place, found))) => {
                 let FileText {
                     text,

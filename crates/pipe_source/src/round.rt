@@ -12,6 +12,7 @@ ghost use Rattle.pipe_source.specs.ReadOn.{HasReadNextText, HasReadOn, state_ahe
 ghost use Rattle.pipe_source.specs.Rounds.{StopsWithin};
 
 use crate::kept_text::KeptText;
+use crate::looks::{FEWEST_BYTES, SideBySide};
 use crate::reading::Reading;
 use crate::source_place::SourcePlace;
 use pipe_columns::DataChunk;
@@ -115,7 +116,12 @@ impl Reading {
         ensures cause { HasCause (I.faults input.old) (I.faults input.new)
             (IsErrOf result csv_error.Input) }
     {
-        let mut text = match self.next_text(alloc, input, last) {
+        let looks = SideBySide {
+            rt,
+            threads,
+            fewest: FEWEST_BYTES,
+        };
+        let mut text = match self.next_text(&looks, alloc, input, last) {
             Ok(Some(text)) => text,
             Ok(None) => return Ok(None),
             Err(error) => return Err(error),

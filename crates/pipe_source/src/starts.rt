@@ -1,6 +1,6 @@
 //! The places where the chunks of a text begin.
 
-ghost use Rattle.std.specs.Prelude.{◌≡◌, ◌<◌, ◌+◌, [], ℕ, List, OnOk};
+ghost use Rattle.std.specs.Prelude.{◌≡◌, ◌≤◌, ◌<◌, ◌+◌, [], ℕ, List, OnOk};
 ghost use Rattle.pipe_source.specs.Rows.{IsStart};
 ghost use Rattle.pipe_source.specs.Starts.{AreNoted};
 
@@ -41,5 +41,15 @@ impl Starts {
             self.until -= 1;
         }
         Ok(())
+    }
+
+    /// So many more rows, of which none begins a chunk.
+    pub(crate) fn pass(&mut self, rows: usize)
+        requires { rows ≤ self.old.until }
+        ensures size { self.new.size ≡ self.old.size }
+        ensures noted { (text : List ℕ) (at row : ℕ) → AreNoted text at row self.old
+            → AreNoted text at (row + rows) self.new }
+    {
+        self.until -= rows;
     }
 }

@@ -1,0 +1,103 @@
+//! A text that is cut into pieces behind the ends of lines, which are looked over side by side.
+
+ghost use Rattle.std.specs.Prelude.{◌≡◌, ◌≤◌, ◌<◌, ◌+◌, ℕ, IfOk, Result, get_or, length, true};
+ghost use Rattle.pipe_csv.specs.declared.csv_error.CsvError.{CsvError};
+ghost use Rattle.pipe_io.specs.declared.whole_file.TheConstants.{MOST_FILE_BYTES};
+ghost use Rattle.pipe_scan.specs.Lines.{has_no_quote};
+ghost use Rattle.pipe_source.specs.declared.piece_check.PieceRows.{PieceRows};
+ghost use Rattle.pipe_source.specs.PieceRows.{AreBounds, AreParts, IsPart, IsPieceAt};
+
+use crate::row_check::check_rows;
+use pipe_columns::Field;
+use pipe_csv::CsvError;
+use pipe_scan::piece_end;
+use std::alloc::{AllocError, Global};
+use std::thread;
+use std::thread::Threads;
+
+/// Where a piece of a text begins, how many rows it has, and the place of every so many of them,
+/// counted from where the piece begins.
+#[derive(Drop)]
+pub(crate) struct PieceRows {
+    pub(crate) low: usize,
+    pub(crate) count: usize,
+    pub(crate) places: Vec<usize>,
+}
+
+/// The bounds of the pieces of a text without a quote from a place on, each of so many bytes or a
+/// few more.
+pub(crate) fn piece_bounds(
+    alloc: Global,
+    text: &[u8],
+    begin: usize,
+    bytes: usize,
+) -> Result<Vec<usize>, AllocError>
+    requires plain { has_no_quote text.now ≡ true }
+    requires within { begin ≤ length text.now }
+    requires bytes { 0 < bytes }
+    ensures { IfOk result (λ v. AreBounds text.now begin (length text.now) v.items) }
+{
+    let mut bounds = Vec::new(alloc);
+    bounds.push(begin)?;
+    let mut low = begin;
+    while low < text.len() {
+        let end = piece_end(text, low, bytes);
+        bounds.push(end)?;
+        low = end;
+    }
+    Ok(bounds)
+}
+
+/// Looks over the rows of a piece of a text, by its number, and notes the place of every so many of
+/// them.
+fn check_piece(
+    alloc: Global,
+    text: &[u8],
+    bounds: &[usize],
+    n: usize,
+    fields: &[Field],
+    file: usize,
+    grain: usize,
+) -> Result<PieceRows, CsvError>
+    requires small { length text.now ≤ MOST_FILE_BYTES }
+    requires number { n + 1 < length bounds.now }
+    requires part { IsPart text.now (get_or bounds.now n 0) (get_or bounds.now (n + 1) 0) }
+    requires grain { 0 < grain }
+    ensures { IfOk result
+        (λ piece. IsPieceAt fields.now text.now bounds.now grain n piece) }
+{
+    let low = bounds[n];
+    let piece = &text[low..bounds[n + 1]];
+    match check_rows(alloc, piece, 0, fields, file, usize::MAX, grain) {
+        Ok((count, places)) => Ok(PieceRows { low, count, places }),
+        Err(error) => Err(error),
+    }
+}
+
+/// Looks over the pieces of a text, each in a thread of its own.
+pub(crate) fn check_each<H: Threads + Sync>(
+    rt: &H,
+    alloc: Global,
+    text: &[u8],
+    bounds: &[usize],
+    fields: &[Field],
+    file: usize,
+    grain: usize,
+) -> Result<Vec<Result<PieceRows, CsvError>>, AllocError>
+    requires small { length text.now ≤ MOST_FILE_BYTES }
+    requires some { 0 < length bounds.now }
+    requires parts { AreParts text.now bounds.now }
+    requires grain { 0 < grain }
+    ensures many { IfOk result (λ pieces. length pieces.items + 1 ≡ length bounds.now) }
+    ensures each { IfOk result (λ pieces. (n : ℕ) (d : Result PieceRows CsvError)
+        → n < length pieces.items → IfOk (get_or pieces.items n d)
+        (λ piece. IsPieceAt fields.now text.now bounds.now grain n piece)) }
+{
+    let count = bounds.len() - 1;
+    thread::map_indices(
+        rt,
+        alloc,
+        count,
+        &|n| { check_piece(alloc, text, bounds, n, fields, file, grain) },
+    )
+}
