@@ -2,7 +2,7 @@
 use Rattle.std.proofs.Common.{◌≡◌, ◌∙◌, ◌+◌, ◌≤◌, ◌<◌, ◌^◌, ◌==◌, ℕ, true, List, [], ◌∷◌, ◌++◌, length, map, refl, sym, ap, subst, arith, append_assoc, length-append, is_some, Option, Some, None, slice_get}
 use Rattle.std.specs.List.{All, AllZip, sum_by}
 use Rattle.std.specs.List.Sorted.{IsPermutation}
-use Rattle.std.proofs.lemmas.Bool.{and_parts, false≢true}
+use Rattle.std.proofs.lemmas.Bool.{false≢true}
 use Rattle.std.proofs.lemmas.List.{length-map, map-append}
 use Rattle.std.proofs.lemmas.List.Elements.{All-append, All-cons, All-head, All-nil, All-tail}
 use Rattle.std.proofs.lemmas.List.Sorted.{IsPermutation-refl}
@@ -10,8 +10,7 @@ use Rattle.std.proofs.lemmas.List.Sums.{sum_by-cons}
 use Rattle.pipe_columns.specs.Row.{Row}
 use Rattle.pipe_aggs.specs.CheckedQuery.{input_types}
 use Rattle.pipe_model.specs.Output.{key_types}
-use Rattle.pipe_model.specs.Query.{QueryTree}
-use Rattle.pipe_plan.specs.Overflow.{overflow, partition_of}
+use Rattle.pipe_plan.specs.Overflow.{partition_of}
 use Rattle.pipe_plan.specs.Replay.{joined_lists, replay, Replayed}
 use Rattle.pipe_plan.specs.Run.{Run}
 use Rattle.pipe_plan.specs.Whole.{rows_of}

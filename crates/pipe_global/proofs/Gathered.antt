@@ -1,13 +1,12 @@
 -- A closed partition that gathers its rows goes on standing for them.
-use Rattle.std.proofs.Common.{◌≡◌, ◌≢◌, ◌∙◌, ◌+◌, ◌-◌, ◌<◌, ◌≤◌, ◌^◌, ℕ, Bool, true, false, List, [], ◌∷◌, ◌++◌, length, map, refl, sym, ap, subst, arith, append_assoc, length-append, is_some, option_to_list, Option, Some, None, slice_get}
+use Rattle.std.proofs.Common.{◌≡◌, ◌≢◌, ◌∙◌, ◌+◌, ◌-◌, ◌<◌, ◌≤◌, ℕ, Bool, true, List, [], ◌∷◌, ◌++◌, length, map, refl, sym, ap, subst, arith, append_assoc, length-append, is_some, option_to_list, Option, Some, None, slice_get}
 use Rattle.std.specs.List.{All, AllZip, Contains, list_all, slice_index_or, sum_by}
 use Rattle.std.specs.List.Sorted.{IsPermutation}
 use Rattle.std.proofs.lemmas.Bool.{and_parts}
 use Rattle.std.proofs.lemmas.List.{append-nil, get_or-map, length-map, map-append}
 use Rattle.std.proofs.lemmas.List.Elements.{All-append, All-cons, All-head, All-nil, All-tail, Contains-append_left}
-use Rattle.std.proofs.lemmas.List.Sorted.{IsPermutation-append_comm, IsPermutation-append_right, IsPermutation-refl, IsPermutation-trans}
+use Rattle.std.proofs.lemmas.List.Sorted.{IsPermutation-append_comm, IsPermutation-append_right, IsPermutation-trans}
 use Rattle.std.proofs.lemmas.List.Sums.{get_or-le-sum_by, sum_by_push}
-use Rattle.pipe_columns.specs.Causes.{Rose}
 use Rattle.pipe_plan.specs.Replay.{joined_lists}
 use Rattle.pipe_plan.proofs.Replaying.{joined-append}
 use Rattle.pipe_spill.specs.FrameBytes.{frame_bytes}
@@ -21,11 +20,11 @@ use Rattle.pipe_tables.specs.Tables.{lies_in, Table}
 use Rattle.pipe_global.specs.declared.batch_error.BatchError.{BatchError}
 use Rattle.pipe_global.specs.declared.batch_error.BatchError.TheVariants as batch_error
 use Rattle.pipe_global.specs.declared.mark.Mark.{Mark}
-use Rattle.pipe_global.specs.Finishing.{AreOwn, CanGather, HoldsFewOwn, IsCause, IsMarked, KeepsRest, StandsForRows}
-use Rattle.pipe_global.specs.Gathering.{CanRead, HasAsked, HasGathered, HasRead, HasTakenFrame, HasTakenWaiting, IsLast}
+use Rattle.pipe_global.specs.Finishing.{AreOwn, CanGather, HasGathered, IsCause, IsMarked, KeepsRest, StandsForRows}
+use Rattle.pipe_global.specs.Gathering.{CanRead, HasAsked, HasRead, HasTakenFrame, HasTakenWaiting, IsLast}
 use Rattle.pipe_global.specs.Moving.{CanMerge, TookRows}
 use Rattle.pipe_global.specs.Partition.{PartitionSeen}
-use Rattle.pipe_global.specs.Refused.{IsKept, IsStoreKept}
+use Rattle.pipe_global.specs.Refused.{IsKept}
 use Rattle.pipe_global.proofs.Covering.{all-left}
 use Rattle.pipe_global.proofs.Moved.{same-none}
 

@@ -10,6 +10,7 @@ pub mod Asking
 pub mod Apart
 pub mod ByPlace
 pub mod Sourcing
+pub mod Gathering
 pub mod KeptTables
 pub mod EndedSource
 pub mod AnswerOfRun

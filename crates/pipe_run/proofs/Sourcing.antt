@@ -163,9 +163,10 @@ over-left s rs over = by (query_of s).keeps_order refl where
 
 -- ---- a refused call
 
--- partition by partition, where as many were given
-pub refused-left : (s new : GroupSourceSeen) (rs : List Row) → KeepsSource s.asked new.asked s.asked.given → new.asked.slice ≡ s.asked.slice → new.is_given ≡ s.is_given → chunks_left rs new ≡ chunks_left rs s
-refused-left s new rs keeps slice given = same new.asked keeps.query keeps.partitions.count slice keeps.given_is where
+-- of as many partitions, where as many were given
+pub alike-left : (s new : GroupSourceSeen) (rs : List Row) → new.asked.query ≡ s.asked.query → count_of new ≡ count_of s → new.asked.slice ≡ s.asked.slice → new.asked.given ≡ s.asked.given → new.is_given ≡ s.is_given
+    → chunks_left rs new ≡ chunks_left rs s
+alike-left s new rs query count slice at given = same new.asked query count slice at where
   same : (a : SourceSeen) → a.query ≡ s.asked.query → length a.partitions ≡ count_of s → a.slice ≡ s.asked.slice → a.given ≡ s.asked.given
       → chunks_left rs (record { asked = a; placed = new.placed; is_given = new.is_given }) ≡ chunks_left rs s
   same a query count slice at = λ i.
@@ -173,6 +174,10 @@ refused-left s new rs keeps slice given = same new.asked keeps.query keeps.parti
       if q.keeps_order
       then (if is_used_up (slice i) || (if q.keeps_order then given i else at i == count i) then [] else whole_chunk q rs (count i) (slice i) ∷ [])
       else chunks_from q rs (count i) (slice i) (at i) (count i - at i)
+
+-- partition by partition
+pub refused-left : (s new : GroupSourceSeen) (rs : List Row) → KeepsSource s.asked new.asked s.asked.given → new.asked.slice ≡ s.asked.slice → new.is_given ≡ s.is_given → chunks_left rs new ≡ chunks_left rs s
+refused-left s new rs keeps slice given = alike-left s new rs keeps.query keeps.partitions.count slice keeps.given_is given
 
 -- what is left where order is kept
 abbrev one_left : List Row → QueryTree → ℕ → Option (ℕ × ℕ) → Bool → List DataChunk

@@ -12,7 +12,7 @@ ghost use Rattle.pipe_run.specs.Ending.{AreKept, IsAnswerCause};
 ghost use Rattle.pipe_run.specs.Fed.{AreWholePartitions, HaveKept};
 ghost use Rattle.pipe_run.specs.Given.{joined_frames};
 ghost use Rattle.pipe_run.specs.Setting.{run_of};
-ghost use Rattle.pipe_run.specs.Sources.{chunks_left, HasAllRows, IsGiveCause, KeepsAsked};
+ghost use Rattle.pipe_run.specs.Sources.{chunks_left, HasAllRows, HaveGathered, IsGiveCause, KeepsAsked};
 
 use crate::begun::Begun;
 use crate::group_source::GroupBySource;
@@ -25,6 +25,7 @@ use pipe_spill::SpillStore;
 use pipe_workers::PausedWorker;
 use std::alloc::{AllocError, Global};
 use std::snapshot::Snapshot;
+use std::thread::Threads;
 
 /// The look at partitions that shows that their stores tell no more and no fewer frames than they hold.
 fn recall_told<S: SpillStore + Drop>(closed: &[ClosedPartition<S>])
@@ -67,9 +68,47 @@ fn joined_chunks<S: SpillStore + Drop>(
     }
 }
 
+/// Where several workers ran, what waits in the partitions of a source is merged in as many threads. A slice
+/// may leave partitions unasked, so under one it is merged as each is asked.
+fn merge_in_threads<S: SpillStore + Drop + Send, H: Threads + Sync>(
+    rt: &H,
+    workers: usize,
+    query: &CheckedQuery<'_>,
+    source: &mut GroupBySource<'_, S>,
+)
+    requires { source.old.asked.given ≡ 0 }
+    ensures asked { HaveGathered source.old.asked source.new.asked }
+    ensures left { (rs : List Row) → chunks_left rs source.new ≡ chunks_left rs source.old }
+    ensures stands { (rs : List Row) → HasAllRows rs source.old → HasAllRows rs source.new }
+{
+    if workers > 1 && query.slice().is_none() {
+        source.merge_waiting(rt, workers);
+    }
+}
+
+/// The chunks of a source of which nothing was given, below one another.
+fn all_chunks<S: SpillStore + Drop + Send, H: Threads + Sync>(
+    rt: &H,
+    alloc: Global,
+    workers: usize,
+    query: &CheckedQuery<'_>,
+    source: &mut GroupBySource<'_, S>,
+) -> Result<DataFrame, BatchError>
+    requires query { source.old.asked.query ≡ query.now }
+    requires none { source.old.asked.given ≡ 0 }
+    ensures frame { IfOk result (λ f. (rs : List Row) → HasAllRows rs source.old
+        → f ≡ joined_frames (query_tree query.now) (chunks_left rs source.old)) }
+    ensures kept { KeepsAsked source.old.asked source.new.asked }
+    ensures cause { IfErr result (λ e. IsGiveCause source.old.asked source.new.asked e) }
+{
+    merge_in_threads(rt, workers, query, source);
+    joined_chunks(alloc, query, source)
+}
+
 /// The groups of a run that has ended, from its closed partitions and what its workers kept. The
 /// partitions come back, in order.
-pub(crate) fn answer_of_run<S: SpillStore + Drop>(
+pub(crate) fn answer_of_run<S: SpillStore + Drop + Send, H: Threads + Sync>(
+    rt: &H,
     alloc: Global,
     begun: &Begun<'_, S>,
     chunks: &[Snapshot<DataChunk>],
@@ -97,7 +136,8 @@ pub(crate) fn answer_of_run<S: SpillStore + Drop>(
     };
     let slice = begun.query.slice();
     let mut source = GroupBySource::new(alloc, &begun.query, closed, local, slice);
-    let frame = match joined_chunks(alloc, &begun.query, &mut source) {
+    let workers = begun.limits.workers;
+    let frame = match all_chunks(rt, alloc, workers, &begun.query, &mut source) {
         Ok(frame) => frame,
         Err(error) => return (Err(error), source.into_parts()),
     };

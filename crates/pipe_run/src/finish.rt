@@ -84,7 +84,7 @@ impl<'a, S: SpillStore + Drop + Send> GenericRun<'a, S> {
             Ok(ended) => ended,
             Err((stop, closed)) => return (Err(stop.error()), stores_of(closed, room)),
         };
-        let (groups, closed) = answer_of_run(alloc, &begun, &chunks, closed, rested);
+        let (groups, closed) = answer_of_run(rt, alloc, &begun, &chunks, closed, rested);
         let frame = match groups {
             Ok(frame) => frame,
             Err(error) => return (Err(PipeError::of_groups(error)), stores_of(closed, room)),

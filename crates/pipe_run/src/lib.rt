@@ -14,6 +14,8 @@ mod group_source;
 mod kept_table;
 mod laws;
 mod limits;
+#[cfg(test)]
+mod merge_tests;
 mod opening;
 mod output;
 mod parts;

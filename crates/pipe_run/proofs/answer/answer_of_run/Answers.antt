@@ -44,8 +44,8 @@ returns-clause-answer g c =
     let sound : IsSound q = c.query-query.ensures.sound in
     λ all_tell.
     let rows = ended-rows r q closed local slice c.requires.run of_query refl c.requires.whole c.in-Ok.ensures.shape c.in-Ok.ensures.holds told all_tell sound c.requires.chunks in
-    ended-answer r q closed local c.in-Ok-joined_chunks.frame of_query c.requires.whole.count c.requires.run.limits.partitions rows
-    (subst (λ (v : GroupSourceSeen). (rs : List Row) → HasAllRows rs v → c.in-Ok-joined_chunks.frame ≡ joined_frames (query_tree q) (chunks_left rs v)) source c.in-Ok-joined_chunks.ensures.frame)
+    ended-answer r q closed local c.in-Ok-all_chunks.frame of_query c.requires.whole.count c.requires.run.limits.partitions rows
+    (subst (λ (v : GroupSourceSeen). (rs : List Row) → HasAllRows rs v → c.in-Ok-all_chunks.frame ≡ joined_frames (query_tree q) (chunks_left rs v)) source c.in-Ok-all_chunks.ensures.frame)
 
 pub returns-in-Err-clause-cause : goal.returns-in-Err-clause-cause
 returns-in-Err-clause-cause g c =
@@ -60,6 +60,6 @@ returns-in-Err-clause-cause g c =
     let local : Table = c.in-Ok.local in
     let source : c.new-source.result ≡ record { asked = unasked q closed local slice; placed = []; is_given = false } =
     c.new-source.ensures ∙ ap (λ (sl : Option (ℕ × ℕ)). record { asked = unasked q closed local sl; placed = []; is_given = false }) c.slice-slice.ensures in
-    let kept = subst (λ (v : GroupSourceSeen). KeepsAsked v.asked c.joined_chunks.new.source.asked) source c.in-Err.ensures.kept in
-    let cause = subst (λ (v : GroupSourceSeen). IsGiveCause v.asked c.joined_chunks.new.source.asked c.in-Err.error) source c.in-Err.ensures.cause in
-    ended-cause r q closed c.into_parts.result.items local c.joined_chunks.new.source.asked c.in-Err.error c.requires.whole kept c.into_parts.ensures cause
+    let kept = subst (λ (v : GroupSourceSeen). KeepsAsked v.asked c.all_chunks.new.source.asked) source c.in-Err.ensures.kept in
+    let cause = subst (λ (v : GroupSourceSeen). IsGiveCause v.asked c.all_chunks.new.source.asked c.in-Err.error) source c.in-Err.ensures.cause in
+    ended-cause r q closed c.into_parts.result.items local c.all_chunks.new.source.asked c.in-Err.error c.requires.whole kept c.into_parts.ensures cause

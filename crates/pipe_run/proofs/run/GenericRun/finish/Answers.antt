@@ -43,7 +43,7 @@ returns-in-Err-clause-back g c =
     c.self.inside.closed.items c.self.inside.rested.items c.self.inside.rows c.self.invariant.0 c.in-Err.closed.items stand c.stores_of-in-Err.ensures
 
 pub answer_of_run-groups-requires-clause-run : goal.answer_of_run-groups-requires-clause-run
-answer_of_run-groups-requires-clause-run g c =
+answer_of_run-groups-requires-clause-run g c κs within =
     subst (λ l. IsRunnable (run_of c.self.inside.begun false (map (λ m. m.value) l))) (sym c.deref-2.ensures.value)
     (runnable-shut c.self.inside.begun (map (λ m. m.value) c.self.inside.chunks.items) (map (λ p. p.journal) c.self.inside.closed.items) (map (λ p. p.store) c.self.inside.closed.items) c.args.self c.self.view_is [] c.self.inside.closed.items c.self.inside.rested.items c.self.inside.rows c.self.invariant.0)
 
