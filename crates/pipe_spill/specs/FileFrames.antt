@@ -1,13 +1,6 @@
--- Of the proofs alone: the path of a store's file, and what becomes of a file when a frame is written or read.
-use Rattle.std.specs.Prelude.{◌≡◌, ℕ, List, [], ◌∷◌, ◌++◌, codes, Option, Some, IfSome}
-use Rattle.std.specs.Fmt.{decimal}
+-- Of the proofs alone: what becomes of a file when a frame is written or read.
+use Rattle.std.specs.Prelude.{◌≡◌, ℕ, List, Option, Some, IfSome}
 use Rattle.std.specs.Io.KnownBytes.{Appends, Consumes, Keeps}
-
--- the path of a partition's file in a folder; a folder without a name has no file, so no path
-abbrev pub path_in : List ℕ → ℕ → List ℕ
-path_in [] partition = []
-path_in (b ∷ name) partition =
-    b ∷ name ++ codes "/partition-" ++ decimal partition ++ codes ".spill"
 
 -- a file was moved to a place, and its bytes stayed as they were
 pub record WasMoved {F : Type 0} (position : F → Option ℕ) (bytes : F → Option (List ℕ))

@@ -1,11 +1,23 @@
--- A store in a file: where its frames end, and its faults.
-use Rattle.std.specs.Prelude.{◌≡◌, false, IsTrue, ℕ, ◌+◌, ◌-◌, ◌==◌, if◌then◌else◌, List, [], ◌∷◌, ◌++◌, length, slice_index}
+-- A store in a file: the file's path, where its frames end, and its faults.
+use Rattle.std.specs.Prelude.{◌≡◌, false, IsTrue, ℕ, ◌+◌, ◌-◌, ◌==◌, if◌then◌else◌, List, [], ◌∷◌, ◌++◌, codes, length, slice_index}
+use Rattle.std.specs.Fmt.{decimal}
 use Rattle.std.proofs.lemmas.Bool.{false≢true}
 
 -- where each frame ends in the file, and how many calls failed
 pub record FileEnds : Type 0 where
   pub ends : List ℕ
   pub faults : ℕ
+
+-- a store in a file: the path of the file, and its frames
+pub record FileStoreSeen : Type 0 where
+  pub path : List ℕ
+  pub frames : FileEnds
+
+-- the path of a partition's file in a folder; a folder without a name has no file, so no path
+abbrev pub path_in : List ℕ → ℕ → List ℕ
+path_in [] partition = []
+path_in (b ∷ name) partition =
+    b ∷ name ++ codes "/partition-" ++ decimal partition ++ codes ".spill"
 
 -- how many frames there are
 abbrev pub held_of : FileEnds → ℕ
@@ -32,5 +44,5 @@ abbrev pub with_end : List ℕ → ℕ → List ℕ
 with_end ends size = ends ++ (next_start ends + size) ∷ []
 
 -- a sure store has never failed: none in a file is sure
-pub sure_never_failed : (s : FileEnds) → IsTrue false → faults_of s ≡ 0
+pub sure_never_failed : (s : FileStoreSeen) → IsTrue false → faults_of s.frames ≡ 0
 sure_never_failed s sure = absurd (false≢true sure)

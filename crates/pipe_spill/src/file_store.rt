@@ -2,8 +2,7 @@
 
 ghost use Rattle.std.specs.Prelude.{◌≡◌, ◌<◌, ◌+◌, ◌-◌, ◌^◌, [], length, string_bytes, IfOk, OnOk, OnErr, IsErrOf};
 ghost use Rattle.pipe_columns.specs.Causes.{HasCause};
-ghost use Rattle.pipe_spill.specs.FileFrames.{path_in};
-ghost use Rattle.pipe_spill.specs.FileStore.{faults_of, held_of, size_of, with_end};
+ghost use Rattle.pipe_spill.specs.FileStore.{faults_of, held_of, path_in, size_of, with_end};
 ghost use Rattle.pipe_spill.specs.declared.store.StoreError.TheVariants as store_error;
 
 use crate::file_frames::FileFrames;
@@ -15,7 +14,8 @@ use std::io;
 use std::marker::Model;
 
 /// Frames in a file of a folder. The file is open during a call alone, since thousands of open
-/// files pass a usual limit. It tells none of its frames; contracts see where each frame ends.
+/// files pass a usual limit. It tells none of its frames; contracts see its
+/// path and where each frame ends.
 #[derive(Drop)]
 pub struct FileStore<R> {
     rt: R,
@@ -24,19 +24,21 @@ pub struct FileStore<R> {
 }
 
 impl<R> Model for FileStore<R> {
-    ghost use Rattle.pipe_spill.specs.FileStore.{FileEnds};
+    ghost use Rattle.std.specs.Prelude.{string_bytes};
+    ghost use Rattle.pipe_spill.specs.FileStore.{FileStoreSeen};
 
-    ghost Value = { FileEnds };
+    ghost Value = { FileStoreSeen };
 
-    ghost view = { λ s. s.frames };
+    ghost view = { λ s. record { path = string_bytes s.path; frames = s.frames } };
 }
 
 impl<R: Files + Drop> FileStore<R> {
     /// The store of a partition in a folder. No file is touched yet; a folder that isn't there, as
     /// one without a name, fails the first put.
     pub fn new(rt: R, alloc: Global, dir: &Text, partition: usize) -> Result<Self, AllocError>
-        ensures ends { IfOk result (λ s. s.ends ≡ []) }
-        ensures faults { IfOk result (λ s. s.faults ≡ 0) }
+        ensures path { IfOk result (λ s. s.path ≡ path_in dir.now partition) }
+        ensures ends { IfOk result (λ s. s.frames.ends ≡ []) }
+        ensures faults { IfOk result (λ s. s.frames.faults ≡ 0) }
     {
         Ok(FileStore {
             rt,
@@ -52,9 +54,9 @@ impl<R: Files + Drop> SpillStore for FileStore<R> {
 
     ghost told = { λ s. None };
 
-    ghost held = { held_of };
+    ghost held = { λ s. held_of s.frames };
 
-    ghost faults = { faults_of };
+    ghost faults = { λ s. faults_of s.frames };
 
     ghost sure = { λ s. false };
 
@@ -63,20 +65,21 @@ impl<R: Files + Drop> SpillStore for FileStore<R> {
     ghost never_failed = { sure_never_failed };
 
     fn held(&self) -> u64
-        ensures { result ≡ held_of self.now }
+        ensures { result ≡ held_of self.now.frames }
     {
         self.frames.held()
     }
 
     fn put(&mut self, frame: &[u8]) -> Result<u64, StoreError>
-        requires room { held_of self.old < 2 ^ 64 - 1 }
-        ensures number { IfOk result (λ n. n ≡ held_of self.old) }
-        ensures held { OnOk result (held_of self.new ≡ held_of self.old + 1) }
-        ensures refused_held { OnErr result (held_of self.new ≡ held_of self.old) }
-        ensures cause { HasCause (faults_of self.old) (faults_of self.new)
+        requires room { held_of self.old.frames < 2 ^ 64 - 1 }
+        ensures number { IfOk result (λ n. n ≡ held_of self.old.frames) }
+        ensures held { OnOk result (held_of self.new.frames ≡ held_of self.old.frames + 1) }
+        ensures refused_held { OnErr result (held_of self.new.frames ≡ held_of self.old.frames) }
+        ensures cause { HasCause (faults_of self.old.frames) (faults_of self.new.frames)
             (IsErrOf result store_error.Failed) }
-        ensures ends { OnOk result (self.new.ends ≡ with_end self.old.ends (length frame.now)) }
-        ensures refused_ends { OnErr result (self.new.ends ≡ self.old.ends) }
+        ensures ends { OnOk result (self.new.frames.ends ≡ with_end self.old.frames.ends (length frame.now)) }
+        ensures refused_ends { OnErr result (self.new.frames.ends ≡ self.old.frames.ends) }
+        ensures path { self.new.path ≡ self.old.path }
     {
         let opened = open_to_put(&self.rt, self.path.as_str(), self.frames.held() == 0);
         match opened {
@@ -86,13 +89,14 @@ impl<R: Files + Drop> SpillStore for FileStore<R> {
     }
 
     fn get(&mut self, number: u64, into: &mut Vec<u8>) -> Result<(), StoreError>
-        requires held { number < held_of self.old }
+        requires held { number < held_of self.old.frames }
         ensures refused { OnErr result (into.new.items ≡ []) }
-        ensures held { held_of self.new ≡ held_of self.old }
-        ensures cause { HasCause (faults_of self.old) (faults_of self.new)
+        ensures held { held_of self.new.frames ≡ held_of self.old.frames }
+        ensures cause { HasCause (faults_of self.old.frames) (faults_of self.new.frames)
             (IsErrOf result store_error.Failed) }
-        ensures size { OnOk result (length into.new.items ≡ size_of self.old.ends number) }
-        ensures ends { self.new.ends ≡ self.old.ends }
+        ensures size { OnOk result (length into.new.items ≡ size_of self.old.frames.ends number) }
+        ensures ends { self.new.frames.ends ≡ self.old.frames.ends }
+        ensures path { self.new.path ≡ self.old.path }
     {
         into.clear();
         match fs::open(&self.rt, self.path.as_str()) {

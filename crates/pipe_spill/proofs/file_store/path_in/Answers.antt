@@ -2,7 +2,7 @@
 use Rattle.std.proofs.Common.{rules, ◌≡◌, ◌≢◌, ◌++◌, [], ◌∷◌, ℕ, List, IfOk, string_bytes, refl, sym, ◌∙◌, append_assoc}
 use Rattle.std.specs.Prelude.{codes}
 use Rattle.std.specs.Fmt.{decimal}
-use Rattle.pipe_spill.specs.FileFrames.{path_in}
+use Rattle.pipe_spill.specs.FileStore.{path_in}
 use Rattle.pipe_spill.proofs.file_store.path_in.Goals as goal
 
 -- the path in a folder that has a name
