@@ -1,5 +1,5 @@
 -- Lines that a CSV writer writes behind a text.
-use Rattle.std.proofs.Common.{◌≡◌, ◌∙◌, ◌+◌, ◌<◌, ◌++◌, [], ℕ, List, Option, Some, None, false, refl, sym, append-nil}
+use Rattle.std.proofs.Common.{◌≡◌, ◌∙◌, ◌+◌, ◌<◌, ◌≤◌, ◌++◌, [], ℕ, List, Option, Some, None, false, refl, sym, ap, append-nil, arith, length, length-append}
 use Rattle.std.specs.Io.KnownBytes.{Keeps}
 use Rattle.csv.specs.Writing.{default_writer, writer_setup, fields_written, has_written, writer_under, writer_pending, is_blank}
 use Rattle.pipe_columns.specs.Frame.{FrameData, row_at}
@@ -35,3 +35,12 @@ pub one_line_more : (f : FrameData) (from to : ℕ) (old : List ℕ) (before aft
     → ((text : List ℕ) → HasWritten before text [] → HasWritten after (text ++ csv_line (row_at f.columns to)) []) → WroteLines (rows_of f) from (to + 1) old after
 one_line_more f from to old before after within wrote adds =
     (wrote.0 ++ csv_line (row_at f.columns to), adds wrote.0 wrote.1, goes_on csv_line f from to old wrote.0 within wrote.2)
+
+-- what lies below a writer is no longer than what it has written
+pub under-within : (writer : TextWriter) (text : List ℕ) (most : ℕ) → most ≤ length (writer_under writer).items → HasWritten writer text [] → most ≤ length text
+under-within writer text most below has =
+    let under : List ℕ = (writer_under writer).items in
+    let parts : Some (under ++ writer_pending writer) ≡ Some (text ++ []) = has.bytes in
+    let same : under ++ writer_pending writer ≡ text ++ [] = cc in
+    let long : length text ≡ length under + length (writer_pending writer) = sym (ap length (same ∙ append-nil text)) ∙ length-append under (writer_pending writer) in
+    omega (arith, long, below)

@@ -1,6 +1,6 @@
 //! Rows as lines of CSV.
 
-ghost use Rattle.std.specs.Prelude.{◌≡◌, ◌++◌, ◌+◌, ◌<◌, ◌≤◌, ℕ, List, [], map, IfOk};
+ghost use Rattle.std.specs.Prelude.{◌≡◌, ◌++◌, ◌+◌, ◌<◌, ◌≤◌, ℕ, List, [], length, map, IfOk};
 ghost use Rattle.pipe_columns.specs.Frame.{FitsSchema, row_at};
 ghost use Rattle.pipe_csv.specs.Texts.{field_of};
 ghost use Rattle.pipe_csv.specs.Written.{AddsRecord, HasWritten};
@@ -80,6 +80,8 @@ fn write_rows(
         → IfOk result (λ next. WroteLines (rows_of frame.now) from next old writer.new) }
     ensures further { IfOk result (λ next. from < frame.now.height → from < next) }
     ensures within { IfOk result (λ next. next ≤ frame.now.height) }
+    ensures long { (text : List ℕ) → HasWritten writer.new text []
+        → IfOk result (λ next. next < frame.now.height → most ≤ length text) }
 {
     let mut digits = Buffer::new();
     for row in from..frame.height() {

@@ -101,6 +101,7 @@ fn append_lines(
         text.old.items text.new.items) }
     ensures further { IfOk result (λ next. from < frame.now.height → from < next) }
     ensures within { IfOk result (λ next. next ≤ frame.now.height) }
+    ensures long { IfOk result (λ next. next < frame.now.height → most ≤ length text.new.items) }
 {
     for row in from..frame.height() {
         append_line(text, scratch, heads, frame, row)?;

@@ -1,6 +1,6 @@
 //! Rows as lines of a text.
 
-ghost use Rattle.std.specs.Prelude.{◌≡◌, ◌++◌, ◌<◌, ◌≤◌, IfOk};
+ghost use Rattle.std.specs.Prelude.{◌≡◌, ◌++◌, ◌<◌, ◌≤◌, IfOk, length};
 ghost use Rattle.pipe_columns.specs.Frame.{FitsSchema};
 ghost use Rattle.pipe_writers.specs.LinesAdded.{GoesOn};
 ghost use Rattle.pipe_writers.specs.Rows.{rows_of};
@@ -43,5 +43,6 @@ pub trait Lines {
         ensures lines { IfOk result (λ p. GoesOn (shape self.now).line (rows_of frame.now) from
             p.next text.items p.text.items) }
         ensures further { IfOk result (λ p. from < frame.now.height → from < p.next) }
-        ensures within { IfOk result (λ p. p.next ≤ frame.now.height) };
+        ensures within { IfOk result (λ p. p.next ≤ frame.now.height) }
+        ensures long { IfOk result (λ p. p.next < frame.now.height → most ≤ length p.text.items) };
 }
