@@ -17,8 +17,8 @@ use Rattle.pipe_groups.specs.Shape.{Shape}
 use Rattle.pipe_groups.proofs.HoldFacts.{held_at-passing, holds-joined, holds-moved, holds-part}
 use Rattle.pipe_tables.specs.Tables.{groups_in, HoldFewTogether, lies_in, Table}
 use Rattle.pipe_global.specs.declared.mark.Mark.{Mark}
-use Rattle.pipe_global.specs.Finishing.{AreOwn, CanFinish, GivesGroups, GivesOwn, GivesOwnPlaced, GivesPlaced, HasGathered, IsEmptied, IsMarked, KeepsRest, other_rows, own_rows, StandAsBefore, StandFor, StandMoved, StandsForRows}
-use Rattle.pipe_global.specs.Gathering.{HasGiven, HasGivenPlaced, HasTakenLocal, IsReady, without_groups}
+use Rattle.pipe_global.specs.Finishing.{AreOwn, CanFinish, GivesGroups, GivesOwn, GivesOwnPlaced, GivesPlaced, IsEmptied, IsMarked, KeepsRest, other_rows, own_rows, StandAsBefore, StandFor, StandMoved, StandsForRows}
+use Rattle.pipe_global.specs.Gathering.{HasGathered, HasGiven, HasGivenPlaced, HasTakenLocal, IsReady, without_groups}
 use Rattle.pipe_global.specs.Partition.{PartitionSeen}
 use Rattle.pipe_global.proofs.Gathered.{kept-more, own-append, own-kept, own-none}
 

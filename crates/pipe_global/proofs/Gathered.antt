@@ -20,8 +20,8 @@ use Rattle.pipe_tables.specs.Tables.{lies_in, Table}
 use Rattle.pipe_global.specs.declared.batch_error.BatchError.{BatchError}
 use Rattle.pipe_global.specs.declared.batch_error.BatchError.TheVariants as batch_error
 use Rattle.pipe_global.specs.declared.mark.Mark.{Mark}
-use Rattle.pipe_global.specs.Finishing.{AreOwn, CanGather, HasGathered, IsCause, IsMarked, KeepsRest, StandsForRows}
-use Rattle.pipe_global.specs.Gathering.{CanRead, HasAsked, HasRead, HasTakenFrame, HasTakenWaiting, IsLast}
+use Rattle.pipe_global.specs.Finishing.{AreOwn, CanGather, IsCause, IsMarked, KeepsRest, StandsForRows}
+use Rattle.pipe_global.specs.Gathering.{CanRead, HasAsked, HasGathered, HasRead, HasTakenFrame, HasTakenWaiting, IsLast}
 use Rattle.pipe_global.specs.Moving.{CanMerge, TookRows}
 use Rattle.pipe_global.specs.Partition.{PartitionSeen}
 use Rattle.pipe_global.specs.Refused.{IsKept}

@@ -146,15 +146,6 @@ pub record KeepsRest (s new : PartitionSeen) : Type 0 where
     marks = new.marks;
   }
 
--- some of its rows were gathered into its table: it goes on, stands for the same rows, and no frame has
--- a mark that had none
-pub record HasGathered (s new : PartitionSeen) : Type 0 where
-  pub kept : KeepsRest s new
-  pub gathers : (more : ℕ) → CanGather s more → CanGather new more
-  pub stands : (rows : List SpillRow) → StandsForRows s rows → StandsForRows new rows
-  pub marks : (n : ℕ) → Contains (map (λ m. m.number) new.marks) n
-      → Contains (map (λ m. m.number) s.marks) n
-
 -- a local table, which holds what it held at the keys of other partitions, and nothing of this one
 pub record IsRestOf (s : PartitionSeen) (local new : Table) : Type 0 where
   pub shape : KeepsShape local new

@@ -12,7 +12,7 @@ use Rattle.pipe_groups.specs.Groups.{AreJoined, count_held, keys_of}
 use Rattle.pipe_groups.specs.QueryRows.{ArePlaced}
 use Rattle.pipe_tables.specs.Tables.{groups_in, KeepsShape, Table}
 use Rattle.pipe_global.specs.declared.mark.Mark.{Mark}
-use Rattle.pipe_global.specs.Finishing.{AreOwn, IsMarked, IsRestOf, StandMoved}
+use Rattle.pipe_global.specs.Finishing.{AreOwn, CanGather, IsMarked, IsRestOf, KeepsRest, StandMoved, StandsForRows}
 use Rattle.pipe_global.specs.Moving.{TookRows}
 use Rattle.pipe_global.specs.Partition.{PartitionSeen}
 use Rattle.pipe_global.specs.Refused.{IsStoreKept}
@@ -54,7 +54,15 @@ pub record HasTakenWaiting (s new : PartitionSeen) : Type 0 where
   pub taken : TookRows s.table new.table (joined_rows s.waiting)
   pub others : new ≡ record s { table = new.table; waiting = [] }
 
--- ---- all of it
+-- ---- some of it, and all
+
+-- some rows were gathered: it goes on, and stands for the same rows
+pub record HasGathered (s new : PartitionSeen) : Type 0 where
+  pub kept : KeepsRest s new
+  pub gathers : (more : ℕ) → CanGather s more → CanGather new more
+  pub stands : (rows : List SpillRow) → StandsForRows s rows → StandsForRows new rows
+  pub marks : (n : ℕ) → Contains (map (λ m. m.number) new.marks) n
+      → Contains (map (λ m. m.number) s.marks) n
 
 -- the local rows of the partition were taken in
 pub record HasTakenLocal (s new : PartitionSeen) (local left : Table) : Type 0 where

@@ -1,8 +1,8 @@
 //! Closed partitions give their groups.
 
-ghost use Rattle.std.specs.Prelude.{◌≡◌, ◌++◌, [], IfErr, IfOk, List, OnErr, OnOk};
+ghost use Rattle.std.specs.Prelude.{◌≡◌, ◌++◌, IfErr, IfOk, List, OnErr, OnOk};
 ghost use Rattle.pipe_spill.specs.declared.spill_row.SpillRow.{SpillRow};
-ghost use Rattle.pipe_global.specs.Finishing.{CanFinish, CanGather, GivesGroups, GivesOwn, GivesOwnPlaced, GivesPlaced, HasGathered, IsCause, IsEmptied, IsLeftOf, IsRestOf, KeepsRest, own_rows, StandFor, StandTogether};
+ghost use Rattle.pipe_global.specs.Finishing.{CanFinish, GivesGroups, GivesOwn, GivesOwnPlaced, GivesPlaced, IsCause, IsEmptied, IsLeftOf, IsRestOf, KeepsRest, own_rows, StandFor, StandTogether};
 
 use crate::batch_error::BatchError;
 use crate::closed::ClosedPartition;
@@ -10,21 +10,9 @@ use pipe_columns::DataFrame;
 use pipe_groups::PlacedGroups;
 use pipe_spill::SpillStore;
 use pipe_tables::AggHashTable;
-use std::alloc::{AllocError, Global};
+use std::alloc::Global;
 
 impl<S: SpillStore + Drop> ClosedPartition<S> {
-    /// What waits goes into its table, where there is room for all of it, so that less is left to do once
-    /// it is asked for its groups. Its frames stay in its store.
-    pub fn merge_waiting(&mut self, alloc: Global) -> Result<(), AllocError>
-        requires { CanGather self.old 0 }
-        ensures gathered { HasGathered self.old self.new }
-        ensures marks { self.new.marks ≡ self.old.marks }
-        ensures none { OnOk result (self.new.waiting ≡ []) }
-    {
-        self.contents.merge_waiting(alloc)?;
-        Ok(())
-    }
-
     /// Gives the groups of its rows and of the rows of a local table whose keys lie in it, in the
     /// order of their keys, under a slice, of which less is then left.
     ///

@@ -2,8 +2,8 @@
 
 ghost use Rattle.std.specs.Prelude.{◌≡◌, ◌<◌, ◌+◌, [], IfErr, IfOk, OnErr, OnOk, length};
 ghost use Rattle.pipe_spill.specs.SpillRow.{joined_rows};
-ghost use Rattle.pipe_global.specs.Finishing.{CanGather, HasGathered, IsCause};
-ghost use Rattle.pipe_global.specs.Gathering.{CanRead, HasAsked, HasRead, HasTakenFrame, HasTakenWaiting, IsLast};
+ghost use Rattle.pipe_global.specs.Finishing.{CanGather, IsCause};
+ghost use Rattle.pipe_global.specs.Gathering.{CanRead, HasAsked, HasGathered, HasRead, HasTakenFrame, HasTakenWaiting, IsLast};
 ghost use Rattle.pipe_global.specs.Moving.{CanMerge};
 ghost use Rattle.pipe_global.specs.Refused.{IsKept};
 
@@ -107,7 +107,7 @@ impl<S: SpillStore + Drop> Contents<S> {
     }
 
     /// What waits is merged, where there is room for all of it.
-    pub(crate) fn merge_waiting(&mut self, alloc: Global) -> Result<(), AllocError>
+    fn merge_waiting(&mut self, alloc: Global) -> Result<(), AllocError>
         requires { CanMerge self.old.table (joined_rows self.old.waiting) }
         ensures ok { OnOk result (HasTakenWaiting self.old self.new) }
         ensures err { OnErr result (IsKept self.old self.new self.old.failed) }

@@ -10,7 +10,7 @@ use Rattle.pipe_columns.specs.Frame.{FitsSchema, frame_of, FrameData, stacked}
 use Rattle.pipe_columns.specs.Row.{Row}
 use Rattle.pipe_aggs.specs.declared.query.Query.{Query}
 use Rattle.pipe_aggs.specs.QueryTrees.{query_tree}
-use Rattle.pipe_model.specs.Answer.{answer}
+use Rattle.pipe_model.specs.Answer.{answer, answer_of}
 use Rattle.pipe_model.specs.Output.{output_schema}
 use Rattle.pipe_plan.specs.Run.{all_rows, Run}
 use Rattle.pipe_plan.specs.Replay.{replay}
@@ -20,8 +20,8 @@ use Rattle.pipe_global.specs.declared.batch_error.BatchError.TheVariants as batc
 use Rattle.pipe_global.specs.declared.mark.Mark.{Mark}
 use Rattle.pipe_global.specs.Partition.{IsReplayed, marks_from, PartitionSeen, store_of, with_frames}
 use Rattle.pipe_run.specs.Ending.{IsAnswerCause}
-use Rattle.pipe_run.specs.Fed.{AreWholePartitions}
-use Rattle.pipe_run.specs.Given.{HasRows, joined_frames}
+use Rattle.pipe_run.specs.Fed.{AreWholePartitions, RoseFrom}
+use Rattle.pipe_run.specs.Given.{HasRows, joined_frames, SourceSeen}
 use Rattle.pipe_run.specs.Sources.{chunks_left, GroupSourceSeen, HasAllRows, is_over, IsGiveCause, KeepsAsked, LeavesOthers, query_of, unasked}
 use Rattle.pipe_run.proofs.Asking.{asked-same, asked-trans, others-same, others-trans}
 use Rattle.pipe_run.proofs.ByPlace.{stacked-fields}
@@ -67,20 +67,23 @@ module _ (s now new : GroupSourceSeen) (f : FrameData) (h : IsJoining s now f) (
 pub joining-all : (s now : GroupSourceSeen) (f : FrameData) → IsJoining s now f → is_over now ≡ true → (rs : List Row) → HasAllRows rs s → f ≡ joined_frames (query_of s) (chunks_left rs s)
 joining-all s now f h over rs all = ap (below f) (sym (over-left now rs over)) ∙ (h.rows rs all).1
 
--- ---- over the rows of a run
+-- ---- over the rows that its partitions stand for
 
-pub ended-answer : (r : Run) (query : Query) (closed : List PartitionSeen) (local : Table) (f : FrameData) → r.query ≡ query_tree query → length closed ≡ r.limits.partitions → 0 < r.limits.partitions
-    → HasRows (all_rows r) (unasked query closed local (query_tree query).slice)
-    → ((rs : List Row) → HasAllRows rs (record { asked = unasked query closed local (query_tree query).slice; placed = []; is_given = false })
-    → f ≡ joined_frames (query_tree query) (chunks_left rs (record { asked = unasked query closed local (query_tree query).slice; placed = []; is_given = false })))
-    → f ≡ answer r.chunks r.query r.limits.partitions
-ended-answer r query closed local f of_query count some rows joined =
-    let all : HasAllRows (all_rows r) (record { asked = unasked query closed local (query_tree query).slice; placed = []; is_given = false }) =
-    record { some = omega (arith, count, some); rows = rows; placed = λ p d lt. absurd (omega (arith, lt)) } in
-    joined (all_rows r) all
-    ∙ ap (joined_frames (query_tree query)) (all-left query closed local (all_rows r))
-    ∙ joined-chunks (query_tree query) (all_rows r) (length closed) (omega (arith, count, some))
-    ∙ (λ i. Rattle.pipe_model.specs.Answer.answer_of (all_rows r) (sym of_query i) (count i))
+-- the chunks of all partitions below one another are the answer
+pub turn-answer : (query : Query) (closed : List PartitionSeen) (local : Table) (slice : Option (ℕ × ℕ)) (f : FrameData) → slice ≡ (query_tree query).slice → 0 < length closed
+    → ((rs : List Row) → HasAllRows rs (record { asked = unasked query closed local slice; placed = []; is_given = false })
+    → f ≡ joined_frames (query_tree query) (chunks_left rs (record { asked = unasked query closed local slice; placed = []; is_given = false })))
+    → (rs : List Row) → HasRows rs (unasked query closed local slice) → f ≡ answer_of rs (query_tree query) (length closed)
+turn-answer query closed local slice f is some joined rs rows =
+    let all : HasAllRows rs (record { asked = unasked query closed local slice; placed = []; is_given = false }) = record { some = some; rows = rows; placed = λ p d lt. absurd (omega (arith, lt)) } in
+    joined rs all
+    ∙ ap (λ (sl : Option (ℕ × ℕ)). joined_frames (query_tree query) (chunks_left rs (record { asked = unasked query closed local sl; placed = []; is_given = false }))) is
+    ∙ ap (joined_frames (query_tree query)) (all-left query closed local rs)
+    ∙ joined-chunks (query_tree query) rs (length closed) some
+
+-- so over the rows of a run they are its answer
+pub ended-answer : (r : Run) (query : Query) (count : ℕ) (f : FrameData) → r.query ≡ query_tree query → count ≡ r.limits.partitions → f ≡ answer_of (all_rows r) (query_tree query) count → f ≡ answer r.chunks r.query r.limits.partitions
+ended-answer r query count f of_query is frame = frame ∙ (λ i. answer_of (all_rows r) (sym of_query i) (is i))
 
 -- ---- why there is none
 
@@ -105,7 +108,13 @@ untold : (more : List (List ℕ)) (o : Option (List (List ℕ))) → with_frames
 untold more None = λ e. refl
 untold more (Some frames) = λ e. absurd (false≢true (ap (λ (p : Option (List (List ℕ))). not (is_some p)) e))
 
-pub ended-cause : (r : Run) (query : Query) (closed after : List PartitionSeen) (local : Table) (new : Rattle.pipe_run.specs.Given.SourceSeen) (e : BatchError) → AreWholePartitions r closed
+-- a refusal tells of the partitions alone
+pub cause-of-parts : (s new : SourceSeen) (after : List PartitionSeen) (e : BatchError) → after ≡ new.partitions → IsGiveCause s new e → IsGiveCause s (record s { partitions = after }) e
+cause-of-parts s new after (batch_error.Store p) is cause = (cause.0, subst (RoseFrom s.partitions p) (sym is) cause.1)
+cause-of-parts s new after (batch_error.Damaged p n) is cause = cause
+cause-of-parts s new after batch_error.Memory is cause = tt
+
+pub ended-cause : (r : Run) (query : Query) (closed after : List PartitionSeen) (local : Table) (new : SourceSeen) (e : BatchError) → AreWholePartitions r closed
     → KeepsAsked (unasked query closed local (query_tree query).slice) new → after ≡ new.partitions
     → IsGiveCause (unasked query closed local (query_tree query).slice) new e → IsAnswerCause r closed after e
 ended-cause r query closed after local new (batch_error.Store p) whole kept is cause = (cause.1.0, λ d. subst (λ (ps : List PartitionSeen). Rose (slice_index_or closed p d).store.faults (slice_index_or ps p d).store.faults) (sym is) (cause.1.1 d))

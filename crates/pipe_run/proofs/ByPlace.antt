@@ -109,13 +109,18 @@ placed-below q rs n keys f firsts p (g ∷ gs) are parts =
 kept-groups : (q : QueryTree) (rs : List Row) (n m : ℕ) → q.keeps_order ≡ true → groups rs q n ≡ groups rs q m
 kept-groups q rs n m kept = rw kept refl
 
+-- all of them below one another
+pub placed-all : (q : QueryTree) (rs : List Row) (gs : List PlacedGroups) → ArePlacedParts q rs (length gs) gs
+    → ArePlacedRows q rs (flat_map (λ k. groups_in (length gs) q k rs) (range_with_len 0 (length gs))) (all_frames (output_schema q) gs) (all_firsts gs)
+placed-all q rs gs parts = placed-below q rs (length gs) [] (frame_of (output_schema q) []) [] 0 gs (record { frame_is = refl; firsts_are = refl }) (λ i d lt. subst (λ k. ArePlacedRows q rs (groups_in (length gs) q k rs) (slice_index_or gs i d).frame (slice_index_or gs i d).firsts) {x = i} {y = 0 + i} (omega arith) (parts i d lt))
+
 module _ (q : QueryTree) (rs : List Row) (gs : List PlacedGroups) (some : 0 < length gs) (kept : q.keeps_order ≡ true) (apart : HaveDistinctPlaces rs) (typed : All (IsRowOf q) rs)
     (parts : ArePlacedParts q rs (length gs) gs) where
   abbrev keys : List (List AnyValue)
   keys = flat_map (λ k. groups_in (length gs) q k rs) (range_with_len 0 (length gs))
 
   all-placed : ArePlacedRows q rs keys (all_frames (output_schema q) gs) (all_firsts gs)
-  all-placed = placed-below q rs (length gs) [] (frame_of (output_schema q) []) [] 0 gs (record { frame_is = refl; firsts_are = refl }) (λ i d lt. subst (λ k. ArePlacedRows q rs (groups_in (length gs) q k rs) (slice_index_or gs i d).frame (slice_index_or gs i d).firsts) {x = i} {y = 0 + i} (omega arith) (parts i d lt))
+  all-placed = placed-all q rs gs parts
 
   -- no place of all partitions stands twice
   pub all-apart : IsDistinct (eq_by_cmp place_cmp) (all_firsts gs)

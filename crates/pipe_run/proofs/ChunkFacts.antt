@@ -18,7 +18,8 @@ use Rattle.pipe_model.specs.Answer.{tuple_cmp}
 use Rattle.pipe_model.specs.Output.{key_types, output_schema}
 use Rattle.pipe_model.specs.Partitions.{groups_in, rows_in}
 use Rattle.pipe_model.specs.Query.{QueryTree}
-use Rattle.pipe_model.specs.Rows.{keys_of}
+use Rattle.pipe_model.specs.Groupable.{IsGroupable}
+use Rattle.pipe_model.specs.Rows.{HaveDistinctPlaces, keys_of}
 use Rattle.pipe_spill.specs.KeyTypes.{AreOfTypes}
 use Rattle.pipe_spill.specs.SpillRow.{spilled}
 use Rattle.pipe_spill.specs.declared.spill_row.SpillRow.{SpillRow}
@@ -50,6 +51,24 @@ count-groups q rs gs h =
     ∙ ap (λ (ks : List (List ℕ)). length ks) (sorted-codes types (keys_of rs) typed)
     ∙ length-map (sorted_keys tuple_cmp (keys_of rs)) (code types)
 
+-- groups that hold what a partition and the local rows of its keys stand for hold the rows of the partition
+hold-rows : (q : QueryTree) (rs : List Row) (locals : List SpillRow) (x : PartitionSeen) (gs : List Group) → IsGroupable q → All (IsRowOf q) rs → x.table.shape ≡ shape_of q → (part : StandsForPart q rs locals x)
+    → IsDistinct bytes_eq (Rattle.pipe_groups.specs.Groups.keys_of gs) → Holds x.table.shape.prototypes gs (part.rows ++ own_rows x locals) → HoldRowsOf q gs (rows_in x.partitions q x.number rs)
+hold-rows q rs locals x gs groupable typed shape part apart holds = record {
+  groupable = groupable;
+  typed = All-filter (λ r. partition x.partitions (key_types q) r.key == x.number) (IsRowOf q) rs typed;
+  apart = apart;
+  holds = subst (λ (sh : Shape). Holds sh.prototypes gs (spilled_all q (rows_in x.partitions q x.number rs))) shape
+      (holds-moved x.table.shape.prototypes gs (part.rows ++ own_rows x locals) (spilled_all q (rows_in x.partitions q x.number rs)) part.all holds);
+}
+
+-- so what it gives of them, with least places, are the placed rows of its keys
+pub part-gives : (q : QueryTree) (rs : List Row) (locals : List SpillRow) (x : PartitionSeen) (g : PlacedGroups) → IsGroupable q → All (IsRowOf q) rs → HaveDistinctPlaces rs → x.table.shape ≡ shape_of q
+    → (part : StandsForPart q rs locals x) → GivesPlaced x.table.shape (part.rows ++ own_rows x locals) g.frame g.firsts → ArePlacedRows q rs (groups_in x.partitions q x.number rs) g.frame g.firsts
+part-gives q rs locals x g groupable typed apart shape part gives =
+    part-placed q x.partitions x.number rs gives.groups (hold-rows q rs locals x gives.groups groupable typed shape part gives.apart gives.holds) apart g.frame g.firsts
+    (subst (λ (sh : Shape). ArePlaced sh gives.groups g.frame g.firsts) shape gives.placed)
+
 module _ (s : SourceSeen) (y : PartitionSeen) (local : Table) (slice : Option (ℕ × ℕ)) (is : IsSource s) (lt : s.given < length s.partitions)
     (kept : KeepsRest (slice_index_or s.partitions s.given y) y) (rs : List Row) (h : HasRows rs s) where
   abbrev q : QueryTree
@@ -69,14 +88,8 @@ module _ (s : SourceSeen) (y : PartitionSeen) (local : Table) (slice : Option (�
       → Holds here.table.shape.prototypes gs (part.rows ++ own_rows here h.stands.locals) → HoldRowsOf q gs (rows_in n q s.given rs)
   hold-part gs apart holds =
       let at = is.each s.given y lt in
-      let all = holds-moved here.table.shape.prototypes gs (part.rows ++ own_rows here h.stands.locals) (spilled_all q (rows_in here.partitions q here.number rs)) part.all holds in
-      let own : spilled_all q (rows_in here.partitions q here.number rs) ≡ spilled_all q (rows_in n q s.given rs) = ap (λ k. spilled_all q (rows_in k q here.number rs)) at.partitions ∙ ap (λ k. spilled_all q (rows_in n q k rs)) at.number in
-      record {
-        groupable = is.groupable;
-        typed = All-filter (λ r. partition n (key_types q) r.key == s.given) (IsRowOf q) rs h.typed;
-        apart = apart;
-        holds = subst (λ (l : List SpillRow). Holds (prototypes q) gs l) own (subst (λ (sh : Shape). Holds sh.prototypes gs (spilled_all q (rows_in here.partitions q here.number rs))) at.shape all);
-      }
+      subst (λ k. HoldRowsOf q gs (rows_in k q s.given rs)) at.partitions
+      (subst (λ k. HoldRowsOf q gs (rows_in here.partitions q k rs)) at.number (hold-rows q rs h.stands.locals here gs is.groupable h.typed at.shape part apart holds))
 
   -- so what it gives is the chunk of the partition
   pub given-chunk : (f : FrameData)

@@ -94,7 +94,7 @@ pub record HoldsFirst (r : Run) (rests waiting : List PausedWorker) (t : Table) 
   pub holds : Holds (shape_of r.query).prototypes t.groups (spilled_all r.query (kept_by r (length front)))
 
 -- no worker is left of a list without length
-pub none-left : (xs : List PausedWorker) → length xs ≡ 0 → xs ≡ []
+pub none-left : {A : Type 0} (xs : List A) → length xs ≡ 0 → xs ≡ []
 none-left [] e = refl
 none-left (x ∷ xs) e = absurd (omega (arith, e))
 

@@ -9,8 +9,8 @@ pub mod Joining
 pub mod Asking
 pub mod Apart
 pub mod ByPlace
+pub mod SideBySide
 pub mod Sourcing
-pub mod Gathering
 pub mod KeptTables
 pub mod EndedSource
 pub mod AnswerOfRun

@@ -43,7 +43,7 @@ module _ (s : PartitionSeen) (local new : Table) (is : IsRestOf s local new) whe
 
 -- ---- other partitions can still give their groups
 
-fewer : (x : PartitionSeen) (n m : ℕ) → m ≤ n → CanGather x n → CanGather x m
+pub fewer : (x : PartitionSeen) (n m : ℕ) → m ≤ n → CanGather x n → CanGather x m
 fewer x n m le can = record {
   exists = can.exists;
   limit = can.limit;

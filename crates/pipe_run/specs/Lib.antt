@@ -11,3 +11,4 @@ pub mod Rounds
 pub mod Stops
 pub mod Finish
 pub mod WholeRun
+pub mod Tasks

@@ -15,7 +15,6 @@ use Rattle.pipe_groups.specs.QueryRows.{ArePlacedRows}
 use Rattle.pipe_tables.specs.Tables.{Table}
 use Rattle.pipe_global.specs.declared.batch_error.BatchError.{BatchError}
 use Rattle.pipe_global.specs.declared.batch_error.BatchError.TheVariants as batch_error
-use Rattle.pipe_global.specs.Finishing.{HasGathered}
 use Rattle.pipe_global.specs.Partition.{PartitionSeen}
 use Rattle.pipe_run.specs.Ending.{AreKept}
 use Rattle.pipe_run.specs.Fed.{RoseFrom}
@@ -116,13 +115,6 @@ pub record KeepsAsked (s new : SourceSeen) : Type 0 where
   pub query : new.query ≡ s.query
   pub partitions : AreKept s.partitions new.partitions
   pub given : s.given ≤ new.given
-
--- each partition gathered some of its rows into its table, and all else is as before
-pub record HaveGathered (s new : SourceSeen) : Type 0 where
-  pub count : length new.partitions ≡ length s.partitions
-  pub each : (p : ℕ) (d : PartitionSeen) → p < length s.partitions
-      → HasGathered (slice_index_or s.partitions p d) (slice_index_or new.partitions p d)
-  pub others : new ≡ record s { partitions = new.partitions }
 
 -- the partitions that weren't asked are as before
 abbrev pub LeavesOthers : SourceSeen → SourceSeen → Type 0

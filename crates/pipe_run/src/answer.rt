@@ -3,25 +3,27 @@
 ghost use Rattle.std.specs.Prelude.{◌≡◌, ◌<◌, ◌^◌, All, IfErr, IfOk, List, ℕ, false, length, map, slice_index_or, true};
 ghost use Rattle.pipe_aggs.specs.QueryTrees.{query_tree};
 ghost use Rattle.pipe_columns.specs.Row.{Row};
-ghost use Rattle.pipe_model.specs.Answer.{answer};
+ghost use Rattle.pipe_model.specs.Answer.{answer, answer_of};
 ghost use Rattle.pipe_model.specs.Rows.{AreChunksOf};
 ghost use Rattle.pipe_plan.specs.Run.{tells};
 ghost use Rattle.pipe_spill.specs.Store.{HasHeld};
 ghost use Rattle.pipe_global.specs.Partition.{IsRunnable};
 ghost use Rattle.pipe_run.specs.Ending.{AreKept, IsAnswerCause};
 ghost use Rattle.pipe_run.specs.Fed.{AreWholePartitions, HaveKept};
-ghost use Rattle.pipe_run.specs.Given.{joined_frames};
+ghost use Rattle.pipe_run.specs.Given.{HasRows, IsSource, joined_frames};
 ghost use Rattle.pipe_run.specs.Setting.{run_of};
-ghost use Rattle.pipe_run.specs.Sources.{chunks_left, HasAllRows, HaveGathered, IsGiveCause, KeepsAsked};
+ghost use Rattle.pipe_run.specs.Sources.{chunks_left, HasAllRows, IsGiveCause, KeepsAsked, unasked};
 
 use crate::begun::Begun;
 use crate::group_source::GroupBySource;
 use crate::kept_table::kept_table;
+use crate::side_by_side::answer_side_by_side;
 use crate::stacking::put_below;
 use pipe_aggs::CheckedQuery;
 use pipe_columns::{DataChunk, DataFrame};
 use pipe_global::{BatchError, ClosedPartition};
 use pipe_spill::SpillStore;
+use pipe_tables::AggHashTable;
 use pipe_workers::PausedWorker;
 use std::alloc::{AllocError, Global};
 use std::snapshot::Snapshot;
@@ -68,41 +70,56 @@ fn joined_chunks<S: SpillStore + Drop>(
     }
 }
 
-/// Where several workers ran, what waits in the partitions of a source is merged in as many threads. A slice
-/// may leave partitions unasked, so under one it is merged as each is asked.
-fn merge_in_threads<S: SpillStore + Drop + Send, H: Threads + Sync>(
-    rt: &H,
-    workers: usize,
+/// The chunks of closed partitions and of a local table, below one another, partition by partition. The
+/// partitions come back, in order.
+fn answer_in_turn<S: SpillStore + Drop>(
+    alloc: Global,
     query: &CheckedQuery<'_>,
-    source: &mut GroupBySource<'_, S>,
-)
-    requires { source.old.asked.given ≡ 0 }
-    ensures asked { HaveGathered source.old.asked source.new.asked }
-    ensures left { (rs : List Row) → chunks_left rs source.new ≡ chunks_left rs source.old }
-    ensures stands { (rs : List Row) → HasAllRows rs source.old → HasAllRows rs source.new }
+    closed: Vec<ClosedPartition<S>>,
+    local: AggHashTable,
+    slice: Option<(usize, usize)>,
+) -> (Result<DataFrame, BatchError>, Vec<ClosedPartition<S>>)
+    requires source { IsSource (unasked query.now closed.items local slice) }
+    requires slice { slice ≡ (query_tree query.now).slice }
+    requires some { 0 < length closed.items }
+    ensures frame { IfOk result.0 (λ f. (rs : List Row)
+        → HasRows rs (unasked query.now closed.items local slice)
+        → f ≡ answer_of rs (query_tree query.now) (length closed.items)) }
+    ensures kept { AreKept closed.items result.1.items }
+    ensures cause { IfErr result.0 (λ e. IsGiveCause (unasked query.now closed.items local slice)
+        (unasked query.now result.1.items local slice) e) }
 {
-    if workers > 1 && query.slice().is_none() {
-        source.merge_waiting(rt, workers);
+    let mut source = GroupBySource::new(alloc, query, closed, local, slice);
+    match joined_chunks(alloc, query, &mut source) {
+        Ok(frame) => (Ok(frame), source.into_parts()),
+        Err(error) => (Err(error), source.into_parts()),
     }
 }
 
-/// The chunks of a source of which nothing was given, below one another.
-fn all_chunks<S: SpillStore + Drop + Send, H: Threads + Sync>(
+/// The groups of closed partitions and of a local table. Where several workers ran, the partitions are
+/// finished in as many threads; a slice may leave partitions unasked, so under one they are asked in turn.
+fn answer_of_parts<S: SpillStore + Drop + Send, H: Threads + Sync>(
     rt: &H,
     alloc: Global,
-    workers: usize,
     query: &CheckedQuery<'_>,
-    source: &mut GroupBySource<'_, S>,
-) -> Result<DataFrame, BatchError>
-    requires query { source.old.asked.query ≡ query.now }
-    requires none { source.old.asked.given ≡ 0 }
-    ensures frame { IfOk result (λ f. (rs : List Row) → HasAllRows rs source.old
-        → f ≡ joined_frames (query_tree query.now) (chunks_left rs source.old)) }
-    ensures kept { KeepsAsked source.old.asked source.new.asked }
-    ensures cause { IfErr result (λ e. IsGiveCause source.old.asked source.new.asked e) }
+    workers: usize,
+    closed: Vec<ClosedPartition<S>>,
+    local: AggHashTable,
+) -> (Result<DataFrame, BatchError>, Vec<ClosedPartition<S>>)
+    requires source { IsSource (unasked query.now closed.items local (query_tree query.now).slice) }
+    requires some { 0 < length closed.items }
+    ensures frame { IfOk result.0 (λ f. (rs : List Row)
+        → HasRows rs (unasked query.now closed.items local (query_tree query.now).slice)
+        → f ≡ answer_of rs (query_tree query.now) (length closed.items)) }
+    ensures kept { AreKept closed.items result.1.items }
+    ensures cause { IfErr result.0 (λ e. IsGiveCause
+        (unasked query.now closed.items local (query_tree query.now).slice)
+        (unasked query.now result.1.items local (query_tree query.now).slice) e) }
 {
-    merge_in_threads(rt, workers, query, source);
-    joined_chunks(alloc, query, source)
+    match query.slice() {
+        None if workers > 1 => answer_side_by_side(rt, alloc, workers, query, closed, local),
+        slice => answer_in_turn(alloc, query, closed, local, slice),
+    }
 }
 
 /// The groups of a run that has ended, from its closed partitions and what its workers kept. The
@@ -134,12 +151,6 @@ pub(crate) fn answer_of_run<S: SpillStore + Drop + Send, H: Threads + Sync>(
     let Ok(local) = kept_table(alloc, begun, chunks, rests) else {
         return (Err(BatchError::Memory), closed);
     };
-    let slice = begun.query.slice();
-    let mut source = GroupBySource::new(alloc, &begun.query, closed, local, slice);
     let workers = begun.limits.workers;
-    let frame = match all_chunks(rt, alloc, workers, &begun.query, &mut source) {
-        Ok(frame) => frame,
-        Err(error) => return (Err(error), source.into_parts()),
-    };
-    (Ok(frame), source.into_parts())
+    answer_of_parts(rt, alloc, &begun.query, workers, closed, local)
 }

@@ -8,8 +8,8 @@ ghost use Rattle.pipe_model.specs.Output.{output_schema};
 ghost use Rattle.pipe_model.specs.Partitions.{groups_in};
 ghost use Rattle.pipe_groups.specs.QueryRows.{ArePlacedRows};
 ghost use Rattle.pipe_run.specs.Given.{HasGiven, HasRows, is_used_up, IsSource, KeepsSource};
-ghost use Rattle.pipe_run.specs.Sources.{HaveGathered, IsPlacedFrame};
-ghost use Rattle.pipe_global.specs.Finishing.{CanGather, HasGathered, IsCause};
+ghost use Rattle.pipe_run.specs.Sources.{IsPlacedFrame};
+ghost use Rattle.pipe_global.specs.Finishing.{IsCause};
 
 use pipe_aggs::CheckedQuery;
 use pipe_columns::DataChunk;
@@ -19,8 +19,6 @@ use pipe_spill::SpillStore;
 use pipe_tables::AggHashTable;
 use std::alloc::Global;
 use std::marker::Model;
-use std::thread;
-use std::thread::Threads;
 
 /// Closed partitions and a local table, which give their groups partition by partition, with one slice
 /// or with the least places of their rows. Contracts see the query, the partitions, the local table,
@@ -197,51 +195,5 @@ impl<'a, S: SpillStore + Drop> AskedPartitions<'a, S> {
     {
         let AskedPartitions { partitions, .. } = self;
         partitions
-    }
-}
-
-/// What waits in a partition is merged, where there is room. Else it is merged once the partition is asked.
-fn merge_one<S: SpillStore + Drop>(alloc: Global, partition: &mut ClosedPartition<S>)
-    requires { CanGather partition.old 0 }
-    ensures { HasGathered partition.old partition.new }
-{
-    let _merged = partition.merge_waiting(alloc);
-}
-
-/// What waits in each partition is merged, in a thread beside others where one can be had.
-fn merge_each<S: SpillStore + Drop + Send, H: Threads + Sync>(
-    rt: &H,
-    alloc: Global,
-    threads: usize,
-    partitions: &mut [ClosedPartition<S>],
-)
-    requires threads { 0 < threads }
-    requires can { (p : ℕ) (d : _) → p < length partitions.old
-        → CanGather (slice_index_or partitions.old p d) 0 }
-    ensures count { length partitions.new ≡ length partitions.old }
-    ensures each { (p : ℕ) (d : _) → p < length partitions.old
-        → HasGathered (slice_index_or partitions.old p d) (slice_index_or partitions.new p d) }
-{
-    thread::for_each_mut(
-        rt,
-        partitions,
-        threads,
-        &|_, partition| { merge_one(alloc, partition) },
-    );
-}
-
-impl<'a, S: SpillStore + Drop + Send> AskedPartitions<'a, S> {
-    /// What waits in the partitions, of which none was asked, is merged in so many threads at most.
-    pub(crate) fn merge_waiting<H: Threads + Sync>(&mut self, rt: &H, threads: usize)
-        requires threads { 0 < threads }
-        requires none { self.old.given ≡ 0 }
-        ensures { HaveGathered self.old self.new }
-    {
-        let AskedPartitions {
-            alloc,
-            partitions,
-            ..
-        } = self;
-        merge_each(rt, *alloc, threads, partitions.as_mut_slice());
     }
 }

@@ -6,7 +6,7 @@ ghost use Rattle.pipe_columns.specs.Frame.{FitsSchema};
 ghost use Rattle.pipe_columns.specs.Row.{Row};
 ghost use Rattle.pipe_model.specs.Output.{output_schema};
 ghost use Rattle.pipe_run.specs.Given.{IsSource};
-ghost use Rattle.pipe_run.specs.Sources.{chunks_left, count_of, HasAllRows, HaveGathered, is_over, IsGiveCause, KeepsAsked, LeavesOthers, most_left, query_of, unasked};
+ghost use Rattle.pipe_run.specs.Sources.{chunks_left, count_of, HasAllRows, is_over, IsGiveCause, KeepsAsked, LeavesOthers, most_left, query_of, unasked};
 
 use crate::asked::AskedPartitions;
 use crate::by_place::{ask_rest, frame_by_place};
@@ -18,7 +18,6 @@ use pipe_spill::SpillStore;
 use pipe_tables::AggHashTable;
 use std::alloc::Global;
 use std::marker::Model;
-use std::thread::Threads;
 
 /// Gives the groups of closed partitions and of a local table under one slice: partition by partition,
 /// each in the order of keys, or in one chunk in the order of first rows, where the query keeps order.
@@ -201,22 +200,5 @@ impl<'a, S: SpillStore + Drop> GroupBySource<'a, S> {
     {
         let GroupBySource { asked, .. } = self;
         asked.into_parts()
-    }
-}
-
-impl<'a, S: SpillStore + Drop + Send> GroupBySource<'a, S> {
-    /// What waits in the partitions, of which none was asked, goes into their tables in so many threads at
-    /// most, so that less is left to do when they are asked. Where memory is wanting it waits on. Frames
-    /// stay in their stores.
-    pub fn merge_waiting<H: Threads + Sync>(&mut self, rt: &H, threads: usize)
-        requires threads { 0 < threads }
-        requires none { self.old.asked.given ≡ 0 }
-        ensures asked { HaveGathered self.old.asked self.new.asked }
-        ensures placed { self.new.placed ≡ self.old.placed }
-        ensures is_given { self.new.is_given ≡ self.old.is_given }
-        ensures left { (rs : List Row) → chunks_left rs self.new ≡ chunks_left rs self.old }
-        ensures stands { (rs : List Row) → HasAllRows rs self.old → HasAllRows rs self.new }
-    {
-        self.asked.merge_waiting(rt, threads);
     }
 }

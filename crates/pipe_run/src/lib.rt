@@ -7,6 +7,7 @@ mod begin;
 mod begun;
 mod by_place;
 mod chunk_check;
+mod cut;
 mod error;
 mod failed;
 mod finish;
@@ -28,10 +29,12 @@ mod row_tests;
 mod run;
 #[cfg(test)]
 mod run_tests;
+mod side_by_side;
 #[cfg(test)]
 mod spill_tests;
 mod stacking;
 mod stores;
+mod tasks;
 #[cfg(test)]
 mod test_runs;
 mod whole_run;

@@ -1,6 +1,6 @@
 -- Some frames were merged, as many as marks were taken away.
 use Rattle.std.proofs.Common.{◌≡◌, ◌+◌, length}
-use Rattle.pipe_global.specs.Finishing.{HasGathered}
+use Rattle.pipe_global.specs.Gathering.{HasGathered}
 use Rattle.pipe_global.proofs.contents.Contents.merge_frames.Given as goal
 
 abbrev pub invariant-loop-turn : goal.invariant-loop-turn

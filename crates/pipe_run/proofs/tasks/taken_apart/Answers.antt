@@ -1,0 +1,42 @@
+use Rattle.std.proofs.Common.{rules, ◌≡◌, ◌∙◌, ◌∷◌, ◌++◌, [], Ok, ap, arith, length, map, subst, sym}
+use Rattle.std.proofs.lemmas.List.{append-nil}
+use Rattle.std.specs.Vec.Iter.{into_iter_items}
+use Rattle.pipe_run.proofs.KeptTables.{none-left}
+use Rattle.pipe_run.proofs.Lists.{built-more}
+use Rattle.pipe_run.proofs.SideBySide.{HasTaken, taken-err}
+use Rattle.pipe_run.proofs.tasks.taken_apart.Goals as goal
+
+pub loop-task-preserved : goal.loop-task-preserved
+loop-task-preserved g c =
+    let old = into_iter_items c.loop-task.task-iterator in
+    let new = into_iter_items c.next.new.self in
+    let items : old ≡ c.in-Some.task ∷ new = search rules in
+    let size = ap (λ l. length l) items in
+    record {
+      goes_on = tt;
+      ends = tt;
+      room = omega (arith, size, c.push_reserved.ensures.len, c.push_reserved.ensures.capacity, c.loop-task.invariant.room);
+      placed_room = omega (arith, size, c.loop-task.invariant.placed_room);
+      partitions = built-more (λ t. t.partition) c.loop-task.closed.items c.push_reserved.new.self.items c.into_parts-partition.result.0 c.in-Some.task old new (map (λ t. t.partition) c.args.tasks.items) items c.push_reserved.ensures.items c.into_parts-partition.ensures.partition c.loop-task.invariant.partitions;
+      taken = subst (λ r. HasTaken r c.loop-task.placed.items (map (λ t. t.given) new) (map (λ t. t.given) c.args.tasks.items)) (sym c.or-refusal.ensures)
+          (taken-err c.loop-task.refusal c.loop-task.placed.items c.in-Err.error c.in-Some.task.given (map (λ t. t.given) old) (map (λ t. t.given) new) (map (λ t. t.given) c.args.tasks.items)
+          (ap (λ l. map (λ t. t.given) l) items) (sym c.into_parts-partition.ensures.given ∙ c.in-Err.is) c.loop-task.invariant.taken);
+    }
+
+pub returns-in-None-refusal-clause-partitions : goal.returns-in-None-refusal-clause-partitions
+returns-in-None-refusal-clause-partitions g c =
+    let none : into_iter_items c.loop-task.task-iterator ≡ [] = none-left (into_iter_items c.loop-task.task-iterator) (sym c.loop-task.task-iterator.rest.ok.0 ∙ c.in-None.ensures.steps.0) in
+    sym (append-nil c.loop-task.closed.items) ∙ ap (λ l. c.loop-task.closed.items ++ map (λ t. t.partition) l) (sym none) ∙ c.loop-task.invariant.partitions
+
+pub returns-in-None-refusal-clause-placed : goal.returns-in-None-refusal-clause-placed
+returns-in-None-refusal-clause-placed g c =
+    let none : into_iter_items c.loop-task.task-iterator ≡ [] = none-left (into_iter_items c.loop-task.task-iterator) (sym c.loop-task.task-iterator.rest.ok.0 ∙ c.in-None.ensures.steps.0) in
+    let given = map (λ t. t.given) (into_iter_items c.loop-task.task-iterator) in
+    let all = map (λ t. t.given) c.args.tasks.items in
+    let so_far = subst (λ r. HasTaken r c.loop-task.placed.items given all) c.in-None-refusal.is c.loop-task.invariant.taken in
+    sym (append-nil (map Ok c.loop-task.placed.items)) ∙ ap (λ l. map Ok c.loop-task.placed.items ++ map (λ t. t.given) l) (sym none) ∙ so_far
+
+pub returns-in-Some-refusal-clause-partitions : goal.returns-in-Some-refusal-clause-partitions
+returns-in-Some-refusal-clause-partitions g c =
+    let none : into_iter_items c.loop-task.task-iterator ≡ [] = none-left (into_iter_items c.loop-task.task-iterator) (sym c.loop-task.task-iterator.rest.ok.0 ∙ c.in-None.ensures.steps.0) in
+    sym (append-nil c.loop-task.closed.items) ∙ ap (λ l. c.loop-task.closed.items ++ map (λ t. t.partition) l) (sym none) ∙ c.loop-task.invariant.partitions

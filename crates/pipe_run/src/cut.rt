@@ -1,0 +1,34 @@
+//! A local table that is cut by partition.
+
+ghost use Rattle.std.specs.Prelude.{◌≡◌, ◌<◌, ℕ, IfOk, length, slice_index_or};
+ghost use Rattle.pipe_aggs.specs.QueryTrees.{query_tree};
+ghost use Rattle.pipe_groups.specs.Holds.{HoldFewer};
+ghost use Rattle.pipe_groups.specs.Shape.{shape_of};
+ghost use Rattle.pipe_run.specs.Tasks.{IsPartOf};
+
+use pipe_aggs::CheckedQuery;
+use pipe_tables::AggHashTable;
+use std::alloc::{AllocError, Global};
+
+/// For each of so many partitions, in order, a table of the groups of a local table whose keys lie there.
+pub(crate) fn cut_by_partition(
+    alloc: Global,
+    query: &CheckedQuery<'_>,
+    partitions: usize,
+    mut local: AggHashTable,
+) -> Result<Vec<AggHashTable>, AllocError>
+    requires some { 0 < partitions }
+    requires shape { local.shape ≡ shape_of (query_tree query.now) }
+    requires few { HoldFewer local.shape local.groups 0 }
+    ensures count { IfOk result (λ v. length v.items ≡ partitions) }
+    ensures parts { IfOk result (λ v. (p : ℕ) (d : _) → p < partitions
+        → IsPartOf partitions p local (slice_index_or v.items p d)) }
+{
+    let mut parts = Vec::new(alloc);
+    for partition in 0..partitions {
+        let mut part = AggHashTable::new(alloc, query, None)?;
+        part.combine_on_partition(partition, partitions, &mut local)?;
+        parts.push(part)?;
+    }
+    Ok(parts)
+}
