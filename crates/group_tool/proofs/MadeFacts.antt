@@ -1,5 +1,5 @@
 -- How a run over generated rows ends.
-use Rattle.std.proofs.Common.{◌≡◌, ◌<◌, ℕ, false, List, length, refl, subst, arith, inl, inr, Option, None}
+use Rattle.std.proofs.Common.{◌≡◌, ◌<◌, ℕ, false, List, refl, subst, arith, inl, inr, Option, None}
 use Rattle.std.specs.Prelude.{◌⊎◌, IsTrue}
 use Rattle.std.specs.List.{All, slice_index_or}
 use Rattle.pipe_aggs.specs.declared.query.Query.{Query}

@@ -1,5 +1,5 @@
 -- What is seen of stores, one after another.
-use Rattle.std.proofs.Common.{◌≡◌, ◌++◌, ℕ, Bool, List, [], ◌∷◌, map, refl, sym, subst, Option, None, Some, option_map}
+use Rattle.std.proofs.Common.{◌≡◌, ◌∙◌, ◌++◌, ℕ, Bool, List, [], ◌∷◌, ap, map, refl, sym, subst, Option, None, Some, option_map}
 use Rattle.std.specs.List.{All}
 use Rattle.std.proofs.lemmas.List.{map-append}
 use Rattle.std.proofs.lemmas.Option.{none-some}
@@ -24,3 +24,7 @@ made-more {S = S} held told faults sure folder items now x is before one =
 pub made-none : {S : Type 0} (held : S → ℕ) (told : S → Option (List (List ℕ))) (faults : S → ℕ) (sure : S → Bool) (folder : Option (List ℕ)) (items : List S)
     → items ≡ [] → All (IsMade folder) (stores_seen held told faults sure items)
 made-none held told faults sure folder items none = rw none (All-nil (IsMade folder))
+
+-- one path more
+pub path-more : {S : Type 0} (path : S → Option (List ℕ)) (items now : List S) (x : S) → now ≡ items ++ x ∷ [] → map path now ≡ map path items ++ path x ∷ []
+path-more path items now x is = ap (map path) is ∙ map-append path items (x ∷ [])

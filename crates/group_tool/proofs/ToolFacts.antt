@@ -1,10 +1,12 @@
 -- How a run of the tool ends.
-use Rattle.std.proofs.Common.{◌≡◌, ◌∙◌, ℕ, true, false, List, refl, sym, ap, subst, arith, inl, inr, Option, None, Some}
-use Rattle.std.specs.Prelude.{◌⊎◌, ◌<◌, IfSome, IsTrue, unwrap_or}
+use Rattle.std.proofs.Common.{◌≡◌, ◌≢◌, ◌∙◌, ℕ, true, false, List, refl, sym, ap, subst, arith, inl, inr, Option, None, Some}
+use Rattle.std.specs.Prelude.{◌⊎◌, ◌<◌, IfSome, is_some, IsSome, IsTrue, slice_index_or, unwrap_or}
 use Rattle.std.specs.Io.KnownBytes.{Appends}
 use Rattle.std.specs.List.{All}
 use Rattle.std.proofs.lemmas.Bool.{false≢true}
+use Rattle.std.proofs.lemmas.List.Elements.{All-get_or}
 use Rattle.std.proofs.lemmas.Option.{none-some}
+use Rattle.pipe_global.specs.Partition.{no_store}
 use Rattle.pipe_io.specs.Files.{Files}
 use Rattle.pipe_io.specs.Output.{WroteFront}
 use Rattle.pipe_model.specs.Answer.{answer}
@@ -25,12 +27,12 @@ use Rattle.group_tool.specs.declared.fault.ToolFault.TheVariants as fault
 use Rattle.group_tool.specs.declared.status.TheConstants.{DAMAGED, DONE, INPUT_REFUSED, NO_MEMORY, QUERY_REFUSED, STORE_FAILED, WORDS_REFUSED}
 use Rattle.group_tool.specs.Asking.{asked_run, stop_due}
 use Rattle.group_tool.specs.Formats.{text_in}
-use Rattle.group_tool.specs.Ended.{IsSound}
+use Rattle.group_tool.specs.Ended.{HasFailed, HasUntold, IsSound}
 use Rattle.group_tool.specs.Faults.{IsCaused, refusal_status, status_of}
 use Rattle.group_tool.specs.Inside.{EndsMade, EndsRefused, IsLeft, IsUnread}
 use Rattle.group_tool.specs.Headline.{answer_text, HasAnswer, HasNoRun, HasRun, HasRunTo, HasStopped, IsAnswerWritten, IsBegun, IsWritten}
 use Rattle.group_tool.specs.MadeRun.{HasMadeLines, TellAnswer}
-use Rattle.group_tool.specs.Status.{due_status, EndsAsDue, EndsUnread, FrameDamaged, is_answer, is_unread, IsRefusal, stop_status, StoreFailed}
+use Rattle.group_tool.specs.Status.{due_status, EndsAsDue, EndsUnread, FrameDamaged, is_answer, is_unread, IsDue, IsRefusal, stop_status, StoreFailed}
 use Rattle.group_tool.proofs.RunFacts.{replayed-are, told-made}
 
 -- ---- a run that was answered
@@ -287,3 +289,45 @@ left-any fault.TooLarge a told journals stores left = inr (inl left)
 left-any (fault.Store p) a told journals stores left = inr (inl left)
 left-any (fault.Damaged p n) a told journals stores left = inr (inl left)
 left-any fault.Memory a told journals stores left = left
+
+-- ---- stores
+
+-- a fault that is told by another status isn't want of memory
+pub told-otherwise : (o : Option ToolFault) (f : ToolFault) (status : ℕ) → o ≡ Some f → (status ≢ NO_MEMORY → status ≡ status_of f) → status ≢ NO_MEMORY → o ≡ Some fault.Memory → ⊥
+told-otherwise o f status has told other is = other (told other ∙ ap status_of (some-is f fault.Memory (sym has ∙ is)))
+
+-- ---- where nothing fails
+
+-- no sound store has failed
+none-failed : (stores : List StoreSeen) (p : ℕ) → All IsSound stores → HasFailed stores p → ⊥
+none-failed stores p sound failed =
+    let at : IsSound (slice_index_or stores p no_store) = All-get_or IsSound stores p no_store failed.within sound in
+    omega (arith, at.sound, failed.failed)
+
+-- each sound store tells
+none-untold : (stores : List StoreSeen) (p n : ℕ) → All IsSound stores → HasUntold stores p n → ⊥
+none-untold stores p n sound untold =
+    let at : IsSound (slice_index_or stores p no_store) = All-get_or IsSound stores p no_store untold.within sound in
+    false≢true (sym (ap (λ (o : Option (List (List ℕ))). is_some o) untold.untold) ∙ at.told)
+
+-- where 0 is due and nothing failed, a fault is want of memory
+calm-fault : (f : ToolFault) (a : Asked) (files : Files) (stores : List StoreSeen) → IsCaused f a (Some files) stores → due_status a files ≡ DONE → All IsSound stores
+    → (f ≡ fault.InputFailed → ⊥) → (f ≡ fault.OutputFailed → ⊥) → status_of f ≡ NO_MEMORY
+calm-fault (fault.Refused r) a files stores cause due sound input output = absurd (refusal-not-done r (subst (λ (b : Asked). due_status b files ≡ DONE) cause due))
+calm-fault (fault.Missing file) a files stores cause due sound input output = absurd (omega (arith, due, stop-due a files _ cause))
+calm-fault (fault.Header file) a files stores cause due sound input output = absurd (omega (arith, due, stop-due a files _ cause))
+calm-fault (fault.Width file row) a files stores cause due sound input output = absurd (omega (arith, due, stop-due a files _ cause))
+calm-fault (fault.Field file row column) a files stores cause due sound input output = absurd (omega (arith, due, stop-due a files _ cause))
+calm-fault fault.InputFailed a files stores cause due sound input output = absurd (input refl)
+calm-fault fault.OutputFailed a files stores cause due sound input output = absurd (output refl)
+calm-fault fault.TooLarge a files stores cause due sound input output = absurd (omega (arith, due, stop-due a files _ cause))
+calm-fault (fault.Store p) a files stores cause due sound input output = absurd (none-failed stores p sound cause.1)
+calm-fault (fault.Damaged p n) a files stores cause due sound input output = absurd (none-untold stores p n sound cause.1)
+calm-fault fault.Memory a files stores cause due sound input output = refl
+
+-- and so it is told
+pub told-complete : (f : ToolFault) (a : Asked) (told : Option Files) (stores : List StoreSeen) (status : ℕ) → IsCaused f a told stores → (status ≡ status_of f) ⊎ (status ≡ NO_MEMORY)
+    → IsSome told → IsDue DONE a told → All IsSound stores → (f ≡ fault.InputFailed → ⊥) → (f ≡ fault.OutputFailed → ⊥) → status ≡ NO_MEMORY
+told-complete f a told stores status cause (inr is) known due sound input output = is
+told-complete f a None stores status cause (inl is) known due sound input output = absurd (false≢true known)
+told-complete f a (Some files) stores status cause (inl is) known due sound input output = is ∙ calm-fault f a files stores cause due sound input output

@@ -1,5 +1,5 @@
--- What is read for what is asked, and the run that is made over it.
-use Rattle.std.specs.Prelude.{Bool, false, List, Option, None, is_some}
+-- What is read for what is asked, the run that is made over it, and where its stores lie.
+use Rattle.std.specs.Prelude.{Bool, false, ℕ, List, [], Option, None, is_some}
 use Rattle.pipe_columns.specs.declared.data_chunk.DataChunk.{DataChunk}
 use Rattle.pipe_io.specs.Files.{Files}
 use Rattle.pipe_model.specs.Query.{QueryTree}
@@ -8,6 +8,7 @@ use Rattle.pipe_source.specs.CsvChunks.{csv_chunks, CsvChunks, Stop}
 use Rattle.pipe_source.specs.declared.read_options.CsvReadOptions.{CsvReadOptions}
 use Rattle.pipe_words.specs.Plans.{PlanSeen}
 use Rattle.tool_run.specs.Reading.{end_of}
+use Rattle.tool_stores.specs.StorePath.{store_paths}
 use Rattle.tool_words.specs.Asked.{Asked, asks, files_named, makes, refused}
 
 -- how the files of a plan are read
@@ -45,3 +46,10 @@ abbrev pub has_folder : Asked → Bool
 has_folder (refused r) = false
 has_folder (asks p q) = is_some p.spill_dir
 has_folder (makes p m) = is_some p.spill_dir
+
+-- the paths of the stores that a run is due: those of its folder, one a partition, and none for refused
+-- words
+abbrev pub due_paths : Asked → List (Option (List ℕ))
+due_paths (refused r) = []
+due_paths (asks p q) = store_paths p.spill_dir p.limits.partitions
+due_paths (makes p m) = store_paths p.spill_dir p.limits.partitions

@@ -1,6 +1,6 @@
 //! The lines that tell of a run over generated rows.
 
-ghost use Rattle.std.specs.Prelude.{◌≡◌, ◌<◌, ◌⊎◌, All, IfSome, None, Option, Some, true};
+ghost use Rattle.std.specs.Prelude.{◌≡◌, ◌≢◌, ◌<◌, ◌⊎◌, ◌++◌, All, IfSome, None, Option, Some, true};
 ghost use Rattle.std.specs.Io.KnownBytes.{Appends};
 ghost use Rattle.pipe_columns.specs.Causes.{Rose};
 ghost use Rattle.pipe_aggs.specs.Faults.{first_fault};
@@ -12,9 +12,10 @@ ghost use Rattle.pipe_words.specs.Plans.{CanRun, plan_seen};
 ghost use Rattle.tool_made.specs.MadeQuery.{made_tree};
 ghost use Rattle.tool_run.specs.MadeLines.{made_lines};
 ghost use Rattle.tool_words.specs.Asked.{does_keep, makes};
+ghost use Rattle.group_tool.specs.Asking.{due_paths};
 ghost use Rattle.group_tool.specs.Ended.{IsSound};
 ghost use Rattle.group_tool.specs.Faults.{IsCaused};
-ghost use Rattle.group_tool.specs.Headline.{IsBegun, IsWritten};
+ghost use Rattle.group_tool.specs.Headline.{HasNoRun, IsBegun, IsWritten};
 ghost use Rattle.group_tool.specs.Inside.{IsBefore, IsLeft, IsUnread};
 ghost use Rattle.group_tool.specs.declared.fault.ToolFault.TheVariants as fault;
 
@@ -94,6 +95,10 @@ pub fn answer_made<O: Output, M: StoreMaker, G: Gate + Sync, H: Threads + Wait +
         (O.told output.old) (O.told output.new) result.journals result.stores }
     ensures unread { IfSome result.fault (λ f. IsUnread f) }
     ensures in_memory { question.plan.spill_dir ≡ None → All IsSound result.stores }
+    ensures stores_made { result.fault ≢ Some fault.Memory → M.made maker.new ≡ M.made maker.old
+        ++ due_paths (makes (plan_seen question.plan) question.rows) }
+    ensures memory_made { HasNoRun result.journals result.stores ⊎ (M.made maker.new
+        ≡ M.made maker.old ++ due_paths (makes (plan_seen question.plan) question.rows)) }
 {
     let partitions = question.plan.limits.partitions;
     let rows = question.rows.rows;

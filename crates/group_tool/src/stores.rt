@@ -1,6 +1,7 @@
 //! The stores of a run.
 
-ghost use Rattle.std.specs.Prelude.{◌≡◌, All, IfOk, length, option_map};
+ghost use Rattle.std.specs.Prelude.{◌≡◌, ◌++◌, All, IfOk, OnOk, length, map, option_map};
+ghost use Rattle.tool_stores.specs.StorePath.{store_paths};
 ghost use Rattle.group_tool.specs.Ended.{IsMade, stores_seen};
 
 use pipe_columns::Text;
@@ -17,6 +18,10 @@ pub fn make_stores<M: StoreMaker>(
     ensures made { IfOk result (λ v. All (IsMade (option_map (λ f. f.now) folder.entry))
         (stores_seen M.Store.held M.Store.told M.Store.faults M.Store.sure v.items)) }
     ensures count { IfOk result (λ v. length v.items ≡ partitions) }
+    ensures paths { IfOk result (λ v. map M.path v.items
+        ≡ store_paths (option_map (λ f. f.now) folder.entry) partitions) }
+    ensures stores_made { OnOk result (M.made maker.new ≡ M.made maker.old
+        ++ store_paths (option_map (λ f. f.now) folder.entry) partitions) }
 {
     let mut stores = Vec::new(alloc);
     for partition in 0..partitions {

@@ -37,16 +37,36 @@ const SUM_AND_COUNT: &str =
 const SUM: &str =
     r#"{"schema":[["k","Int64"],["v","Int64"]],"keys":["k"],"aggs":[{"alias":[{"sum":"v"},"s"]}]}"#;
 
-/// Makes stores in memory that never fail.
+/// Makes stores in memory that never fail, and none for a folder. It keeps a mark of each.
 #[derive(Drop)]
 struct MemoryStores {
     alloc: Global,
+    made: Vec<()>,
+}
+
+impl MemoryStores {
+    fn new(alloc: Global) -> MemoryStores {
+        MemoryStores {
+            alloc,
+            made: Vec::new(alloc),
+        }
+    }
 }
 
 impl StoreMaker for MemoryStores {
+    ghost use Rattle.std.specs.Prelude.{None, map};
+
     type Store = MemoryStore;
 
-    fn make(&mut self, _dir: Option<&Text>, _partition: usize) -> Result<MemoryStore, AllocError> {
+    ghost path = { λ _. None };
+
+    ghost made = { λ m. map (λ _. None) m.made.items };
+
+    fn make(&mut self, dir: Option<&Text>, _partition: usize) -> Result<MemoryStore, AllocError> {
+        if dir.is_some() {
+            return Err(AllocError);
+        }
+        self.made.push(())?;
         Ok(MemoryStore::new(self.alloc, Vec::new(self.alloc)))
     }
 }
@@ -145,7 +165,7 @@ fn drive<H: Abort + Alloc<A = Global> + Threads + Wait + Sync>(
     run: &Run<'_>,
 ) -> Result<(), Fail> {
     let mut input = files_of(rt.alloc(), run)?;
-    let mut maker = MemoryStores { alloc: rt.alloc() };
+    let mut maker = MemoryStores::new(rt.alloc());
     let _end = run_over(rt, run, &mut input, &mut maker, &OpenGate)?;
     Ok(())
 }

@@ -1,6 +1,6 @@
 //! One question, from the words of a command to the bytes of its output.
 
-ghost use Rattle.std.specs.Prelude.{◌≡◌, ◌≢◌, ◌⊎◌, All, IfSome, IsErrOf, IsSome, IsTrue, None, OnErr, OnOk, Some, false, true};
+ghost use Rattle.std.specs.Prelude.{◌≡◌, ◌≢◌, ◌⊎◌, ◌++◌, All, IfSome, IsErrOf, IsSome, IsTrue, None, OnErr, OnOk, Some, false, true};
 ghost use Rattle.std.specs.Io.KnownBytes.{Appends};
 ghost use Rattle.pipe_columns.specs.Causes.{HasCause, Rose};
 ghost use Rattle.pipe_io.specs.Output.{WroteFront};
@@ -9,7 +9,7 @@ ghost use Rattle.pipe_aggs.specs.QueryTrees.{query_tree};
 ghost use Rattle.pipe_model.specs.Output.{key_types};
 ghost use Rattle.pipe_words.specs.Plans.{CanRun, plan_seen};
 ghost use Rattle.tool_words.specs.Asked.{asked, asks, does_keep, is_refused, reads_none};
-ghost use Rattle.group_tool.specs.Asking.{has_folder};
+ghost use Rattle.group_tool.specs.Asking.{due_paths, has_folder};
 ghost use Rattle.group_tool.specs.Ended.{IsSound};
 ghost use Rattle.group_tool.specs.Formats.{text_in};
 ghost use Rattle.group_tool.specs.Faults.{IsCaused};
@@ -125,6 +125,10 @@ fn answer_question<
         ⊎ IsBegun (asks (plan_seen question.plan) (query_tree question.query)) (I.told input.old)
         (O.told output.old) (O.told output.new) result.journals result.stores }
     ensures in_memory { question.plan.spill_dir ≡ None → All IsSound result.stores }
+    ensures stores_made { result.fault ≢ Some fault.Memory → M.made maker.new ≡ M.made maker.old
+        ++ due_paths (asks (plan_seen question.plan) (query_tree question.query)) }
+    ensures memory_made { HasNoRun result.journals result.stores ⊎ (M.made maker.new
+        ≡ M.made maker.old ++ due_paths (asks (plan_seen question.plan) (query_tree question.query))) }
 {
     let partitions = question.plan.limits.partitions;
     let format = question.plan.format;
@@ -189,6 +193,10 @@ fn run<I: InputFiles, O: Output, M: StoreMaker, G: Gate + Sync, H: Threads + Wai
     ensures unread { IsTrue (reads_none (asked words.now)) → input.new ≡ input.old }
     ensures unmade { IsTrue (is_refused (asked words.now)) → maker.new ≡ maker.old }
     ensures in_memory { has_folder (asked words.now) ≡ false → All IsSound result.stores }
+    ensures stores_made { result.fault ≢ Some fault.Memory
+        → M.made maker.new ≡ M.made maker.old ++ due_paths (asked words.now) }
+    ensures memory_made { HasNoRun result.journals result.stores
+        ⊎ (M.made maker.new ≡ M.made maker.old ++ due_paths (asked words.now)) }
 {
     match read_request(alloc, words) {
         Ok(Request::Answer(question)) => {
@@ -254,6 +262,13 @@ pub fn run_tool<
         → StoreFailed (asked words.now) result.stores }
     ensures damaged { result.status ≡ DAMAGED → FrameDamaged (asked words.now) result.stores }
     ensures in_memory { has_folder (asked words.now) ≡ false → All IsSound result.stores }
+
+    // Unless memory runs out, exactly the stores of the folder that the words name are made, one a
+    // partition, in order; where it runs out before all are made, none is left.
+    ensures stores_made { result.status ≢ NO_MEMORY
+        → M.made maker.new ≡ M.made maker.old ++ due_paths (asked words.now) }
+    ensures memory_made { HasNoRun result.journals result.stores
+        ⊎ (M.made maker.new ≡ M.made maker.old ++ due_paths (asked words.now)) }
 
     // Whatever the input tells, refused words end the run, and no others do; for them no store is made.
     // Neither for them nor for generated rows is anything read.

@@ -1,1 +1,2 @@
 pub mod ProgramStore
+pub mod StorePath

@@ -1,5 +1,5 @@
 -- What is known of a store of the program: that of a store in memory, or that of one in a file, which tells nothing.
-use Rattle.std.specs.Prelude.{◌≡◌, ℕ, Bool, false, List, Option, None, IsTrue, refl}
+use Rattle.std.specs.Prelude.{◌≡◌, ℕ, Bool, false, List, Option, None, Some, IsTrue, refl}
 use Rattle.pipe_spill.specs.MemoryStore as memory
 use Rattle.pipe_spill.specs.FileStore as file
 use Rattle.pipe_spill.specs.Store.{HasHeld}
@@ -14,17 +14,22 @@ told_of (store.Files s) = None
 -- how many frames there are
 abbrev pub held_of : {R : Type 0} → ProgramStore R → ℕ
 held_of (store.Memory s) = memory.held_of s
-held_of (store.Files s) = file.held_of s
+held_of (store.Files s) = file.held_of s.frames
 
 -- how many calls failed
 abbrev pub faults_of : {R : Type 0} → ProgramStore R → ℕ
 faults_of (store.Memory s) = memory.faults_of s
-faults_of (store.Files s) = file.faults_of s
+faults_of (store.Files s) = file.faults_of s.frames
 
 -- whether it never fails
 abbrev pub is_sure : {R : Type 0} → ProgramStore R → Bool
 is_sure (store.Memory s) = memory.is_sure s
 is_sure (store.Files s) = false
+
+-- the path of its file; a store in memory has none
+abbrev pub path_of : {R : Type 0} → ProgramStore R → Option (List ℕ)
+path_of (store.Memory s) = None
+path_of (store.Files s) = Some s.path
 
 -- as many frames are told as are held
 pub has_held : {R : Type 0} (s : ProgramStore R) → HasHeld (told_of s) (held_of s)

@@ -4,7 +4,7 @@ ghost use Rattle.std.specs.Prelude.{◌≡◌, ◌<◌, ◌+◌, ◌-◌, ◌^�
 ghost use Rattle.pipe_columns.specs.Causes.{HasCause};
 ghost use Rattle.pipe_spill.specs.Store.{IsFrameAt, with_frame};
 ghost use Rattle.pipe_spill.specs.declared.store.StoreError.TheVariants as store_error;
-ghost use Rattle.tool_stores.specs.ProgramStore.{faults_of, held_of, is_sure, told_of};
+ghost use Rattle.tool_stores.specs.ProgramStore.{faults_of, held_of, is_sure, path_of, told_of};
 
 use pipe_spill::{FileStore, MemoryStore, SpillStore, StoreError};
 use std::fs::Files;
@@ -52,6 +52,7 @@ impl<R: Files + Drop> SpillStore for ProgramStore<R> {
         ensures sure { is_sure self.new ≡ is_sure self.old }
         ensures cause { HasCause (faults_of self.old) (faults_of self.new)
             (IsErrOf result store_error.Failed) }
+        ensures path { path_of self.new ≡ path_of self.old }
     {
         match self {
             ProgramStore::Memory(store) => store.put(frame),
@@ -68,6 +69,7 @@ impl<R: Files + Drop> SpillStore for ProgramStore<R> {
         ensures sure { is_sure self.new ≡ is_sure self.old }
         ensures cause { HasCause (faults_of self.old) (faults_of self.new)
             (IsErrOf result store_error.Failed) }
+        ensures path { path_of self.new ≡ path_of self.old }
     {
         match self {
             ProgramStore::Memory(store) => store.get(number, into),

@@ -1,7 +1,8 @@
 //! Who makes the stores of the program.
 
-ghost use Rattle.std.specs.Prelude.{◌≡◌, IfOk, IsTrue, None, Some, []};
-ghost use Rattle.tool_stores.specs.ProgramStore.{faults_of, held_of, is_sure, told_of};
+ghost use Rattle.std.specs.Prelude.{◌≡◌, ◌++◌, ◌∷◌, [], IfOk, IsTrue, None, OnErr, OnOk, Some, option_map};
+ghost use Rattle.tool_stores.specs.ProgramStore.{faults_of, held_of, is_sure, path_of, told_of};
+ghost use Rattle.tool_stores.specs.StorePath.{store_path};
 
 use crate::maker::StoreMaker;
 use crate::program_store::ProgramStore;
@@ -9,23 +10,56 @@ use pipe_columns::Text;
 use pipe_spill::{FileStore, MemoryStore};
 use std::alloc::{AllocError, Global};
 use std::fs::Files;
+use std::marker::Model;
+use std::snapshot::Snapshot;
 
-/// Makes the stores of the program over the files of a runtime.
+/// Makes the stores of the program over the files of a runtime. Contracts see the path of each store
+/// that it made, though of each only a mark without bytes is kept.
 #[derive(Drop)]
 pub struct ProgramStores<'a, R> {
     rt: &'a R,
     alloc: Global,
+    made: Vec<Snapshot<ProgramStore<&'a R>>>,
+}
+
+impl<'a, R> Model for ProgramStores<'a, R> {
+    ghost use Rattle.std.specs.Prelude.{ℕ, List, Option, map};
+    ghost use Rattle.tool_stores.specs.ProgramStore.{path_of};
+
+    ghost Value = { List (Option (List ℕ)) };
+
+    ghost view = { λ m. map (λ s. path_of s.value) m.made.items };
 }
 
 impl<'a, R: Files> ProgramStores<'a, R> {
-    /// A maker of stores. It keeps the runtime, which files need.
-    pub fn new(rt: &'a R, alloc: Global) -> ProgramStores<'a, R> {
-        ProgramStores { rt, alloc }
+    /// A maker that has made no store. It keeps the runtime, which files need.
+    pub fn new(rt: &'a R, alloc: Global) -> ProgramStores<'a, R>
+        ensures { result ≡ [] }
+    {
+        ProgramStores {
+            rt,
+            alloc,
+            made: Vec::new(alloc),
+        }
+    }
+
+    /// Keeps a mark of a store, and hands the store back.
+    fn marked(&mut self, store: ProgramStore<&'a R>) -> Result<ProgramStore<&'a R>, AllocError>
+        ensures same { IfOk result (λ s. s ≡ store.entry) }
+        ensures made { OnOk result (self.new ≡ self.old ++ path_of store.entry ∷ []) }
+        ensures unmade { OnErr result (self.new ≡ self.old) }
+    {
+        self.made.push(Snapshot::of(&store))?;
+        Ok(store)
     }
 }
 
 impl<'a, R: Files + Sync> StoreMaker for ProgramStores<'a, R> {
     type Store = ProgramStore<&'a R>;
+
+    ghost path = { path_of };
+
+    ghost made = { λ m. m };
 
     fn make(
         &mut self,
@@ -36,12 +70,19 @@ impl<'a, R: Files + Sync> StoreMaker for ProgramStores<'a, R> {
         ensures faults { IfOk result (λ s. faults_of s ≡ 0) }
         ensures tells { dir.entry ≡ None → IfOk result (λ s. told_of s ≡ Some []) }
         ensures sure { dir.entry ≡ None → IfOk result (λ s. IsTrue (is_sure s)) }
+        ensures path { IfOk result
+            (λ s. path_of s ≡ store_path (option_map (λ d. d.now) dir.entry) partition) }
+        ensures made { IfOk result (λ s. self.new ≡ self.old ++ path_of s ∷ []) }
+        ensures unmade { OnErr result (self.new ≡ self.old) }
     {
         match dir {
-            None => Ok(ProgramStore::Memory(MemoryStore::new(self.alloc, Vec::new(self.alloc)))),
+            None => {
+                let store = MemoryStore::new(self.alloc, Vec::new(self.alloc));
+                self.marked(ProgramStore::Memory(store))
+            }
             Some(dir) => {
                 let store = FileStore::new(self.rt, self.alloc, dir, partition)?;
-                Ok(ProgramStore::Files(store))
+                self.marked(ProgramStore::Files(store))
             }
         }
     }

@@ -65,7 +65,7 @@ fn files_that_are_begun(rt: HostRuntime) -> Result<(), Fail> {
     let words = ["--rows", "2", SUM_AND_COUNT, "a.csv", "c.csv"];
     let run = plain_run(&words, &FILES, 0, "k,s,c\n1,5,1\n2,6,1\n", "");
     let mut input = Recorded::new(rt.alloc(), files_of(rt.alloc(), &run)?);
-    let mut maker = MemoryStores { alloc: rt.alloc() };
+    let mut maker = MemoryStores::new(rt.alloc());
     let _end = run_over(&rt, &run, &mut input, &mut maker, &OpenGate)?;
     assert!(rt; input.has_begun(&["a.csv"]));
     Ok(())

@@ -79,7 +79,7 @@ fn fail_at<H: Abort + Alloc<A = Global> + Threads + Wait + Sync>(
     let mut output = Small(MemoryOutput::new(alloc, failing));
     let mut messages = MemoryOutput::new(alloc, Vec::new(alloc));
     let words = texts_of(alloc, words)?;
-    let mut maker = MemoryStores { alloc };
+    let mut maker = MemoryStores::new(alloc);
     let end = run_tool(
         rt,
         alloc,

@@ -136,7 +136,7 @@ fn nothing_is_read(rt: HostRuntime) -> Result<(), Fail> {
     let output = "rows 1000\ngroups 1000\noverflow 0\narrivals 0\npicks 0\n";
     let run = plain_run(&["--generate", "7"], &FILES, 0, output, "");
     let mut input = Recorded::new(rt.alloc(), files_of(rt.alloc(), &run)?);
-    let mut maker = MemoryStores { alloc: rt.alloc() };
+    let mut maker = MemoryStores::new(rt.alloc());
     let _end = run_over(&rt, &run, &mut input, &mut maker, &OpenGate)?;
     assert!(rt; input.has_begun(&[]));
     Ok(())

@@ -1,6 +1,6 @@
 //! One run that spills, by its payload limit and over several stores; and runs in rounds.
 
-ghost use Rattle.std.specs.Prelude.{◌≡◌};
+ghost use Rattle.std.specs.Prelude.{◌≡◌, IfOk, IsTrue, Some, codes, option_map};
 
 use crate::ended::ToolEnd;
 use crate::tests::{File, MemoryStores, SUM, SUM_AND_COUNT, files_of, plain_run, run_over};
@@ -10,6 +10,7 @@ use pipe_plan::PartitionEvent;
 use pipe_spill::{MemoryStore, SpillStore, StoreError};
 use std::alloc::{AllocError, Global};
 use std::fs;
+use std::marker::PhantomData;
 use std::test::Fail;
 use tool_stores::{ProgramStores, StoreMaker};
 
@@ -85,7 +86,7 @@ fn has_frames(stores: &[MemoryStore], frames: &[&[u8]]) -> bool {
 fn first_run(rt: HostRuntime) -> Result<(), Fail> {
     let (words, files) = ([SUM_AND_COUNT], [("-", "k,v\n1,5\n2,6\n1,7\n")]);
     let run = plain_run(&words, &files, 0, "k,s,c\n1,12,2\n2,6,1\n", "");
-    let mut maker = MemoryStores { alloc: rt.alloc() };
+    let mut maker = MemoryStores::new(rt.alloc());
     let end = run_over(
         &rt,
         &run,
@@ -101,7 +102,7 @@ fn first_run(rt: HostRuntime) -> Result<(), Fail> {
 #[test]
 fn one_spill_in_memory(rt: HostRuntime) -> Result<(), Fail> {
     let run = plain_run(&WORDS, &ROWS, 0, "k,s\n1,5\n2,13\n", "");
-    let mut maker = MemoryStores { alloc: rt.alloc() };
+    let mut maker = MemoryStores::new(rt.alloc());
     let end = run_over(
         &rt,
         &run,
@@ -150,24 +151,101 @@ fn a_folder_that_is_not_there(rt: HostRuntime) -> Result<(), Fail> {
     Ok(())
 }
 
-/// Makes a store in memory for the folder `x`, of which listed calls fail, and none for another.
+/// A store that stands for the file of a partition in the folder `x`.
 #[derive(Drop)]
-struct FolderStores {
-    alloc: Global,
-    failing: &'static [u64],
+struct InFolder<S> {
+    store: S,
+    partition: usize,
 }
 
-impl StoreMaker for FolderStores {
-    type Store = MemoryStore;
+impl<S: SpillStore> SpillStore for InFolder<S> {
+    ghost told = { λ s. S.told s.store };
 
-    fn make(&mut self, dir: Option<&Text>, _partition: usize) -> Result<MemoryStore, AllocError> {
-        match dir {
-            Some(dir) if dir.as_str() == "x" => {
-                let failing = Vec::from_slice(self.alloc, self.failing)?;
-                Ok(MemoryStore::new(self.alloc, failing))
-            }
-            _ => Err(AllocError),
+    ghost held = { λ s. S.held s.store };
+
+    ghost faults = { λ s. S.faults s.store };
+
+    ghost sure = { λ s. S.sure s.store };
+
+    ghost tells_all = { λ s. S.tells_all s.store };
+
+    ghost never_failed = { λ s. S.never_failed s.store };
+
+    fn held(&self) -> u64 {
+        self.store.held()
+    }
+
+    fn put(&mut self, frame: &[u8]) -> Result<u64, StoreError> {
+        self.store.put(frame)
+    }
+
+    fn get(&mut self, number: u64, into: &mut Vec<u8>) -> Result<(), StoreError> {
+        self.store.get(number, into)
+    }
+}
+
+/// Whether a folder is named, and it is `x`.
+fn is_x(dir: Option<&Text>) -> bool
+    ensures { IsTrue result → option_map (λ d. d.now) dir.entry ≡ Some (codes "x") }
+{
+    match dir {
+        Some(dir) => dir.as_str() == "x",
+        None => false,
+    }
+}
+
+/// A store that a test makes, without a frame.
+trait MadeStore: SpillStore + Drop + Send {
+    /// A store of which listed calls fail, if it can.
+    fn made(alloc: Global, failing: &[u64]) -> Result<Self, AllocError>
+        ensures held { IfOk result (λ s. Self.held s ≡ 0) }
+        ensures faults { IfOk result (λ s. Self.faults s ≡ 0) };
+}
+
+impl MadeStore for MemoryStore {
+    fn made(alloc: Global, failing: &[u64]) -> Result<MemoryStore, AllocError> {
+        Ok(MemoryStore::new(alloc, Vec::from_slice(alloc, failing)?))
+    }
+}
+
+/// Makes stores for the folder `x`, of which listed calls fail, and none for another. It keeps their
+/// partitions.
+#[derive(Drop)]
+struct FolderStores<S> {
+    alloc: Global,
+    failing: &'static [u64],
+    made: Vec<usize>,
+    store: PhantomData<S>,
+}
+
+impl<S> FolderStores<S> {
+    fn new(alloc: Global, failing: &'static [u64]) -> FolderStores<S> {
+        FolderStores {
+            alloc,
+            failing,
+            made: Vec::new(alloc),
+            store: PhantomData,
         }
+    }
+}
+
+impl<S: MadeStore> StoreMaker for FolderStores<S> {
+    ghost use Rattle.std.specs.Prelude.{Some, codes, map};
+    ghost use Rattle.pipe_spill.specs.FileStore.{path_in};
+
+    type Store = InFolder<S>;
+
+    ghost path = { λ s. Some (path_in (codes "x") s.partition) };
+
+    ghost made = { λ m. map (λ p. Some (path_in (codes "x") p)) m.made.items };
+
+    fn make(&mut self, dir: Option<&Text>, partition: usize) -> Result<InFolder<S>, AllocError> {
+        if !is_x(dir) {
+            return Err(AllocError);
+        }
+        let store = S::made(self.alloc, self.failing)?;
+        self.made.push(partition)?;
+        Ok(InFolder { store, partition })
     }
 }
 
@@ -185,7 +263,7 @@ fn stores_of_a_folder(rt: HostRuntime) -> Result<(), Fail> {
     let alloc = rt.alloc();
     for (failing, status, output, line, frames) in OUTCOMES {
         let run = plain_run(&FOLDER_WORDS, &ROWS, status, output, line);
-        let mut maker = FolderStores { alloc, failing };
+        let mut maker: FolderStores<MemoryStore> = FolderStores::new(alloc, failing);
         let end = run_over(
             &rt,
             &run,
@@ -193,7 +271,7 @@ fn stores_of_a_folder(rt: HostRuntime) -> Result<(), Fail> {
             &mut maker,
             &OpenGate,
         )?;
-        assert!(rt; end.stores.len() == 1 && end.stores[0].frames().len() == frames);
+        assert!(rt; end.stores.len() == 1 && end.stores[0].store.frames().len() == frames);
         assert!(rt; end.journals.journals().is_empty() == (status != 0));
     }
     Ok(())
@@ -236,18 +314,9 @@ impl SpillStore for Loose {
     }
 }
 
-/// Makes such a store for the folder `x`, and none for another.
-#[derive(Drop)]
-struct LooseStores;
-
-impl StoreMaker for LooseStores {
-    type Store = Loose;
-
-    fn make(&mut self, dir: Option<&Text>, _partition: usize) -> Result<Loose, AllocError> {
-        match dir {
-            Some(dir) if dir.as_str() == "x" => Ok(Loose { frames: 0 }),
-            _ => Err(AllocError),
-        }
+impl MadeStore for Loose {
+    fn made(_alloc: Global, _failing: &[u64]) -> Result<Loose, AllocError> {
+        Ok(Loose { frames: 0 })
     }
 }
 
@@ -255,9 +324,10 @@ impl StoreMaker for LooseStores {
 fn no_byte_back(rt: HostRuntime) -> Result<(), Fail> {
     let run = plain_run(&FOLDER_WORDS, &ROWS, 9, "", "store 0 frame 0 damaged\n");
     let input = &mut files_of(rt.alloc(), &run)?;
-    let end = run_over(&rt, &run, input, &mut LooseStores, &OpenGate)?;
+    let mut maker: FolderStores<Loose> = FolderStores::new(rt.alloc(), &[]);
+    let end = run_over(&rt, &run, input, &mut maker, &OpenGate)?;
     assert!(rt; end.journals.journals().is_empty());
-    assert!(rt; end.stores.len() == 1 && end.stores[0].frames == 1);
+    assert!(rt; end.stores.len() == 1 && end.stores[0].store.frames == 1);
     Ok(())
 }
 
@@ -285,7 +355,7 @@ fn fed_in_rounds(rt: HostRuntime) -> Result<(), Fail> {
         ("b.csv", "k,w\n"),
     ];
     let run = plain_run(&words, &files, 4, "", "file 2: header\n");
-    let mut maker = MemoryStores { alloc: rt.alloc() };
+    let mut maker = MemoryStores::new(rt.alloc());
     let end = run_over(
         &rt,
         &run,

@@ -115,7 +115,7 @@ fn tool_text<H: Abort + Alloc<A = Global> + Threads + Wait + Sync>(
     let mut input = MemoryFiles::new(vec![in alloc; file]?, Vec::new(alloc));
     let mut output = MemoryOutput::new(alloc, Vec::new(alloc));
     let mut messages = MemoryOutput::new(alloc, Vec::new(alloc));
-    let mut maker = MemoryStores { alloc };
+    let mut maker = MemoryStores::new(alloc);
     let end = run_tool(
         rt,
         alloc,

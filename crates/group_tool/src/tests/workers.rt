@@ -131,7 +131,7 @@ fn two_inside(rt: HostRuntime) -> Result<(), Fail> {
         second: AtomicU64::new(0),
         missed: AtomicU64::new(0),
     };
-    let mut maker = MemoryStores { alloc: rt.alloc() };
+    let mut maker = MemoryStores::new(rt.alloc());
     let _end = run_over(
         &rt,
         &run,

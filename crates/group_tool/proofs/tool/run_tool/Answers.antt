@@ -1,16 +1,19 @@
-use Rattle.std.proofs.Common.{◌∙◌, ℕ, sym, ap, subst, arith, inr}
+use Rattle.std.proofs.Common.{◌≡◌, ◌∙◌, ◌++◌, ℕ, Some, sym, ap, subst, arith, inl, inr}
 use Rattle.std.specs.Prelude.{◌⊎◌, IsTrue}
 use Rattle.std.specs.List.{All}
+use Rattle.std.proofs.lemmas.Option.{none-some}
 use Rattle.pipe_io.specs.Output.{WroteFront}
 use Rattle.tool_words.specs.Asked.{asked}
+use Rattle.group_tool.specs.Asking.{due_paths}
 use Rattle.group_tool.specs.Ended.{IsSound}
 use Rattle.group_tool.specs.Inside.{RanSeen}
 use Rattle.group_tool.specs.Faults.{fault_line, IsCaused}
 use Rattle.group_tool.specs.Inside.{EndsMade, EndsRefused, IsLeft}
 use Rattle.group_tool.specs.Headline.{HasNoRun, HasRun, HasStopped}
 use Rattle.group_tool.specs.Status.{FrameDamaged, is_answer, Reports, StoreFailed}
+use Rattle.group_tool.specs.declared.fault.ToolFault.TheVariants as fault
 use Rattle.group_tool.proofs.RunFacts.{some-at}
-use Rattle.group_tool.proofs.ToolFacts.{done-refusal, done-unread, left-any, told-damaged, told-due, told-not-done, told-ran, told-refusal, told-store, told-unread, written-answered, written-due, written-run}
+use Rattle.group_tool.proofs.ToolFacts.{done-refusal, done-unread, left-any, told-complete, told-damaged, told-due, told-not-done, told-otherwise, told-ran, told-refusal, told-store, told-unread, written-answered, written-due, written-run}
 use Rattle.group_tool.proofs.tool.run_tool.Goals as goal
 use Rattle.group_tool.proofs.tool.run_tool.Goals.{in-None, in-Some}
 
@@ -73,6 +76,19 @@ returns-clause-damaged g c = elim c.match-fault.branch [
       w.report-status.ensures.either (sym w.status-is ∙ is))
 ]
 
+pub returns-clause-complete : goal.returns-clause-complete
+returns-clause-complete g c = elim c.match-fault.branch [
+  | in-None w ↦ λ known due sound input output. inl w.status-is
+  | in-Some w ↦ λ known due sound input output.
+      let has : c.run.result.fault ≡ Some w.in-Some.fault = sym (ap (λ (r : RanSeen). r.fault) c.fault.view_is) ∙ w.in-Some.is in
+      inr
+      (w.status-is
+      ∙ told-complete w.in-Some.fault (asked c.args.words.now) (g.I.InputFiles.told c.args.input.now) c.run.result.stores w.report-status.result
+      (some-at c.run.result.fault w.in-Some.fault (λ f. IsCaused f (asked c.args.words.now) (g.I.InputFiles.told c.args.input.now) c.run.result.stores) has c.run.ensures.cause)
+      w.report-status.ensures.either known due (subst (All IsSound) (ap (λ (r : RanSeen). r.stores) c.fault.view_is) sound)
+      (λ is. input (c.run.ensures.input_failed (has ∙ ap (λ f. Some f) is))) (λ is. output (c.run.ensures.output_failed (has ∙ ap (λ f. Some f) is))))
+]
+
 pub returns-clause-ran : goal.returns-clause-ran
 returns-clause-ran g c = elim c.match-fault.branch [
   | in-None w ↦ λ is.
@@ -85,6 +101,18 @@ returns-clause-ran g c = elim c.match-fault.branch [
       (some-at c.run.result.fault w.in-Some.fault (λ f. IsLeft f (asked c.args.words.now) (g.I.InputFiles.told c.args.input.now) c.run.result.journals c.run.result.stores) (sym (ap (λ (r : RanSeen). r.fault) c.fault.view_is) ∙ w.in-Some.is) c.run.ensures.left)
       w.report-status.ensures.either (subst (λ (n : ℕ). IsTrue (is_answer n)) w.status-is is))
 ]
+
+pub returns-clause-stores_made : goal.returns-clause-stores_made
+returns-clause-stores_made g c = elim c.match-fault.branch [
+  | in-None w ↦ λ other. c.run.ensures.stores_made (λ is. none-some fault.Memory (sym (sym (ap (λ (r : RanSeen). r.fault) c.fault.view_is) ∙ w.in-None.is) ∙ is))
+  | in-Some w ↦ λ other.
+      c.run.ensures.stores_made
+      (told-otherwise c.run.result.fault w.in-Some.fault w.report-status.result (sym (ap (λ (r : RanSeen). r.fault) c.fault.view_is) ∙ w.in-Some.is) w.report-status.ensures.status (λ m. other (w.status-is ∙ m)))
+]
+
+pub returns-clause-memory_made : goal.returns-clause-memory_made
+returns-clause-memory_made g c =
+    subst (λ (r : RanSeen). HasNoRun r.journals r.stores ⊎ (g.M.StoreMaker.made c.run.new.maker ≡ g.M.StoreMaker.made c.args.maker.now ++ due_paths (asked c.args.words.now))) (sym c.fault.view_is) c.run.ensures.memory_made
 
 pub returns-clause-memory_left : goal.returns-clause-memory_left
 returns-clause-memory_left g c = elim c.match-fault.branch [
