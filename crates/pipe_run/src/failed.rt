@@ -11,6 +11,8 @@ pub(crate) fn failed_one<S: SpillStore + Drop>(closed: &[ClosedPartition<S>]) ->
         → (slice_index_or closed.now p d).failed ≡ false) }
     ensures some { IfSome result (λ p. (p < length closed.now)
         × ((d : _) → (slice_index_or closed.now p d).failed ≡ true)) }
+    ensures least { IfSome result (λ p. (k : ℕ) (d : _) → k < p
+        → (slice_index_or closed.now k d).failed ≡ false) }
 {
     for partition in 0..closed.len() {
         if closed[partition].failed() {
