@@ -14,8 +14,8 @@ use Rattle.pipe_spill.specs.declared.spill_row.SpillRow.{SpillRow}
 use Rattle.pipe_groups.specs.Groups.{Group, held_at}
 use Rattle.pipe_groups.specs.Holds.{Holds}
 use Rattle.pipe_groups.specs.Shape.{Shape}
-use Rattle.pipe_groups.proofs.HoldFacts.{held_at-passing, holds-joined, holds-moved, holds-part}
-use Rattle.pipe_tables.specs.Tables.{groups_in, HoldFewTogether, lies_in, Table}
+use Rattle.pipe_groups.proofs.HoldFacts.{holds-moved, holds-part}
+use Rattle.pipe_tables.specs.Tables.{HoldFewTogether, lies_in, Table}
 use Rattle.pipe_global.specs.declared.mark.Mark.{Mark}
 use Rattle.pipe_global.specs.Finishing.{AreOwn, CanFinish, GivesGroups, GivesOwn, GivesOwnPlaced, GivesPlaced, IsEmptied, IsMarked, KeepsRest, other_rows, own_rows, StandAsBefore, StandFor, StandMoved, StandsForRows}
 use Rattle.pipe_global.specs.Gathering.{HasGathered, HasGiven, HasGivenPlaced, HasTakenLocal, IsReady, without_groups}
@@ -92,12 +92,7 @@ module _ (s new : PartitionSeen) (local left : Table) (none : s.waiting ≡ []) 
   -- the table holds its rows and the local ones of the partition
   joined : (rows locals : List SpillRow) → Holds s.table.shape.prototypes s.table.groups rows → Holds s.table.shape.prototypes local.groups locals
       → Holds new.table.shape.prototypes new.table.groups (rows ++ own_rows s locals)
-  joined rows locals h l =
-      let test : List ℕ → Bool = λ k. lies_in s.partitions s.number k in
-      let part : Holds s.table.shape.prototypes (groups_in s.partitions s.number local.groups) (own_rows s locals) =
-      holds-part test s.table.shape.prototypes local.groups (groups_in s.partitions s.number local.groups) locals (λ k. held_at-passing test k local.groups) l in
-      holds-shape s.table.shape new.table.shape new.table.groups (rows ++ own_rows s locals) shape
-      (holds-joined s.table.shape.prototypes s.table.groups (groups_in s.partitions s.number local.groups) new.table.groups rows (own_rows s locals) t.joined h part).0
+  joined rows locals h l = holds-shape s.table.shape new.table.shape new.table.groups (rows ++ own_rows s locals) shape (t.holds rows locals h l)
 
   -- the local table holds the others
   others : (locals : List SpillRow) → Holds s.table.shape.prototypes local.groups locals → Holds new.table.shape.prototypes left.groups (other_rows s locals)

@@ -13,3 +13,4 @@ pub mod ClosedFacts
 pub mod DumpedFacts
 pub mod WorkedFacts
 pub mod EndedFacts
+pub mod TakenLocal

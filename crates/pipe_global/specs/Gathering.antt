@@ -8,11 +8,12 @@ use Rattle.pipe_columns.specs.Slice.{sliced}
 use Rattle.pipe_spill.specs.SpillRow.{joined_rows}
 use Rattle.pipe_spill.specs.declared.spill_row.SpillRow.{SpillRow}
 use Rattle.pipe_groups.specs.Given.{in_order, IsFrameOfGroups, slice_after}
-use Rattle.pipe_groups.specs.Groups.{AreJoined, count_held, keys_of}
+use Rattle.pipe_groups.specs.Groups.{count_held, keys_of}
+use Rattle.pipe_groups.specs.Holds.{Holds}
 use Rattle.pipe_groups.specs.QueryRows.{ArePlaced}
-use Rattle.pipe_tables.specs.Tables.{groups_in, KeepsShape, Table}
+use Rattle.pipe_tables.specs.Tables.{KeepsShape, Table}
 use Rattle.pipe_global.specs.declared.mark.Mark.{Mark}
-use Rattle.pipe_global.specs.Finishing.{AreOwn, CanGather, IsMarked, IsRestOf, KeepsRest, StandMoved, StandsForRows}
+use Rattle.pipe_global.specs.Finishing.{AreOwn, CanGather, IsMarked, IsRestOf, KeepsRest, own_rows, StandMoved, StandsForRows}
 use Rattle.pipe_global.specs.Moving.{TookRows}
 use Rattle.pipe_global.specs.Partition.{PartitionSeen}
 use Rattle.pipe_global.specs.Refused.{IsStoreKept}
@@ -64,10 +65,11 @@ pub record HasGathered (s new : PartitionSeen) : Type 0 where
   pub marks : (n : ℕ) → Contains (map (λ m. m.number) new.marks) n
       → Contains (map (λ m. m.number) s.marks) n
 
--- the local rows of the partition were taken in
+-- the local rows of the partition were taken in: the table holds them beside its own
 pub record HasTakenLocal (s new : PartitionSeen) (local left : Table) : Type 0 where
-  pub joined : AreJoined s.table.shape.prototypes s.table.groups
-      (groups_in s.partitions s.number local.groups) new.table.groups
+  pub holds : (rows locals : List SpillRow) → Holds s.table.shape.prototypes s.table.groups rows
+      → Holds s.table.shape.prototypes local.groups locals
+      → Holds s.table.shape.prototypes new.table.groups (rows ++ own_rows s locals)
   pub shape : KeepsShape s.table new.table
   pub rest : IsRestOf s local left
   pub others : new ≡ record s { table = new.table }

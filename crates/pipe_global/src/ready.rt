@@ -13,7 +13,8 @@ use pipe_tables::AggHashTable;
 use std::alloc::{AllocError, Global};
 
 impl<S: SpillStore + Drop> Contents<S> {
-    /// The local groups of the partition are taken in, all or none.
+    /// The local groups of the partition are taken in, all or none. Where no others are there and its own
+    /// table holds none, the tables exchange theirs, and no group is copied.
     fn take_local(&mut self, local: &mut AggHashTable) -> Result<(), AllocError>
         requires { CanFinish self.old local.old }
         ensures ok { OnOk result (HasTakenLocal self.old self.new local.old local.new) }
@@ -26,6 +27,10 @@ impl<S: SpillStore + Drop> Contents<S> {
             table,
             ..
         } = self;
+        if table.is_empty() && local.lies_in(*number, *partitions) {
+            table.exchange(local);
+            return Ok(());
+        }
         table.combine_on_partition(*number, *partitions, local)?;
         Ok(())
     }

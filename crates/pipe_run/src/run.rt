@@ -10,6 +10,7 @@ ghost use Rattle.pipe_run.specs.Setting.{run_of};
 use crate::begun::Begun;
 use crate::chunk_check::checked_rows;
 use crate::error::PipeError;
+use crate::gone::drop_chunks;
 use crate::round::Ended;
 use crate::round_of::round;
 use crate::stores::stores_of;
@@ -112,11 +113,13 @@ impl<'a, S: SpillStore + Drop + Send> GenericRun<'a, S> {
             Ok(ended) => ended,
             Err((stop, closed)) => return Err((stop.error(), stores_of(closed, room))),
         };
+        let marks = with_marks(marks, &chunks);
+        drop_chunks(rt, begun.limits.workers, chunks);
         Ok(GenericRun {
             begun,
             closed,
             rested,
-            chunks: with_marks(marks, &chunks),
+            chunks: marks,
             rows: all,
             room,
         })

@@ -1,5 +1,5 @@
 -- One row more comes to a local table.
-use Rattle.std.proofs.Common.{◌≡◌, ◌≢◌, ◌∙◌, ◌+◌, ◌≤◌, ◌<◌, ◌==◌, ◌&&◌, ◌||◌, ◌%◌, ◌^◌, ℕ, Bool, true, false, not, List, [], ◌∷◌, ◌++◌, Option, Some, None, length, map, set, take, get_or, zero, suc, refl, ap, sym, subst, arith, ⊎_elim}
+use Rattle.std.proofs.Common.{◌≡◌, ◌≢◌, ◌∙◌, ◌+◌, ◌≤◌, ◌<◌, ◌==◌, ◌&&◌, ◌||◌, ◌%◌, ◌^◌, ℕ, Bool, true, false, not, List, [], ◌∷◌, ◌++◌, Some, None, length, map, set, take, get_or, zero, suc, refl, ap, sym, subst, arith}
 use Rattle.std.specs.Prelude.{All, if◌then◌else◌, nat_le}
 use Rattle.std.specs.List.{list_any, range_with_len}
 use Rattle.std.specs.Set.{is_member}
@@ -13,8 +13,7 @@ use Rattle.std.proofs.lemmas.List.Sums.{count_by-le-length, length-filter}
 use Rattle.std.proofs.lemmas.Option.{unwrap_or-slice_get}
 use Rattle.std.proofs.Math.Nat.{mod-lt}
 use Rattle.pipe_columns.specs.declared.any_value.AnyValue.{AnyValue}
-use Rattle.pipe_columns.specs.declared.data_type.DataType.{DataType}
-use Rattle.pipe_columns.specs.Key.{code, fold_bytes, partition}
+use Rattle.pipe_columns.specs.Key.{fold_bytes, partition}
 use Rattle.pipe_columns.specs.Row.{Row}
 use Rattle.pipe_running.specs.declared.function.AggregateFunction.{AggregateFunction}
 use Rattle.pipe_running.specs.GroupStates.{fresh_states}
@@ -22,21 +21,21 @@ use Rattle.pipe_plan.specs.declared.limits.Limits.{Limits}
 use Rattle.pipe_plan.specs.Kept.{first_distinct, kept_keys, same_key}
 use Rattle.pipe_plan.specs.Payloads.{full_pieces, rest_of}
 use Rattle.pipe_plan.specs.Run.{AreLimits, is_generic}
-use Rattle.pipe_plan.proofs.Cutting.{full-filled, full-short, full-unfilled, rest-filled, rest-short, rest-unfilled}
+use Rattle.pipe_plan.proofs.Cutting.{full-filled, full-unfilled, rest-filled, rest-short, rest-unfilled}
 use Rattle.pipe_plan.proofs.KeptKeys.{kept-full, kept-known, kept-new}
 use Rattle.pipe_inputs.specs.ChunkRows.{no_row, row_at}
 use Rattle.pipe_spill.specs.SpillRow.{HasValues, spilled}
 use Rattle.pipe_spill.proofs.SpilledRows.{spilled_are_rows}
 use Rattle.pipe_spill.specs.declared.spill_row.SpillRow.{SpillRow}
-use Rattle.pipe_groups.specs.Groups.{count_held, Group, has_rows, held_groups, is_held, new_group, put, RowlessAreFresh, with_row as with_a_row}
-use Rattle.pipe_groups.specs.Holds.{HoldFewer, Holds}
+use Rattle.pipe_groups.specs.Groups.{count_held, Group, has_rows, new_group, put, RowlessAreFresh, with_row as with_a_row}
+use Rattle.pipe_groups.specs.Holds.{HoldFewer}
 use Rattle.pipe_groups.specs.Shape.{IsShape, Shape}
 use Rattle.pipe_groups.proofs.HoldFacts.{holds-none, holds-row}
 use Rattle.pipe_groups.proofs.ShapeFacts.{shape-takes}
 use Rattle.pipe_tables.specs.After.{IsAfter, is_kept_of, kept_of, left_of, piece_for, pieces_for, spilled_to, waiting_of, with_all}
-use Rattle.pipe_tables.specs.Buffers.{buffer_of, buffered, Buffers, fills, leaving, no_rows, rows_with}
-use Rattle.pipe_tables.specs.LocalTable.{holding, keeps, let_go, Local, overflowing, with_row}
-use Rattle.pipe_tables.specs.Tables.{put_row, Table, TakesOne}
+use Rattle.pipe_tables.specs.Buffers.{buffer_of, buffered, fills, leaving, no_rows, rows_with}
+use Rattle.pipe_tables.specs.LocalTable.{holding, let_go, Local, overflowing, with_row}
+use Rattle.pipe_tables.specs.Tables.{put_row, TakesOne}
 use Rattle.pipe_tables.proofs.CountFacts.{count-put, gain}
 use Rattle.pipe_tables.proofs.HeldKeys.{held-kept, keeps-stays}
 use Rattle.pipe_tables.proofs.KeptRows.{kept-first, kept_of-more, one_if, sent-more, spilled_to-more, stays}

@@ -1,11 +1,11 @@
 -- Which rows are kept and which are sent, with one row more.
-use Rattle.std.proofs.Common.{◌≡◌, ◌∙◌, ◌+◌, ◌≤◌, ◌<◌, ◌==◌, ◌&&◌, ◌||◌, ℕ, Bool, true, false, not, List, [], ◌∷◌, ◌++◌, length, map, filter, take, refl, ap, sym, arith, suc, zero, ⊎_elim}
+use Rattle.std.proofs.Common.{◌≡◌, ◌∙◌, ◌+◌, ◌==◌, ◌&&◌, ◌||◌, ℕ, Bool, true, false, not, List, [], ◌∷◌, ◌++◌, length, map, filter, take, refl, ap, sym, arith, suc, zero, ⊎_elim}
 use Rattle.std.specs.Prelude.{if◌then◌else◌, nat_le, nat_lt}
 use Rattle.std.specs.List.{list_any}
 use Rattle.std.specs.Set.{is_member}
 use Rattle.std.proofs.lemmas.Bool.{cases_Bool, false≢true}
 use Rattle.std.proofs.lemmas.Bool.Decides.{nat_tests}
-use Rattle.std.proofs.lemmas.List.{append-nil, map-append}
+use Rattle.std.proofs.lemmas.List.{map-append}
 use Rattle.std.proofs.lemmas.List.Elements.{filter-append}
 use Rattle.std.proofs.lemmas.List.Folds.{list_any-append}
 use Rattle.pipe_columns.specs.declared.any_value.AnyValue.{AnyValue}
@@ -17,7 +17,7 @@ use Rattle.pipe_plan.specs.declared.limits.Limits.{Limits}
 use Rattle.pipe_plan.specs.Kept.{distinct, first_distinct, kept_keys, same_key}
 use Rattle.pipe_plan.specs.Run.{is_generic}
 use Rattle.pipe_plan.proofs.Filtering.{filter-within}
-use Rattle.pipe_plan.proofs.Keeping.{held-row, IsExact, is_member-distinct}
+use Rattle.pipe_plan.proofs.Keeping.{held-row, is_member-distinct}
 use Rattle.pipe_plan.proofs.Longer.{kept-decided, keys-has, keys_exact}
 use Rattle.pipe_spill.specs.SpillRow.{spilled}
 use Rattle.pipe_spill.specs.declared.spill_row.SpillRow.{SpillRow}

@@ -1,12 +1,12 @@
 -- A table of groups, as contracts see it.
 use Rattle.std.specs.Prelude.{◌≡◌, ◌<◌, ◌+◌, ◌^◌, ◌%◌, ◌==◌, ℕ, Bool, false, List, fold, length, nat_lt, Option, Some, None, filter}
-use Rattle.std.specs.List.{IsDistinct}
+use Rattle.std.specs.List.{IsDistinct, list_all}
 use Rattle.std.specs.Str.{bytes_eq}
 use Rattle.pipe_columns.specs.Key.{fold_bytes}
 use Rattle.pipe_running.specs.declared.function.AggregateFunction.{AggregateFunction}
 use Rattle.pipe_spill.specs.SpillRow.{AreRows}
 use Rattle.pipe_spill.specs.declared.spill_row.SpillRow.{SpillRow}
-use Rattle.pipe_groups.specs.Groups.{count_held, cover, Group, keys_of, put, RowlessAreFresh}
+use Rattle.pipe_groups.specs.Groups.{count_held, cover, Group, held_groups, keys_of, put, RowlessAreFresh}
 use Rattle.pipe_groups.specs.Holds.{HoldFewer, Holds}
 use Rattle.pipe_groups.specs.Shape.{IsShape, Shape}
 
@@ -71,3 +71,7 @@ lies_in partitions p k = fold_bytes k % partitions == p
 -- the groups of a partition
 abbrev pub groups_in : ℕ → ℕ → List Group → List Group
 groups_in partitions p gs = filter (λ g. lies_in partitions p g.key) gs
+
+-- whether all keys that are held lie in partition p
+abbrev pub do_all_lie : ℕ → ℕ → List Group → Bool
+do_all_lie partitions p gs = list_all (λ g. lies_in partitions p g.key) (held_groups gs)

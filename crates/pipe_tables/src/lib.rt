@@ -2,6 +2,7 @@
 #![tactic(auto)]
 
 mod combine;
+mod exchange;
 mod finish;
 mod hash_table;
 mod hints;

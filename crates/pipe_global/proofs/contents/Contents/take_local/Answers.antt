@@ -1,9 +1,61 @@
-use Rattle.std.proofs.Common.{sym, subst}
+use Rattle.std.proofs.Common.{rules, ◌≡◌, ◌∙◌, refl, sym, subst}
+use Rattle.pipe_groups.specs.Groups.{count_held}
 use Rattle.pipe_tables.specs.Tables.{HoldFewTogether}
+use Rattle.pipe_global.specs.Gathering.{HasTakenLocal}
 use Rattle.pipe_global.specs.Partition.{PartitionSeen}
 use Rattle.pipe_global.proofs.Finished.{few-together}
+use Rattle.pipe_global.proofs.TakenLocal.{taken-joined, taken-whole}
 use Rattle.pipe_global.proofs.contents.Contents.take_local.Goals as goal
 
 pub combine_on_partition-requires-clause-few : goal.combine_on_partition-requires-clause-few
 combine_on_partition-requires-clause-few g c =
     subst (λ (s : PartitionSeen). HoldFewTogether s.table c.args.local.now) (sym c.self.view_is) (few-together c.args.self.now c.args.local.now c.requires)
+
+pub returns-then-lies_in-clause-ok : goal.returns-then-lies_in-clause-ok
+returns-then-lies_in-clause-ok g c =
+    let old : PartitionSeen = record {
+      number = c.self.inside.number;
+      partitions = c.self.inside.partitions;
+      table = c.self.inside.table;
+      waiting = c.self.inside.waiting.items;
+      store = record {
+        held = g.S.SpillStore.held c.self.inside.store;
+        told = g.S.SpillStore.told c.self.inside.store;
+        faults = g.S.SpillStore.faults c.self.inside.store;
+        sure = g.S.SpillStore.sure c.self.inside.store;
+      };
+      marks = c.self.inside.marks.items;
+      journal = c.self.inside.journal;
+      book = c.self.inside.book.items;
+      arrived = c.self.inside.arrived;
+      failed = c.self.inside.failed;
+    } in
+    let new : PartitionSeen = record old { table = c.exchange.new.self } in
+    let none : count_held c.self.inside.table.groups ≡ 0 = search rules in
+    let shape : c.args.local.now.shape ≡ c.self.inside.table.shape = subst (λ (s : PartitionSeen). c.args.local.now.shape ≡ s.table.shape) (sym c.self.view_is) c.requires.shape in
+    subst (λ (s : PartitionSeen). HasTakenLocal s new c.args.local.now c.exchange.new.other) c.self.view_is
+    (taken-whole old new c.args.local.now c.exchange.new.other none (sym c.lies_in.ensures ∙ c.if-lies_in.true) shape c.exchange.ensures.own c.exchange.ensures.other refl)
+
+pub returns-clause-ok : goal.returns-clause-ok
+returns-clause-ok g c =
+    let old : PartitionSeen = record {
+      number = c.self.inside.number;
+      partitions = c.self.inside.partitions;
+      table = c.self.inside.table;
+      waiting = c.self.inside.waiting.items;
+      store = record {
+        held = g.S.SpillStore.held c.self.inside.store;
+        told = g.S.SpillStore.told c.self.inside.store;
+        faults = g.S.SpillStore.faults c.self.inside.store;
+        sure = g.S.SpillStore.sure c.self.inside.store;
+      };
+      marks = c.self.inside.marks.items;
+      journal = c.self.inside.journal;
+      book = c.self.inside.book.items;
+      arrived = c.self.inside.arrived;
+      failed = c.self.inside.failed;
+    } in
+    let new : PartitionSeen = record old { table = c.combine_on_partition.new.self } in
+    subst (λ (s : PartitionSeen). HasTakenLocal s new c.args.local.now c.combine_on_partition.new.other) c.self.view_is
+    (taken-joined old new c.args.local.now c.combine_on_partition.new.other c.in_ok-combine_on_partition.ensures.joined c.in_ok-combine_on_partition.ensures.shape
+    (record { shape = c.in_ok-combine_on_partition.ensures.other_shape; held = c.in_ok-combine_on_partition.ensures.rest }) refl)
