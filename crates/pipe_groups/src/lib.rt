@@ -1,6 +1,7 @@
 //! Groups in one buffer: the keys' bytes, the running aggregates and the first places of rows.
 #![tactic(auto)]
 
+mod ahead;
 mod answer_laws;
 mod copies;
 mod eval;

@@ -23,6 +23,11 @@ impl Hints {
         Hints::new(*self.indices.allocator())
     }
 
+    /// Bytes, of which there are none, with memory from where that of these is.
+    pub(crate) fn room(&self) -> Vec<u8> {
+        Vec::new(*self.indices.allocator())
+    }
+
     /// Where among the hints that of a hash stands.
     #[inline(always)]
     fn slot(&self, hash: u64) -> usize {

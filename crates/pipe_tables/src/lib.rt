@@ -1,6 +1,7 @@
 //! Tables of groups, the local table of a worker, and what overflows from it.
 #![tactic(auto)]
 
+mod ahead;
 mod combine;
 mod exchange;
 mod finish;

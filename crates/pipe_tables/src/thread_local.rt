@@ -1,9 +1,10 @@
 //! The local table of a worker.
 
-ghost use Rattle.std.specs.Prelude.{◌≡◌, ◌<◌, ◌^◌, ◌++◌, ◌∷◌, ◌||◌, [], IfOk, List, OnErr, OnOk, Some, false, length, true};
+ghost use Rattle.std.specs.Prelude.{◌≡◌, ◌<◌, ◌^◌, ◌++◌, ◌∷◌, ◌||◌, [], IfOk, List, OnErr, OnOk, Some, false, length, true, All};
 ghost use Rattle.pipe_columns.specs.Key.{code};
 ghost use Rattle.pipe_aggs.specs.QueryTrees.{query_tree};
 ghost use Rattle.pipe_inputs.specs.ChunkRows.{row_at};
+ghost use Rattle.pipe_spill.specs.KeyTypes.{AreOfTypes};
 ghost use Rattle.pipe_spill.specs.SpillRow.{IsRow, spilled};
 ghost use Rattle.pipe_spill.specs.declared.spill_row.SpillRow.{SpillRow};
 ghost use Rattle.pipe_groups.specs.Holds.{Holds};
@@ -18,6 +19,7 @@ use crate::local_end::{LentLocalEnd, LocalEnd};
 use crate::spares::Spares;
 use crate::spill_partitions::SpillPartitions;
 use pipe_aggs::CheckedQuery;
+use pipe_columns::DataType;
 use pipe_inputs::ChunkRows;
 use pipe_spill::{KeyBytes, SpillRow, Values};
 use std::alloc::{AllocError, Global};
@@ -123,6 +125,14 @@ impl ThreadLocalTable {
             InsertEnd::Memory(row) => LocalEnd::Memory(row),
             InsertEnd::Overflow(row) => self.overflow(row),
         }
+    }
+
+    /// Reads what the next rows of a chunk need of the table, from a row on. Nothing changes.
+    pub fn look_ahead(&mut self, types: &[DataType], rows: &ChunkRows<'_>, row: usize)
+        requires { All (λ r. AreOfTypes types.now r.key) rows.now }
+        ensures { self.new ≡ self.old }
+    {
+        self.table.look_ahead(types, rows, row);
     }
 
     /// Takes row `row` of a chunk in, which is lent, and whose key's code is `key`. The row is owned

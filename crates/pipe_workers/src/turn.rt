@@ -40,6 +40,7 @@ fn take_rows<S: SpillStore + Drop, R: Naming, G: Gate, H: Wait>(
     let rows = ChunkRows::new(shared.alloc, query, position as u32, chunk)?;
     let turn = TurnRows { position, rows };
     for row in 0..turn.rows.len() {
+        table.look_ahead(query.key_types(), &turn.rows, row);
         take_row(rt, shared, table, shares, key, &turn, row)?;
     }
     Ok(())

@@ -30,8 +30,9 @@ take_row-requires-clause-within g c =
     let frame = c.args.chunk.now.frame in
     let rows : c.in_ok-rows.rows ≡ chunk_rows r.query i frame =
     c.in_ok-rows.ensures.rows ∙ ap (λ (q : Query). chunk_rows (query_tree q) i frame) c.query-query.ensures.is ∙ ap (λ (q : QueryTree). chunk_rows q i frame) (sym c.query-query.ensures.run) in
-    subst (λ v. IsInTurn r v i (taken_with r v i c.in_ok-rows.rows c.loop-row.row) c.loop-row.table c.loop-row.shares) (sym c.loop-row.invariant.worker)
-    (subst (λ (l : List Row). IsInTurn r w i (taken_with r w i l c.loop-row.row) c.loop-row.table c.loop-row.shares) (sym rows) c.loop-row.invariant)
+    subst (λ t. IsInTurn r c.loop-row.shares.worker i (taken_with r c.loop-row.shares.worker i c.in_ok-rows.rows c.loop-row.row) t c.loop-row.shares) (sym c.look_ahead.ensures)
+    (subst (λ v. IsInTurn r v i (taken_with r v i c.in_ok-rows.rows c.loop-row.row) c.loop-row.table c.loop-row.shares) (sym c.loop-row.invariant.worker)
+    (subst (λ (l : List Row). IsInTurn r w i (taken_with r w i l c.loop-row.row) c.loop-row.table c.loop-row.shares) (sym rows) c.loop-row.invariant))
 
 pub loop-row-preserved : goal.loop-row-preserved
 loop-row-preserved g c =
