@@ -1,7 +1,9 @@
-//! Two workers over four partitions: some of their rows are spilled, and others wait until they are merged
-//! side by side.
+//! Two workers over four partitions, which are finished side by side: some of their rows are spilled, and
+//! others wait.
 
+use crate::PipeError;
 use crate::row_tests::{have_no_frame, stores_of};
+use crate::spill_tests::Loose;
 use crate::test_runs::{End, has_columns, run_rows, sum_query};
 use pipe_plan::{PartitionEvent, SpillAction};
 use pipe_spill::MemoryStore;
@@ -74,5 +76,32 @@ fn what_waits_and_what_was_spilled_is_in_the_sums(rt: HostRuntime) -> Result<(),
     )?;
     assert!(rt; gives_sums(&end));
     assert!(rt; only_waits(&end, 3) && !have_no_frame(&end.1));
+    Ok(())
+}
+
+/// No store gives a frame back.
+#[test]
+fn of_damaged_frames_one_of_the_first_partition_is_told(rt: HostRuntime) -> Result<(), Fail> {
+    let alloc = rt.alloc();
+    let query = sum_query(alloc)?;
+    let mut stores = Vec::new(alloc);
+    for _store in 0..4 {
+        stores.push(Loose::new(alloc, 1000))?;
+    }
+    let (result, stores) = run_rows(
+        &rt,
+        alloc,
+        &query,
+        (2, 4, 0, 1, 0),
+        &[SpillAction::Dump, SpillAction::Dump],
+        &[4, 4, 4, 4],
+        &ROWS,
+        stores,
+    )?;
+    let told = match result {
+        Err(PipeError::Damaged { partition, .. }) => partition == 0,
+        _ => false,
+    };
+    assert!(rt; told && stores.len() == 4);
     Ok(())
 }

@@ -123,7 +123,7 @@ fn one_spill_by_limit_and_store(rt: HostRuntime) -> Result<(), Fail> {
 /// A store that doesn't tell. It gives its one frame with the lowest bit of one byte changed, or
 /// nothing where it has no such byte.
 #[derive(Drop)]
-struct Loose {
+pub(crate) struct Loose {
     alloc: Global,
     bytes: Vec<u8>,
     frames: u64,
@@ -131,7 +131,7 @@ struct Loose {
 }
 
 impl Loose {
-    fn new(alloc: Global, at: usize) -> Loose
+    pub(crate) fn new(alloc: Global, at: usize) -> Loose
         ensures { result.frames ≡ 0 }
     {
         Loose {
