@@ -8,7 +8,7 @@ const LEAST: usize = 1024;
 /// Indices of groups, by the hashes of their keys. There is no clause: whoever asks tests the answer.
 #[derive(Drop)]
 pub(crate) struct Hints {
-    indices: Vec<usize>,
+    indices: Vec<u32>,
 }
 
 impl Hints {
@@ -38,7 +38,7 @@ impl Hints {
     #[inline(always)]
     pub(crate) fn get(&self, hash: u64) -> usize {
         match self.indices.get(self.slot(hash)) {
-            Some(index) => *index,
+            Some(index) => *index as usize,
             None => 0,
         }
     }
@@ -48,14 +48,17 @@ impl Hints {
     pub(crate) fn set(&mut self, hash: u64, index: usize) {
         let slot = self.slot(hash);
         if let Some(place) = self.indices.get_mut(slot) {
-            *place = index;
+            if let Ok(index) = u32::try_from(index) {
+                *place = index;
+            }
         }
     }
 
-    /// Makes room for the hints of so many groups. Where memory is wanting there are as many as before.
+    /// Makes room for the hints of so many groups, four of them for each, since two groups with one hint take
+    /// turns at missing it. Where memory is wanting there are as many as before.
     pub(crate) fn widen(&mut self, groups: usize) {
         let count = self.indices.len();
-        if groups >= count / 2 {
+        if groups >= count / 4 {
             let more = count.max(LEAST);
             if self.indices.reserve(more).is_ok() {
                 for _ in 0..more {
