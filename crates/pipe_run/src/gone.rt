@@ -1,16 +1,29 @@
 //! Chunks that a run has fed.
 
-use pipe_columns::DataChunk;
+use pipe_columns::{DataChunk, DataFrame};
+use std::alloc::Global;
 use std::thread;
 use std::thread::Threads;
 
-/// Drops a chunk.
-fn drop_one(_chunk: DataChunk) {}
+/// Drops the frame of a chunk.
+fn drop_frame(alloc: Global, chunk: &mut DataChunk) {
+    chunk.frame = DataFrame::new(0, Vec::new(alloc)).unwrap();
+}
 
-/// Drops chunks that a round of so many workers has taken: where there were several, each chunk in a
-/// thread of its own where one can be had.
-pub fn drop_chunks<H: Threads + Sync>(rt: &H, workers: usize, chunks: Vec<DataChunk>) {
+/// Drops chunks that a round of so many workers has taken: where there were several, their frames go in as
+/// many threads.
+pub fn drop_chunks<H: Threads + Sync>(
+    rt: &H,
+    alloc: Global,
+    workers: usize,
+    mut chunks: Vec<DataChunk>,
+) {
     if workers > 1 {
-        let _dropped = thread::map_vec(rt, chunks, &|chunk| drop_one(chunk));
+        thread::for_each_mut(
+            rt,
+            chunks.as_mut_slice(),
+            workers,
+            &|_, chunk| { drop_frame(alloc, chunk) },
+        );
     }
 }

@@ -114,7 +114,7 @@ impl<'a, S: SpillStore + Drop + Send> GenericRun<'a, S> {
             Err((stop, closed)) => return Err((stop.error(), stores_of(closed, room))),
         };
         let marks = with_marks(marks, &chunks);
-        drop_chunks(rt, begun.limits.workers, chunks);
+        drop_chunks(rt, alloc, begun.limits.workers, chunks);
         Ok(GenericRun {
             begun,
             closed,

@@ -19,6 +19,9 @@ use std::thread::Threads;
 /// A text of fewer bytes isn't worth threads.
 pub(crate) const FEWEST_BYTES: usize = 1 << 20;
 
+/// In how many pieces for each thread a large text is cut: where a thread comes late, others take its.
+const PIECES_A_THREAD: usize = 4;
+
 /// Looks over the text of a file.
 pub(crate) trait Looks {
     /// What it rests on.
@@ -91,7 +94,8 @@ impl<H: Threads + Sync> Looks for SideBySide<'_, H> {
     ) -> Result<(usize, usize, Vec<usize>), CsvError> {
         let is_large = self.threads > 1 && text.len() >= self.fewest;
         if is_large && wanted.is_none() && !has_quote(text) {
-            let sizes = PieceSizes::new(text.len(), self.threads, size);
+            let pieces = self.threads.saturating_mul(PIECES_A_THREAD);
+            let sizes = PieceSizes::new(text.len(), pieces, size);
             let found = look_over_pieces(self.rt, alloc, text, fields, file, size, sizes);
             if let Ok(found) = found {
                 return Ok(found);

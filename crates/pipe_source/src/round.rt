@@ -1,12 +1,12 @@
 //! Chunks that are read side by side.
 
-ghost use Rattle.std.specs.Prelude.{◌≡◌, ◌≤◌, ◌<◌, ◌+◌, ◌-◌, ◌++◌, ◌∷◌, [], All, IfErr, IfOk, IfSome, IsErrOf, List, Ok, OnOk, length, map};
+ghost use Rattle.std.specs.Prelude.{◌≡◌, ◌≤◌, ◌<◌, ◌+◌, ◌-◌, ◌++◌, ◌∷◌, [], All, IfErr, IfOk, IfSome, IsErrOf, List, Ok, OnOk, length, map, slice_index_or, ℕ, ◌*◌};
 ghost use Rattle.pipe_columns.specs.declared.data_chunk.DataChunk.{DataChunk};
 ghost use Rattle.pipe_columns.specs.Causes.{HasCause};
 ghost use Rattle.pipe_columns.specs.Frame.{FitsSchema};
 ghost use Rattle.pipe_csv.specs.declared.csv_error.CsvError.TheVariants as csv_error;
 ghost use Rattle.pipe_source.specs.CsvChunks.{no_more};
-ghost use Rattle.pipe_source.specs.Kept.{IsKept, IsPlace, IsReading, chunks_at, state_behind};
+ghost use Rattle.pipe_source.specs.Kept.{IsKept, IsPlace, IsReading, chunk_at, chunks_at, state_behind};
 ghost use Rattle.pipe_source.specs.Reader.{StopsAt, left_of};
 ghost use Rattle.pipe_source.specs.ReadOn.{HasReadNextText, HasReadOn, state_ahead};
 ghost use Rattle.pipe_source.specs.Rounds.{StopsWithin};
@@ -59,9 +59,62 @@ fn push_all(chunks: &mut Vec<DataChunk>, more: Vec<DataChunk>) -> Result<(), All
     Ok(())
 }
 
+/// Places for so many chunks, in each of which a want of memory stands until its chunk is read.
+fn places_for(alloc: Global, count: usize) -> Result<Vec<Result<DataChunk, CsvError>>, AllocError>
+    ensures { IfOk result (λ v. length v.items ≡ count) }
+{
+    let mut places = Vec::with_capacity(alloc, count)?;
+    for _place in 0..count {
+        places.push_reserved(Err(CsvError::Memory));
+    }
+    Ok(places)
+}
+
 impl Reading {
-    /// The first chunks of the rows that are left of a text, as many at a time as there are
-    /// threads.
+    /// Reads a chunk of the rows that are left of a text into its place.
+    fn read_one(
+        &self,
+        alloc: Global,
+        text: &KeptText,
+        n: usize,
+        place: &mut Result<DataChunk, CsvError>,
+    )
+        requires reading { IsReading self.now }
+        requires kept { IsKept self.now text.now }
+        requires some { n * self.now.options.chunk_size < text.now.left }
+        ensures { IfOk place.new (λ c. c ≡ chunk_at self.now text.now n) }
+    {
+        *place = self.chunk_of(alloc, text, n);
+    }
+
+    /// Reads the first chunks of the rows that are left of a text into their places, in so many threads
+    /// at most.
+    fn read_each<H: Threads + Sync>(
+        &self,
+        rt: &H,
+        alloc: Global,
+        text: &KeptText,
+        threads: usize,
+        places: &mut [Result<DataChunk, CsvError>],
+    )
+        requires reading { IsReading self.now }
+        requires kept { IsKept self.now text.now }
+        requires some { (n : ℕ) → n < length places.old
+            → n * self.now.options.chunk_size < text.now.left }
+        requires threads { 0 < threads }
+        ensures count { length places.new ≡ length places.old }
+        ensures each { (n : ℕ) (d : _) → n < length places.old → IfOk (slice_index_or places.new n d)
+            (λ c. c ≡ chunk_at self.now text.now n) }
+    {
+        thread::for_each_mut(
+            rt,
+            places,
+            threads,
+            &|n, place| { self.read_one(alloc, text, n, place) },
+        );
+    }
+
+    /// The first chunks of the rows that are left of a text, read in so many threads at most.
     pub(crate) fn chunks_of<H: Threads + Sync>(
         &self,
         rt: &H,
@@ -76,19 +129,10 @@ impl Reading {
         requires threads { 0 < threads }
         ensures { IfOk result (λ v. v.items ≡ chunks_at self.now text.now count) }
     {
+        let mut places = places_for(alloc, count)?;
+        self.read_each(rt, alloc, text, threads, places.as_mut_slice());
         let mut chunks = Vec::new(alloc);
-        let mut first = 0;
-        while first < count {
-            let some = threads.min(count - first);
-            let made = thread::map_indices(
-                rt,
-                alloc,
-                some,
-                &|n| { self.chunk_of(alloc, text, first + n) },
-            )?;
-            push_made(&mut chunks, made)?;
-            first += some;
-        }
+        push_made(&mut chunks, places)?;
         Ok(chunks)
     }
 
