@@ -12,7 +12,10 @@ impl Groups {
         let count = self.prototypes.len();
         let mut seen = 0usize;
         for number in 0..count {
-            if let Some(state) = self.states.get(index.wrapping_mul(count).wrapping_add(number)) {
+            if let Some(state) = self
+                .states
+                .get(index.wrapping_mul(count).wrapping_add(number))
+            {
                 seen = seen.wrapping_add(match state {
                     AggregateFunction::Null(_) => 1,
                     _ => 0,
