@@ -22,6 +22,12 @@ use std::alloc::{AllocError, Global};
 use std::thread;
 use std::thread::Threads;
 
+/// How many threads read for each that is asked for: a processor that has none left takes one that waits.
+const THREADS_A_PROCESSOR: usize = 4;
+
+/// Where so many threads or more are asked for, no further ones are made.
+const MOST_THREADS: usize = 64;
+
 /// Adds a chunk.
 fn push_chunk(chunks: &mut Vec<DataChunk>, chunk: DataChunk) -> Result<(), AllocError>
     ensures { OnOk result (chunks.new.items ≡ chunks.old.items ++ chunk ∷ []) }
@@ -114,7 +120,7 @@ impl Reading {
         );
     }
 
-    /// The first chunks of the rows that are left of a text, read in so many threads at most.
+    /// The first chunks of the rows that are left of a text, read side by side on so many processors.
     pub(crate) fn chunks_of<H: Threads + Sync>(
         &self,
         rt: &H,
@@ -130,6 +136,8 @@ impl Reading {
         ensures { IfOk result (λ v. v.items ≡ chunks_at self.now text.now count) }
     {
         let mut places = places_for(alloc, count)?;
+        let several = threads.saturating_mul(THREADS_A_PROCESSOR);
+        let threads = threads.max(several.min(MOST_THREADS));
         self.read_each(rt, alloc, text, threads, places.as_mut_slice());
         let mut chunks = Vec::new(alloc);
         push_made(&mut chunks, places)?;
