@@ -39,7 +39,7 @@ use Rattle.pipe_run.specs.Ending.{AreKept}
 use Rattle.pipe_run.specs.Given.{HasRows, IsAt, IsSource, SourceSeen, StandsForPart}
 use Rattle.pipe_run.specs.Sources.{ArePlacedParts, IsGiveCause, IsPlacedFrame}
 use Rattle.pipe_run.specs.Stacking.{all_frames}
-use Rattle.pipe_run.specs.Tasks.{GaveOrRefused, IsPartOf, WasFinished}
+use Rattle.pipe_run.specs.Tasks.{GaveOrRefused, IsFirstRefusal, IsPartOf, WasFinished}
 use Rattle.pipe_run.proofs.ByPlace.{placed-all}
 use Rattle.pipe_run.proofs.ChunkFacts.{own-placed, part-gives}
 use Rattle.pipe_run.proofs.SourceFacts.{fewer}
@@ -177,7 +177,7 @@ moved-on {B = B} g xs now x a old new all is more same so_far =
 -- what was taken so far: all that was given, or a refusal
 abbrev pub HasTaken : Option BatchError → List PlacedGroups → List (Result PlacedGroups BatchError) → List (Result PlacedGroups BatchError) → Type 0
 HasTaken None placed left all = map Ok placed ++ left ≡ all
-HasTaken (Some e) placed left all = Contains all (Err e)
+HasTaken (Some e) placed left all = IsFirstRefusal all e
 
 -- one more
 pub taken-ok : (refusal : Option BatchError) (placed now : List PlacedGroups) (g : PlacedGroups) (given : Result PlacedGroups BatchError) (old new all : List (Result PlacedGroups BatchError))
@@ -188,10 +188,18 @@ taken-ok (Some e) placed now g given old new all is ok more so_far = so_far
 -- the first refusal, or a further one
 pub taken-err : (refusal : Option BatchError) (placed : List PlacedGroups) (e : BatchError) (given : Result PlacedGroups BatchError) (old new all : List (Result PlacedGroups BatchError))
     → old ≡ given ∷ new → given ≡ Err e → HasTaken refusal placed old all → HasTaken (option_or refusal (Some e)) placed new all
-taken-err None placed e given old new all is err so_far =
-    subst (λ (l : List (Result PlacedGroups BatchError)). Contains l (Err e)) so_far
-    (Contains-append_right (map Ok placed) old (Err e) (subst (λ (l : List (Result PlacedGroups BatchError)). Contains l (Err e)) (sym is) (0, omega arith, err)))
+taken-err None placed e given old new all is err so_far = record {
+  front = placed;
+  rest = new;
+  is = sym so_far ∙ ap (λ l. map Ok placed ++ l) (is ∙ ap (λ g. g ∷ new) err);
+}
 taken-err (Some first) placed e given old new all is err so_far = so_far
+
+-- the first refusal is among what was given
+pub first-given : (given : List (Result PlacedGroups BatchError)) (e : BatchError) → IsFirstRefusal given e → Contains given (Err e)
+first-given given e first =
+    subst (λ (l : List (Result PlacedGroups BatchError)). Contains l (Err e)) (sym first.is)
+    (Contains-append_right (map Ok first.front) (Err e ∷ first.rest) (Err e) (0, omega arith, refl))
 
 -- ---- all partitions
 

@@ -1,5 +1,5 @@
 -- Of the proofs alone: partitions that are finished side by side, each with the local groups of its keys.
-use Rattle.std.specs.Prelude.{◌≡◌, ◌++◌, ℕ, filter, List, Result, Ok, Err}
+use Rattle.std.specs.Prelude.{◌≡◌, ◌++◌, ◌∷◌, ℕ, filter, List, map, Result, Ok, Err}
 use Rattle.pipe_spill.specs.declared.spill_row.SpillRow.{SpillRow}
 use Rattle.pipe_groups.specs.declared.placed_groups.PlacedGroups.{PlacedGroups}
 use Rattle.pipe_groups.specs.Holds.{Holds}
@@ -27,3 +27,10 @@ pub record WasFinished (s : PartitionSeen) (local : Table) (new : PartitionSeen)
     (given : Result PlacedGroups BatchError) : Type 0 where
   pub kept : KeepsRest s new
   pub gave : GaveOrRefused s local new given
+
+-- of what partitions gave in turn, a refusal is the first: all in front of it gave groups
+pub record IsFirstRefusal (given : List (Result PlacedGroups BatchError)) (e : BatchError)
+    : Type 0 where
+  pub front : List PlacedGroups
+  pub rest : List (Result PlacedGroups BatchError)
+  pub is : given ≡ map Ok front ++ Err e ∷ rest

@@ -1,9 +1,8 @@
 //! Closed partitions that are finished side by side, each with the local groups of its keys.
 
 ghost use Rattle.std.specs.Prelude.{◌≡◌, ◌<◌, ◌≤◌, ℕ, IfErr, IfOk, Ok, Err, length, map, slice_index_or, vec_capacity, vec_len};
-ghost use Rattle.std.specs.List.{Contains};
 ghost use Rattle.pipe_global.specs.Finishing.{CanFinish};
-ghost use Rattle.pipe_run.specs.Tasks.{WasFinished};
+ghost use Rattle.pipe_run.specs.Tasks.{IsFirstRefusal, WasFinished};
 
 use pipe_global::{BatchError, ClosedPartition};
 use pipe_groups::PlacedGroups;
@@ -91,7 +90,7 @@ pub(crate) fn finish_each<S: SpillStore + Drop + Send, H: Threads + Sync>(
     thread::for_each_mut(rt, tasks, threads, &|_, task| { finish_one(alloc, task) });
 }
 
-/// What all partitions gave, or why one of them gave nothing; and the partitions, in order. There is room
+/// What all partitions gave, or why the first that refused gave nothing; and the partitions, in order. There is room
 /// for both.
 pub(crate) fn taken_apart<S: SpillStore + Drop>(
     tasks: Vec<FinishTask<S>>,
@@ -105,7 +104,7 @@ pub(crate) fn taken_apart<S: SpillStore + Drop>(
     requires placed { (vec_len placed ≡ 0) × (vec_len tasks ≤ vec_capacity placed) }
     ensures partitions { result.1.items ≡ map (λ t. t.partition) tasks.items }
     ensures placed { IfOk result.0 (λ v. map Ok v.items ≡ map (λ t. t.given) tasks.items) }
-    ensures refused { IfErr result.0 (λ e. Contains (map (λ t. t.given) tasks.items) (Err e)) }
+    ensures refused { IfErr result.0 (λ e. IsFirstRefusal (map (λ t. t.given) tasks.items) e) }
 {
     let mut refusal = None;
     for task in tasks {

@@ -8,8 +8,8 @@ use Rattle.pipe_tables.specs.Tables.{Table}
 use Rattle.pipe_run.specs.declared.tasks.FinishTask.{FinishTask}
 use Rattle.pipe_run.specs.Given.{HasRows}
 use Rattle.pipe_run.specs.Sources.{ArePlacedParts, IsGiveCause, IsPlacedFrame, unasked}
-use Rattle.pipe_run.specs.Tasks.{IsPartOf}
-use Rattle.pipe_run.proofs.SideBySide.{source-shape, tasks-cause, tasks-count, tasks-finish, tasks-frames, tasks-kept, tasks-placed}
+use Rattle.pipe_run.specs.Tasks.{IsFirstRefusal, IsPartOf}
+use Rattle.pipe_run.proofs.SideBySide.{first-given, source-shape, tasks-cause, tasks-count, tasks-finish, tasks-frames, tasks-kept, tasks-placed}
 use Rattle.pipe_run.proofs.side_by_side.finish_all.Goals as goal
 
 pub cut_by_partition-requires-clause-shape : goal.cut_by_partition-requires-clause-shape
@@ -96,5 +96,5 @@ returns-clause-cause g c =
     let partitions = ap (λ l. map (λ t. t.partition) l) lent ∙ c.tasks_of-tasks.ensures.partitions in
     let locals = ap (λ l. map (λ t. t.local) l) lent ∙ c.tasks_of-tasks.ensures.locals in
     let after = c.taken_apart.ensures.partitions ∙ ap (λ l. map (λ t. t.partition) l) back in
-    IfErr-weaker c.taken_apart.result.0 (λ e. Contains (map (λ t. t.given) _) (Err e)) (λ e. IsGiveCause s (record s { partitions = c.taken_apart.result.1.items }) e)
-    (λ e there. tasks-cause (λ t. t.partition) (λ t. t.local) (λ t. t.given) s c.requires.source refl c.in-Ok-cut_by_partition.locals.items old new partitions locals cut c.finish_each.ensures.count c.finish_each.ensures.each c.taken_apart.result.1.items after e (subst (λ l. Contains (map (λ t. t.given) l) (Err e)) back there)) c.taken_apart.ensures.refused
+    IfErr-weaker c.taken_apart.result.0 (λ e. IsFirstRefusal (map (λ t. t.given) _) e) (λ e. IsGiveCause s (record s { partitions = c.taken_apart.result.1.items }) e)
+    (λ e there. tasks-cause (λ t. t.partition) (λ t. t.local) (λ t. t.given) s c.requires.source refl c.in-Ok-cut_by_partition.locals.items old new partitions locals cut c.finish_each.ensures.count c.finish_each.ensures.each c.taken_apart.result.1.items after e (subst (λ l. Contains (map (λ t. t.given) l) (Err e)) back (first-given (map (λ t. t.given) _) e there))) c.taken_apart.ensures.refused
