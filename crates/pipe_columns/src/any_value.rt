@@ -18,6 +18,7 @@ pub enum AnyValue {
 }
 
 /// Whether a number is in the range of a type.
+#[inline(always)]
 fn is_in_range(number: i128, dtype: DataType) -> bool
     ensures { result ≡ fits_number number dtype }
 {
@@ -37,6 +38,7 @@ fn is_in_range(number: i128, dtype: DataType) -> bool
 
 impl AnyValue {
     /// Whether a column of the type may hold the value.
+    #[inline(always)]
     pub fn fits(&self, dtype: DataType) -> bool
         ensures fits { result ≡ fits self.now dtype }
         ensures utf8 { HasUtf8 self.now }

@@ -33,7 +33,8 @@ impl Model for Column {
 }
 
 /// Whether all values fit a type. The look at each shows that its text is in UTF-8.
-fn do_fit(values: &[AnyValue], dtype: DataType) -> bool
+#[inline(always)]
+fn do_all_fit(values: &[AnyValue], dtype: DataType) -> bool
     ensures fit { result ≡ all_fit dtype values.now }
     ensures utf8 { IsTrue result → All HasUtf8 values.now }
 {
@@ -43,6 +44,21 @@ fn do_fit(values: &[AnyValue], dtype: DataType) -> bool
         }
     }
     true
+}
+
+/// Whether all values fit a type. Each type of many values has a loop of its own, which knows it.
+fn do_fit(values: &[AnyValue], dtype: DataType) -> bool
+    ensures fit { result ≡ all_fit dtype values.now }
+    ensures utf8 { IsTrue result → All HasUtf8 values.now }
+{
+    match dtype {
+        DataType::Int64 => do_all_fit(values, DataType::Int64),
+        DataType::Int32 => do_all_fit(values, DataType::Int32),
+        DataType::UInt64 => do_all_fit(values, DataType::UInt64),
+        DataType::UInt32 => do_all_fit(values, DataType::UInt32),
+        DataType::String => do_all_fit(values, DataType::String),
+        _ => do_all_fit(values, dtype),
+    }
 }
 
 impl Column {
@@ -90,6 +106,13 @@ impl Column {
         ensures utf8 { All HasUtf8 self.now.values }
     {
         &self.values
+    }
+
+    /// The values, which are given up. It takes no memory.
+    pub fn into_values(self) -> Vec<AnyValue>
+        ensures { result.items ≡ self.values }
+    {
+        self.values
     }
 
     /// Whether the column has the name and the type of a field.

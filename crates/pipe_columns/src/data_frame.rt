@@ -132,6 +132,13 @@ impl DataFrame {
         &self.columns
     }
 
+    /// The columns, which are given up. It takes no memory.
+    pub fn into_columns(self) -> Vec<Column>
+        ensures { result.items ≡ self.columns }
+    {
+        self.columns
+    }
+
     /// A frame of the schema's columns, without rows.
     pub fn empty_with_schema(alloc: Global, schema: &Schema) -> Result<DataFrame, AllocError>
         ensures { IfOk result (λ f. f ≡ frame_of schema.now []) }

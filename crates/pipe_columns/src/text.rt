@@ -46,6 +46,23 @@ impl Text {
         }
     }
 
+    /// The text of bytes that are UTF-8. It takes no memory, and looks at none of them.
+    pub fn from_utf8(bytes: Vec<u8>) -> Text
+        requires { IsUtf8 bytes.items }
+        ensures { result ≡ bytes.items }
+    {
+        Text {
+            inner: unsafe { String::from_utf8_unchecked(bytes) },
+        }
+    }
+
+    /// The bytes, which are given up. It takes no memory.
+    pub fn into_bytes(self) -> Vec<u8>
+        ensures { result.items ≡ self }
+    {
+        self.inner.into_bytes()
+    }
+
     pub fn as_bytes(&self) -> &[u8]
         ensures bytes { result.now ≡ self.now }
         ensures text { IsUtf8 self.now }

@@ -29,11 +29,12 @@ fn marks_of(alloc: Global, chunks: &[DataChunk]) -> Result<Vec<Snapshot<DataChun
     Ok(with_marks(marks, chunks))
 }
 
-/// What sinks are that took chunks, and marks of all chunks.
+/// What sinks are that took chunks, marks of all chunks, and the chunks, which are handed back.
 #[derive(Drop)]
 struct Taken {
     chunks: Vec<Snapshot<DataChunk>>,
     sinks: Vec<PausedSink>,
+    spent: Vec<DataChunk>,
 }
 
 /// The sinks of all workers take further chunks, at their positions.
@@ -61,22 +62,27 @@ fn take_in<H: Threads + Sync>(
     let sinks = typed_round(rt, alloc, query, partitions, &before, &chunks, sinks)?;
     let mut all = before;
     all.append(&mut fed)?;
-    Ok(Taken { chunks: all, sinks })
+    Ok(Taken {
+        chunks: all,
+        sinks,
+        spent: chunks,
+    })
 }
 
 impl<'a, S: SpillStore + Drop> TypedRun<'a, S> {
-    /// Feeds further chunks behind those fed before; each worker's sink takes those that are its turns.
+    /// Feeds further chunks behind those fed before, and hands them back; each worker's sink takes those
+    /// that are its turns.
     pub(crate) fn feed<H: Threads + Sync>(
         self,
         rt: &H,
         alloc: Global,
         chunks: Vec<DataChunk>,
-    ) -> Result<TypedRun<'a, S>, (PipeError, Vec<S>)>
-        ensures setting { IfOk result (λ r. r.setting ≡ self.entry.setting) }
-        ensures chunks { IfOk result (λ r. r.chunks ≡ self.entry.chunks ++ chunks.items) }
+    ) -> Result<(TypedRun<'a, S>, Vec<DataChunk>), (PipeError, Vec<S>)>
+        ensures setting { IfOk result (λ r. r.0.setting ≡ self.entry.setting) }
+        ensures chunks { IfOk result (λ r. r.0.chunks ≡ self.entry.chunks ++ chunks.items) }
         ensures fed { OnOk result
             (CanFeed self.entry.setting.query.schema (self.entry.chunks ++ chunks.items)) }
-        ensures same { IfOk result (λ r. r.stores ≡ self.entry.stores) }
+        ensures same { IfOk result (λ r. r.0.stores ≡ self.entry.stores) }
         ensures cause { IfErr result (λ e. IsFeedCause self.entry chunks.items (map (λ s. record {
           held = S.held s;
           told = S.told s;
@@ -112,7 +118,11 @@ impl<'a, S: SpillStore + Drop> TypedRun<'a, S> {
             Ok(rows) => rows,
             Err(error) => return Err((error, stores)),
         };
-        let Taken { chunks, sinks } = match take_in(
+        let Taken {
+            chunks,
+            sinks,
+            spent,
+        } = match take_in(
             rt,
             alloc,
             &query,
@@ -124,7 +134,7 @@ impl<'a, S: SpillStore + Drop> TypedRun<'a, S> {
             Ok(taken) => taken,
             Err(AllocError) => return Err((PipeError::Memory, stores)),
         };
-        Ok(TypedRun {
+        let run = TypedRun {
             query,
             limits,
             actions,
@@ -133,6 +143,7 @@ impl<'a, S: SpillStore + Drop> TypedRun<'a, S> {
             chunks,
             rows,
             journal,
-        })
+        };
+        Ok((run, spent))
     }
 }

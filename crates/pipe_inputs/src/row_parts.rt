@@ -1,11 +1,11 @@
 //! The parts of one row.
 
-ghost use Rattle.std.specs.Prelude.{◌≡◌, ◌<◌, ◌^◌, All, IfOk, length};
+ghost use Rattle.std.specs.Prelude.{◌≡◌, ◌<◌, ◌^◌, [], All, IfOk, OnOk, length};
 ghost use Rattle.pipe_columns.specs.Frame.{value_at};
 ghost use Rattle.pipe_model.specs.Answer.{tuple_cmp};
 ghost use Rattle.pipe_inputs.specs.ChunkRows.{row_at};
 
-use crate::cells::{cell, compare_cells, own_cells};
+use crate::cells::{cell, compare_cells, own_cells, own_cells_into};
 use crate::chunk_rows::ChunkRows;
 use pipe_columns::{AnyValue, Place};
 use std::alloc::{AllocError, Global};
@@ -69,5 +69,27 @@ impl<'a> ChunkRows<'a> {
         ensures { IfOk result (λ inputs. inputs.items ≡ (row_at self.now row).inputs) }
     {
         own_cells(alloc, &self.inputs, row)
+    }
+
+    /// Puts a row's inputs, of their own, into an empty list.
+    #[inline(always)]
+    pub fn own_inputs_into(
+        &self,
+        alloc: Global,
+        row: usize,
+        own: &mut Vec<AnyValue>,
+    ) -> Result<(), AllocError>
+        requires there { row < length self.now }
+        requires empty { own.old.items ≡ [] }
+        ensures { OnOk result (own.new.items ≡ (row_at self.now row).inputs) }
+    {
+        own_cells_into(alloc, &self.inputs, row, own)
+    }
+
+    /// How many inputs each row has.
+    pub fn inputs_len(&self) -> usize
+        ensures { All (λ r. length r.inputs ≡ result) self.now }
+    {
+        self.inputs.len()
     }
 }

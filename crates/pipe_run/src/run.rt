@@ -56,20 +56,19 @@ impl<'a, S: SpillStore + Drop> Model for GenericRun<'a, S> {
 }
 
 impl<'a, S: SpillStore + Drop + Send> GenericRun<'a, S> {
-    /// Feeds further chunks behind those fed before; each worker takes those that are its turns. The
-    /// chunks may then be dropped. A refusal ends the run and hands the stores back, in order.
-    pub fn feed<G: Gate + Sync, H: Threads + Wait + Sync>(
+    /// Feeds further chunks as `feed` does, and hands them back, so that their memory can be used again.
+    pub fn feed_lent<G: Gate + Sync, H: Threads + Wait + Sync>(
         self,
         rt: &H,
         alloc: Global,
         gate: &G,
         chunks: Vec<DataChunk>,
-    ) -> Result<GenericRun<'a, S>, (PipeError, Vec<S>)>
-        ensures setting { IfOk result (λ r. r.setting ≡ self.entry.setting) }
-        ensures chunks { IfOk result (λ r. r.chunks ≡ self.entry.chunks ++ chunks.items) }
+    ) -> Result<(GenericRun<'a, S>, Vec<DataChunk>), (PipeError, Vec<S>)>
+        ensures setting { IfOk result (λ r. r.0.setting ≡ self.entry.setting) }
+        ensures chunks { IfOk result (λ r. r.0.chunks ≡ self.entry.chunks ++ chunks.items) }
         ensures fed { OnOk result
             (CanFeed self.entry.setting.query.schema (self.entry.chunks ++ chunks.items)) }
-        ensures counted { IfOk result (λ r. NoneFell self.entry.stores r.stores) }
+        ensures counted { IfOk result (λ r. NoneFell self.entry.stores r.0.stores) }
         ensures cause { IfErr result (λ e. IsFeedCause self.entry chunks.items (map (λ s. record {
           held = S.held s;
           told = S.told s;
@@ -114,15 +113,59 @@ impl<'a, S: SpillStore + Drop + Send> GenericRun<'a, S> {
             Err((stop, closed)) => return Err((stop.error(), stores_of(closed, room))),
         };
         let marks = with_marks(marks, &chunks);
-        drop_chunks(rt, alloc, begun.limits.workers, chunks);
-        Ok(GenericRun {
+        let run = GenericRun {
             begun,
             closed,
             rested,
             chunks: marks,
             rows: all,
             room,
-        })
+        };
+        Ok((run, chunks))
+    }
+
+    /// Feeds further chunks behind those fed before; each worker takes those that are its turns. The
+    /// chunks may then be dropped. A refusal ends the run and hands the stores back, in order.
+    pub fn feed<G: Gate + Sync, H: Threads + Wait + Sync>(
+        self,
+        rt: &H,
+        alloc: Global,
+        gate: &G,
+        chunks: Vec<DataChunk>,
+    ) -> Result<GenericRun<'a, S>, (PipeError, Vec<S>)>
+        ensures setting { IfOk result (λ r. r.setting ≡ self.entry.setting) }
+        ensures chunks { IfOk result (λ r. r.chunks ≡ self.entry.chunks ++ chunks.items) }
+        ensures fed { OnOk result
+            (CanFeed self.entry.setting.query.schema (self.entry.chunks ++ chunks.items)) }
+        ensures counted { IfOk result (λ r. NoneFell self.entry.stores r.stores) }
+        ensures cause { IfErr result (λ e. IsFeedCause self.entry chunks.items (map (λ s. record {
+          held = S.held s;
+          told = S.told s;
+          faults = S.faults s;
+          sure = S.sure s;
+        }) e.1.items) e.0) }
+        ensures untouched { IfErr result (λ e. IsBadChunks e.0 → map (λ s. record {
+          held = S.held s;
+          told = S.told s;
+          faults = S.faults s;
+          sure = S.sure s;
+        }) e.1.items ≡ self.entry.stores) }
+        ensures back { IfErr result (λ e. HaveWholeFrames
+            (run_of self.entry.setting true (chunks_reached self.entry chunks.items e.0))
+            (map (λ s. record {
+              held = S.held s;
+              told = S.told s;
+              faults = S.faults s;
+              sure = S.sure s;
+            }) e.1.items)) }
+    {
+        match self.feed_lent(rt, alloc, gate, chunks) {
+            Ok((run, chunks)) => {
+                drop_chunks(rt, alloc, run.begun.limits.workers, chunks);
+                Ok(run)
+            }
+            Err(refusal) => Err(refusal),
+        }
     }
 
     /// The journal of a partition so far. It takes no memory.

@@ -1,10 +1,11 @@
 -- Columns of the wanted fields of rows.
-use Rattle.std.proofs.Common.{◌≡◌, ◌∙◌, ◌≤◌, ◌<◌, ℕ, Bool, true, false, List, [], ◌∷◌, ◌++◌, length, replicate, get_or, set, Vec, Global, Option, Some, None, option_map, refl, sym, ap}
+use Rattle.std.proofs.Common.{◌≡◌, ◌∙◌, ◌≤◌, ◌<◌, ℕ, Bool, true, false, List, [], ◌∷◌, ◌++◌, length, replicate, get_or, set, Option, Some, None, option_map, refl, sym, ap, arith}
 use Rattle.pipe_columns.specs.declared.any_value.AnyValue.{AnyValue}
 use Rattle.pipe_columns.specs.declared.schema.Field.{Field}
 use Rattle.pipe_columns.specs.Frame.{ColumnData}
 use Rattle.pipe_csv.specs.Columns.{DoHold, column_of, columns_of, values_from, with_row}
-use Rattle.pipe_csv.proofs.ColumnFacts.{items_of, push-columns}
+use Rattle.std.proofs.lemmas.List.{get_or_default}
+use Rattle.pipe_csv.proofs.ColumnFacts.{length-with_row, with_row-more}
 use Rattle.pipe_csv.proofs.PieceFacts.{values-none}
 use Rattle.pipe_wanted.specs.Wanted.{chosen, is_wanted}
 use Rattle.pipe_wanted.proofs.ChosenFacts.{chosen-behind, chosen-copies, push-kept}
@@ -56,9 +57,21 @@ chosen-ends None ws xs (Some y) h = chosen-behind ws xs (y ∷ []) h
 chosen-ends (Some x) ws xs None h = refl
 chosen-ends (Some x) ws xs (Some y) h = ap (λ t. x ∷ t) (chosen-behind ws xs (y ∷ []) h)
 
+-- a value of a row goes to the end of the column at its place
+push-at : (columns : List (List AnyValue)) (i : ℕ) (old new : List AnyValue) (done : List AnyValue) (v : AnyValue) (before : List (List AnyValue))
+    → columns ≡ with_row done before → length done ≡ i → i < length columns → old ≡ get_or columns i old → new ≡ old ++ (v ∷ []) → set columns i new ≡ with_row (done ++ (v ∷ [])) before
+push-at columns i old new done v before e n h o p =
+    let size : length columns ≡ length before = ap length e ∙ length-with_row done before in
+    let was : get_or (with_row done before) (length done) [] ≡ old =
+    ap (λ (t : List (List AnyValue)). get_or t (length done) []) (sym e) ∙ ap (λ (k : ℕ). get_or columns k []) n ∙ get_or_default columns i [] old h ∙ sym o in
+    ap (λ (t : List (List AnyValue)). set t i new) e
+    ∙ ap (λ (t : List AnyValue). set (with_row done before) i t) (p ∙ ap (λ (t : List AnyValue). t ++ (v ∷ [])) (sym was))
+    ∙ ap (λ (k : ℕ). set (with_row done before) k (get_or (with_row done before) (length done) [] ++ (v ∷ []))) (sym n)
+    ∙ sym (with_row-more done v before (omega (arith, size, n, h)))
+
 -- a wanted value goes to the end of the next wanted column
-pub push-wanted : (ws : List Bool) (columns : List (Vec AnyValue Global)) (i : ℕ) (old new : Vec AnyValue Global) (done : List AnyValue) (v : AnyValue) (before : List (List AnyValue))
-    → is_wanted ws (length done) ≡ true → items_of columns ≡ with_row (chosen ws done) before → i ≡ length (chosen ws done) → i < length columns → old ≡ get_or columns i old → new.items ≡ old.items ++ (v ∷ [])
-    → items_of (set columns i new) ≡ with_row (chosen ws (done ++ (v ∷ []))) before
+pub push-wanted : (ws : List Bool) (columns : List (List AnyValue)) (i : ℕ) (old new : List AnyValue) (done : List AnyValue) (v : AnyValue) (before : List (List AnyValue))
+    → is_wanted ws (length done) ≡ true → columns ≡ with_row (chosen ws done) before → i ≡ length (chosen ws done) → i < length columns → old ≡ get_or columns i old → new ≡ old ++ (v ∷ [])
+    → set columns i new ≡ with_row (chosen ws (done ++ (v ∷ []))) before
 push-wanted ws columns i old new done v before w e n h o p =
-    push-columns columns i old new (chosen ws done) v before e (sym n) h o p ∙ ap (λ (t : List AnyValue). with_row t before) (sym (push-kept ws done v w))
+    push-at columns i old new (chosen ws done) v before e (sym n) h o p ∙ ap (λ (t : List AnyValue). with_row t before) (sym (push-kept ws done v w))

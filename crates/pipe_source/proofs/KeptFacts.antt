@@ -1,5 +1,5 @@
 -- What a reader keeps of a text: its rows, its chunks, and what is left behind some of them.
-use Rattle.std.proofs.Common.{◌≡◌, ◌∙◌, ◌≤◌, ◌<◌, ◌+◌, ◌-◌, ◌*◌, ℕ, zero, suc, List, [], ◌∷◌, ◌++◌, length, map, take, drop, get_or, min, nat_lt, Bool, true, false, Option, Some, None, Result, Ok, Err, refl, sym, ap, arith, subst, lt_of_mul-lt-mul_right, zero-mul, add-mul, one-mul, mul-le-mul_left, append_assoc}
+use Rattle.std.proofs.Common.{◌≡◌, ◌∙◌, ◌≤◌, ◌<◌, ◌+◌, ◌-◌, ◌*◌, ℕ, zero, suc, List, [], ◌∷◌, ◌++◌, length, map, take, drop, get_or, min, nat_lt, Bool, true, false, Option, Some, None, Result, Ok, Err, refl, sym, ap, arith, subst, lt_of_mul-lt-mul_right, zero-mul, add-mul, one-mul, mul-le-mul_left, append_assoc, rules}
 use Rattle.std.specs.Result.{IfOk}
 use Rattle.pipe_csv.specs.declared.csv_error.CsvError.{CsvError}
 use Rattle.std.specs.List.{range_with_len}
@@ -319,3 +319,7 @@ more-at f (x ∷ xs) first each =
     ap (λ t. map f (range_with_len 0 first) ++ (t ∷ xs)) here
     ∙ sym (append_assoc (map f (range_with_len 0 first)) (f first ∷ []) xs)
     ∙ ap (λ t. t ++ xs) (sym front) ∙ rest ∙ ap (λ k. map f (range_with_len 0 k)) (omega arith)
+
+-- nothing is left before any file is read
+pub kept-none : (what : Reading) (k : KeptText) → k.at ≡ record { file = 0; chunks = 0; rows = 0 } → k.text.items ≡ [] → k.starts.items ≡ [] → k.chunk ≡ 0 → k.left ≡ 0 → IsKept what k
+kept-none what k a t s c l = search rules

@@ -3,12 +3,14 @@ pub mod RowsLeft
 pub mod StartFacts
 pub mod ColumnLaws
 pub mod FieldsAt
+pub mod TextFields
 pub mod TextRows
 pub mod FileRows
 pub mod ReaderFacts
 pub mod KeptFacts
 pub mod SourceFacts
 pub mod ChosenColumns
+pub mod Places
 pub mod RoundFacts
 pub mod ChunksFit
 pub mod PieceRows

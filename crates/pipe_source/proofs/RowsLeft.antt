@@ -100,8 +100,8 @@ pub same-room : (len width : ℕ) (lent all : List ℕ) → length lent ≡ widt
 same-room len width lent all h g e = omega (arith, length-take len (lent ++ drop (length lent) all), length-append lent (drop (length lent) all), length-drop (length lent) all)
 
 -- columns of no values are as many as they are
-pub fresh-width : (columns : Vec (Vec AnyValue Global) Global) (n : ℕ) → items_of columns.items ≡ replicate n [] → vec_len columns ≡ n
-fresh-width columns n e = omega (arith, ap length e, length-replicate n (let none : List AnyValue = [] in none), length-map columns.items (λ (v : Vec AnyValue Global). v.items), columns.ok.0)
+pub fresh-width : (columns : Vec (List AnyValue) Global) (n : ℕ) → columns.items ≡ replicate n [] → vec_len columns ≡ n
+fresh-width columns n e = omega (arith, ap length e, length-replicate n (let none : List AnyValue = [] in none), columns.ok.0)
 
 -- rows that read are stopped by want of memory alone
 pub only-memory : (e : CsvError) (whole : Result (List (List AnyValue)) Misfit) (rows : List (List AnyValue)) → whole ≡ Ok rows → StopsBy e whole → e ≡ ce.Memory

@@ -21,6 +21,7 @@ use pipe_io::InputFiles;
 use pipe_wanted::chosen_schema;
 use std::alloc::{AllocError, Global};
 use std::marker::Model;
+use std::mem;
 use std::thread::Threads;
 
 /// The chunks of named files that are left, in an input that each call is handed. One file at a
@@ -29,6 +30,7 @@ use std::thread::Threads;
 pub struct ChunkReader {
     what: Reading,
     text: KeptText,
+    spent: Vec<DataChunk>,
 }
 
 impl Model for ChunkReader {
@@ -88,6 +90,7 @@ impl ChunkReader {
                 names,
             },
             text: no_text(alloc),
+            spent: Vec::new(alloc),
         }
     }
 
@@ -121,6 +124,7 @@ impl ChunkReader {
                 names,
             },
             text: no_text(alloc),
+            spent: Vec::new(alloc),
         })
     }
 
@@ -169,7 +173,8 @@ impl ChunkReader {
         ensures number { IfOk result (λ _. self.new.at.chunks ≡ self.old.at.chunks + 1) }
         ensures few { AreFew self.new.at }
     {
-        match self.what.chunk_of(alloc, &self.text, 0) {
+        let spent = self.spent.pop();
+        match self.what.chunk_of(alloc, &self.text, 0, spent) {
             Ok(chunk) => {
                 self.text.advance(1, self.what.options.chunk_size);
                 Ok(chunk)
@@ -220,6 +225,20 @@ impl ChunkReader {
         }
     }
 
+    /// Takes spent chunks back, whose memory the next ones take. What is left stays.
+    pub fn take_back(&mut self, chunks: Vec<DataChunk>)
+        ensures { self.new ≡ self.old }
+    {
+        self.spent = chunks;
+    }
+
+    /// Gives the spent chunks up that no further one took. What is left stays.
+    pub fn give_up(&mut self, alloc: Global) -> Vec<DataChunk>
+        ensures { self.new ≡ self.old }
+    {
+        mem::replace(&mut self.spent, Vec::new(alloc))
+    }
+
     /// The next so many chunks, as so many calls of `next_chunk` would give them, read side by side
     /// in threads. There are fewer only where none is left. Where a call would be refused, that
     /// alone is answered, and the reader is as before.
@@ -248,7 +267,10 @@ impl ChunkReader {
             All (λ c. FitsSchema (given_fields self.old) c.frame) v.items) }
     {
         let some = self.text.chunks_left().min(count);
-        let Ok(mut chunks) = self.what.chunks_of(rt, alloc, &self.text, some, threads) else {
+        let Ok(mut chunks) = self
+            .what
+            .chunks_of(rt, alloc, &self.text, some, threads, &mut self.spent)
+        else {
             return Err(CsvError::Memory);
         };
         if some == count {
@@ -256,10 +278,16 @@ impl ChunkReader {
             return Ok(chunks);
         }
         let last = self.text.place_behind();
-        match self
-            .what
-            .read_on(rt, alloc, input, last, &mut chunks, count, threads)
-        {
+        match self.what.read_on(
+            rt,
+            alloc,
+            input,
+            last,
+            &mut chunks,
+            count,
+            threads,
+            &mut self.spent,
+        ) {
             Ok(Some(text)) => {
                 self.text = text;
                 Ok(chunks)

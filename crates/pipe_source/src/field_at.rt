@@ -1,13 +1,15 @@
 //! Fields where they stand in a text. One that writes a short number is read many digits at once,
 //! and each other one as any field.
 
-ghost use Rattle.std.specs.Prelude.{◌≡◌, ◌≤◌, ◌++◌, ◌∷◌, [], IfOk, IfSome, OnOk, Some, is_some, length, true};
+ghost use Rattle.std.specs.Prelude.{◌≡◌, ◌≤◌, ◌++◌, ◌∷◌, [], IfOk, IfSome, Some, is_some, length, true};
 ghost use Rattle.pipe_columns.specs.AnyValue.{fits_number};
 ghost use Rattle.pipe_columns.specs.declared.any_value.AnyValue.{AnyValue};
 ghost use Rattle.pipe_columns.specs.declared.any_value.AnyValue.TheVariants as av;
+ghost use Rattle.pipe_columns.specs.declared.data_type.DataType.TheVariants as dt;
 ghost use Rattle.pipe_csv.specs.Fields.{read_field};
 ghost use Rattle.pipe_scan.specs.Records.{between};
 
+use crate::column_fill::ColumnFill;
 use pipe_columns::{AnyValue, DataType};
 use pipe_csv::{does_read, read_field};
 use pipe_scan::field_number;
@@ -59,37 +61,42 @@ pub(crate) fn does_read_at(dtype: DataType, text: &[u8], low: usize, high: usize
     short_number(dtype, text, low, high).is_some() || does_read(dtype, &text[low..high])
 }
 
-/// Puts a value behind others.
+/// Adds the text of a field that reads as one: the empty field is null.
 #[inline(always)]
-fn push(column: &mut Vec<AnyValue>, value: AnyValue) -> Result<(), AllocError>
-    ensures { OnOk result (column.new.items ≡ column.old.items ++ value ∷ []) }
+fn push_text(column: &mut ColumnFill, field: &[u8]) -> Result<(), AllocError>
+    requires { is_some (read_field dt.String field.now) ≡ true }
+    ensures { IfOk result (λ _. (value : AnyValue) × (read_field dt.String field.now ≡ Some value)
+        × (column.new ≡ column.old ++ value ∷ [])) }
 {
-    match column.push(value) {
-        Ok(()) => Ok(()),
-        Err(_) => Err(AllocError),
+    if field.is_empty() {
+        return column.push(AnyValue::Null);
     }
+    column.push_text(field)
 }
 
 /// Adds the value of a field that reads.
 pub(crate) fn push_field(
     alloc: Global,
-    column: &mut Vec<AnyValue>,
+    column: &mut ColumnFill,
     dtype: DataType,
     field: &[u8],
 ) -> Result<(), AllocError>
     requires { is_some (read_field dtype field.now) ≡ true }
     ensures { IfOk result (λ _. (value : AnyValue) × (read_field dtype field.now ≡ Some value)
-        × (column.new.items ≡ column.old.items ++ value ∷ [])) }
+        × (column.new ≡ column.old ++ value ∷ [])) }
 {
+    if dtype == DataType::String {
+        return push_text(column, field);
+    }
     let value = read_field(alloc, dtype, field)?.unwrap();
-    push(column, value)
+    column.push(value)
 }
 
 /// Adds the value of the field between two places of a text, which reads.
 #[inline(always)]
 pub(crate) fn push_field_at(
     alloc: Global,
-    column: &mut Vec<AnyValue>,
+    column: &mut ColumnFill,
     dtype: DataType,
     text: &[u8],
     low: usize,
@@ -100,10 +107,10 @@ pub(crate) fn push_field_at(
     requires reads { is_some (read_field dtype (between text.now low high)) ≡ true }
     ensures { IfOk result (λ _. (value : AnyValue)
         × (read_field dtype (between text.now low high) ≡ Some value)
-        × (column.new.items ≡ column.old.items ++ value ∷ [])) }
+        × (column.new ≡ column.old ++ value ∷ [])) }
 {
     match short_number(dtype, text, low, high) {
-        Some(number) => push(column, AnyValue::Int(i128::from(number))),
+        Some(number) => column.push(AnyValue::Int(i128::from(number))),
         None => push_field(alloc, column, dtype, &text[low..high]),
     }
 }

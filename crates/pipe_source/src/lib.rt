@@ -2,6 +2,7 @@
 #![tactic(auto)]
 
 mod chunk_reader;
+mod column_fill;
 mod csv_source;
 mod field_at;
 mod file_load;

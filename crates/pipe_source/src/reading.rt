@@ -8,6 +8,7 @@ ghost use Rattle.pipe_source.specs.Next.{IsNextText};
 ghost use Rattle.pipe_source.specs.Reader.{StopsAt, left_of};
 ghost use Rattle.pipe_wanted.specs.Wanted.{chosen};
 
+use crate::column_fill::{column_fills, values_of};
 use crate::file_load::{find_rows, wanted_after};
 use crate::file_text::FileText;
 use crate::kept_text::KeptText;
@@ -17,7 +18,7 @@ use crate::row_push::push_rows;
 use crate::source_columns::make_chunk;
 use crate::source_place::SourcePlace;
 use pipe_columns::{DataChunk, Field, Schema, Text};
-use pipe_csv::{CsvError, empty_columns};
+use pipe_csv::CsvError;
 use pipe_io::InputFiles;
 use std::alloc::Global;
 
@@ -95,12 +96,13 @@ impl Reading {
         }
     }
 
-    /// Chunk n, counted from 0, of the rows that are left of a text.
+    /// Chunk n, counted from 0, of the rows that are left of a text, in the memory of a spent one.
     pub(crate) fn chunk_of(
         &self,
         alloc: Global,
         text: &KeptText,
         n: usize,
+        spent: Option<DataChunk>,
     ) -> Result<DataChunk, CsvError>
         requires reading { IsReading self.now }
         requires kept { IsKept self.now text.now }
@@ -119,10 +121,12 @@ impl Reading {
         };
         let fields = self.schema.fields();
         let kept = self.kept_fields();
-        let mut columns = empty_columns(alloc, kept.len(), count.min(MOST_ROOM))?;
+        let first = usize::from(self.options.row_index.is_some());
+        let mut fills = column_fills(alloc, spent, first, kept.len(), count.min(MOST_ROOM))?;
         let bytes = &text.text;
         let wanted = &self.wanted;
-        push_rows(alloc, &mut columns, bytes, begin, count, fields, wanted)?;
+        push_rows(alloc, &mut fills, bytes, begin, count, fields, wanted)?;
+        let columns = values_of(alloc, fills)?;
         let file = &self.names[text.at.file - 1];
         let chunk = make_chunk(alloc, &self.options, at, file, kept, columns, count)?;
         Ok(chunk)

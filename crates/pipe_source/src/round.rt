@@ -38,16 +38,28 @@ fn push_chunk(chunks: &mut Vec<DataChunk>, chunk: DataChunk) -> Result<(), Alloc
     }
 }
 
+/// A place for a chunk: a spent one, whose memory it takes, and the chunk, in whose stead a want of
+/// memory stands until it is read.
+#[derive(Drop)]
+struct ChunkPlace {
+    spent: Option<DataChunk>,
+    made: Result<DataChunk, CsvError>,
+}
+
+/// What stands in a place.
+fn made_of(place: ChunkPlace) -> Result<DataChunk, CsvError>
+    ensures { result ≡ place.made }
+{
+    place.made
+}
+
 /// Adds chunks, where each was made.
-fn push_made(
-    chunks: &mut Vec<DataChunk>,
-    made: Vec<Result<DataChunk, CsvError>>,
-) -> Result<(), AllocError>
-    ensures { OnOk result ((more : List DataChunk) × (made.items ≡ map Ok more)
+fn push_made(chunks: &mut Vec<DataChunk>, places: Vec<ChunkPlace>) -> Result<(), AllocError>
+    ensures { OnOk result ((more : List DataChunk) × (map (λ p. p.made) places.items ≡ map Ok more)
         × (chunks.new.items ≡ chunks.old.items ++ more)) }
 {
-    for chunk in made {
-        match chunk {
+    for place in places {
+        match made_of(place) {
             Ok(chunk) => push_chunk(chunks, chunk)?,
             Err(_) => return Err(AllocError),
         }
@@ -65,32 +77,34 @@ fn push_all(chunks: &mut Vec<DataChunk>, more: Vec<DataChunk>) -> Result<(), All
     Ok(())
 }
 
-/// Places for so many chunks, in each of which a want of memory stands until its chunk is read.
-fn places_for(alloc: Global, count: usize) -> Result<Vec<Result<DataChunk, CsvError>>, AllocError>
+/// Places for so many chunks, which take the memory of spent ones.
+fn places_for(
+    alloc: Global,
+    count: usize,
+    spent: &mut Vec<DataChunk>,
+) -> Result<Vec<ChunkPlace>, AllocError>
     ensures { IfOk result (λ v. length v.items ≡ count) }
 {
     let mut places = Vec::with_capacity(alloc, count)?;
     for _place in 0..count {
-        places.push_reserved(Err(CsvError::Memory));
+        places.push_reserved(ChunkPlace {
+            spent: spent.pop(),
+            made: Err(CsvError::Memory),
+        });
     }
     Ok(places)
 }
 
 impl Reading {
     /// Reads a chunk of the rows that are left of a text into its place.
-    fn read_one(
-        &self,
-        alloc: Global,
-        text: &KeptText,
-        n: usize,
-        place: &mut Result<DataChunk, CsvError>,
-    )
+    fn read_one(&self, alloc: Global, text: &KeptText, n: usize, place: &mut ChunkPlace)
         requires reading { IsReading self.now }
         requires kept { IsKept self.now text.now }
         requires some { n * self.now.options.chunk_size < text.now.left }
-        ensures { IfOk place.new (λ c. c ≡ chunk_at self.now text.now n) }
+        ensures { IfOk place.new.made (λ c. c ≡ chunk_at self.now text.now n) }
     {
-        *place = self.chunk_of(alloc, text, n);
+        let spent = place.spent.take();
+        place.made = self.chunk_of(alloc, text, n, spent);
     }
 
     /// Reads the first chunks of the rows that are left of a text into their places, in so many threads
@@ -101,7 +115,7 @@ impl Reading {
         alloc: Global,
         text: &KeptText,
         threads: usize,
-        places: &mut [Result<DataChunk, CsvError>],
+        places: &mut [ChunkPlace],
     )
         requires reading { IsReading self.now }
         requires kept { IsKept self.now text.now }
@@ -109,8 +123,8 @@ impl Reading {
             → n * self.now.options.chunk_size < text.now.left }
         requires threads { 0 < threads }
         ensures count { length places.new ≡ length places.old }
-        ensures each { (n : ℕ) (d : _) → n < length places.old → IfOk (slice_index_or places.new n d)
-            (λ c. c ≡ chunk_at self.now text.now n) }
+        ensures each { (n : ℕ) (d : _) → n < length places.old
+            → IfOk (slice_index_or places.new n d).made (λ c. c ≡ chunk_at self.now text.now n) }
     {
         thread::for_each_mut(
             rt,
@@ -120,7 +134,8 @@ impl Reading {
         );
     }
 
-    /// The first chunks of the rows that are left of a text, read side by side on so many processors.
+    /// The first chunks of the rows that are left of a text, read side by side on so many processors, in
+    /// the memory of spent ones.
     pub(crate) fn chunks_of<H: Threads + Sync>(
         &self,
         rt: &H,
@@ -128,6 +143,7 @@ impl Reading {
         text: &KeptText,
         count: usize,
         threads: usize,
+        spent: &mut Vec<DataChunk>,
     ) -> Result<Vec<DataChunk>, AllocError>
         requires reading { IsReading self.now }
         requires kept { IsKept self.now text.now }
@@ -135,7 +151,7 @@ impl Reading {
         requires threads { 0 < threads }
         ensures { IfOk result (λ v. v.items ≡ chunks_at self.now text.now count) }
     {
-        let mut places = places_for(alloc, count)?;
+        let mut places = places_for(alloc, count, spent)?;
         let several = threads.saturating_mul(THREADS_A_PROCESSOR);
         let threads = threads.max(several.min(MOST_THREADS));
         self.read_each(rt, alloc, text, threads, places.as_mut_slice());
@@ -155,6 +171,7 @@ impl Reading {
         chunks: &mut Vec<DataChunk>,
         count: usize,
         threads: usize,
+        spent: &mut Vec<DataChunk>,
     ) -> Result<Option<KeptText>, CsvError>
         requires reading { IsReading self.now }
         requires place { IsPlace self.now last }
@@ -179,7 +196,7 @@ impl Reading {
             Err(error) => return Err(error),
         };
         let some = text.chunks_left().min(count - chunks.len());
-        let Ok(more) = self.chunks_of(rt, alloc, &text, some, threads) else {
+        let Ok(more) = self.chunks_of(rt, alloc, &text, some, threads, spent) else {
             return Err(CsvError::Memory);
         };
         if push_all(chunks, more).is_err() {
@@ -200,6 +217,7 @@ impl Reading {
         chunks: &mut Vec<DataChunk>,
         count: usize,
         threads: usize,
+        spent: &mut Vec<DataChunk>,
     ) -> Result<Option<KeptText>, CsvError>
         requires reading { IsReading self.now }
         requires place { IsPlace self.now first }
@@ -221,7 +239,7 @@ impl Reading {
         let mut ahead: Option<KeptText> = None;
         let mut last = first;
         'files: while chunks.len() < count {
-            match self.read_next(rt, alloc, input, last, chunks, count, threads) {
+            match self.read_next(rt, alloc, input, last, chunks, count, threads, spent) {
                 Ok(Some(text)) => {
                     last = text.at;
                     ahead = Some(text);

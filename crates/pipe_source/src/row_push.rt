@@ -1,6 +1,6 @@
 //! Rows that were looked over, whose values go to the ends of columns.
 
-ghost use Rattle.std.specs.Prelude.{◌≡◌, [], IfErr, IfOk, List, Ok, length, map, replicate, vec_len};
+ghost use Rattle.std.specs.Prelude.{◌≡◌, [], IfErr, IfOk, List, Ok, length, replicate, vec_len};
 ghost use Rattle.csv.specs.Records.{fields_of};
 ghost use Rattle.pipe_columns.specs.declared.any_value.AnyValue.{AnyValue};
 ghost use Rattle.pipe_csv.specs.CsvRows.{read_row};
@@ -12,9 +12,10 @@ ghost use Rattle.pipe_scan.specs.Records.{InOrder, cut, records_at};
 ghost use Rattle.pipe_scan.specs.Stops.{AreMarked};
 ghost use Rattle.pipe_source.specs.Rows.{AreRowsAt, FirstReads, PushesRow, StopsFirst};
 
+use crate::column_fill::ColumnFill;
 use crate::field_at::{push_field, push_field_at};
 use csv::ByteRecord;
-use pipe_columns::{AnyValue, Field};
+use pipe_columns::Field;
 use pipe_csv::CsvError;
 use pipe_scan::{Row, Stops, next_row};
 use pipe_wanted::is_wanted;
@@ -23,7 +24,7 @@ use std::alloc::Global;
 /// Adds the wanted values of the fields of a row that lie in the text, each of which reads.
 fn push_fields(
     alloc: Global,
-    columns: &mut Vec<Vec<AnyValue>>,
+    columns: &mut Vec<ColumnFill>,
     text: &[u8],
     start: usize,
     ends: &[usize],
@@ -38,8 +39,8 @@ fn push_fields(
         × (read_row 1 row fields.now (cut text.now start ends.now) ≡ Ok values) }
     ensures pushed { IfOk result (λ _. (values : List AnyValue)
         × (read_row 1 row fields.now (cut text.now start ends.now) ≡ Ok values)
-        × (map (λ c. c.items) columns.new.items
-        ≡ with_row (chosen wanted.now values) (map (λ c. c.items) columns.old.items))) }
+        × (columns.new.items
+        ≡ with_row (chosen wanted.now values) columns.old.items)) }
     ensures width { vec_len columns.new ≡ length (chosen wanted.now fields.now) }
     ensures stop { IfErr result
         (λ e. StopsBy e (read_row 1 row fields.now (cut text.now start ends.now))) }
@@ -60,7 +61,7 @@ fn push_fields(
 /// Adds the wanted values of the fields of a row that was read, each of which reads.
 fn push_entry(
     alloc: Global,
-    columns: &mut Vec<Vec<AnyValue>>,
+    columns: &mut Vec<ColumnFill>,
     entry: &ByteRecord,
     fields: &[Field],
     wanted: &[bool],
@@ -71,8 +72,8 @@ fn push_entry(
         × (read_row 1 row fields.now (fields_of entry.now) ≡ Ok values) }
     ensures pushed { IfOk result (λ _. (values : List AnyValue)
         × (read_row 1 row fields.now (fields_of entry.now) ≡ Ok values)
-        × (map (λ c. c.items) columns.new.items
-        ≡ with_row (chosen wanted.now values) (map (λ c. c.items) columns.old.items))) }
+        × (columns.new.items
+        ≡ with_row (chosen wanted.now values) columns.old.items)) }
     ensures width { vec_len columns.new ≡ length (chosen wanted.now fields.now) }
     ensures stop { IfErr result
         (λ e. StopsBy e (read_row 1 row fields.now (fields_of entry.now))) }
@@ -95,7 +96,7 @@ fn push_entry(
 /// Adds the wanted values of the next row, if there is one, which then reads.
 fn push_row(
     alloc: Global,
-    columns: &mut Vec<Vec<AnyValue>>,
+    columns: &mut Vec<ColumnFill>,
     text: &[u8],
     stops: &mut Stops,
     ends: &mut [usize],
@@ -111,7 +112,7 @@ fn push_row(
     requires reads { FirstReads 1 row fields.now (records_at text.now stops.old.cursor) }
     ensures pushed { IfOk result (λ found.
         PushesRow 1 row fields.now wanted.now text.now stops.old.cursor stops.new.cursor
-        (map (λ c. c.items) columns.old.items) (map (λ c. c.items) columns.new.items) found) }
+        columns.old.items columns.new.items found) }
     ensures stop { IfErr result
         (λ e. StopsFirst e 1 row fields.now (records_at text.now stops.old.cursor)) }
     ensures columns { vec_len columns.new ≡ length (chosen wanted.now fields.now) }
@@ -138,21 +139,21 @@ fn push_row(
 /// Adds the wanted values of so many rows of a text from a place on, which were looked over before.
 pub(crate) fn push_rows(
     alloc: Global,
-    columns: &mut Vec<Vec<AnyValue>>,
+    columns: &mut Vec<ColumnFill>,
     text: &[u8],
     at: usize,
     count: usize,
     fields: &[Field],
     wanted: &[bool],
 ) -> Result<(), CsvError>
-    requires empty { map (λ c. c.items) columns.old.items
+    requires empty { columns.old.items
         ≡ replicate (length (chosen wanted.now fields.now)) [] }
     requires rows { (rows : List (List AnyValue)) × AreRowsAt fields.now text.now at count rows }
     ensures pushed { (rows : List (List AnyValue)) → AreRowsAt fields.now text.now at count rows
-        → IfOk result (λ _. map (λ c. c.items) columns.new.items
+        → IfOk result (λ _. columns.new.items
         ≡ chosen wanted.now (values_from 0 fields.now rows)) }
     ensures hold { IfOk result (λ _. DoHold count (chosen wanted.now fields.now)
-        (map (λ c. c.items) columns.new.items)) }
+        columns.new.items) }
     ensures width { IfOk result
         (λ _. vec_len columns.new ≡ length (chosen wanted.now fields.now)) }
     ensures memory { IfErr result (λ e. e ≡ csv_error.Memory) }

@@ -1,3 +1,4 @@
+pub mod KeyBytes
 pub mod KeyTypes
 pub mod SpillRow
 pub mod FrameBytes

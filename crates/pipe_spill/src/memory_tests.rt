@@ -17,7 +17,7 @@ fn memory_for_a_key(rt: HostRuntime) -> Result<(), Fail> {
     let text = Text::new(alloc, "a\0b")?;
     let types = [DataType::String, DataType::Int16];
     match encode_key(alloc, &[AnyValue::Text(text), AnyValue::Int(258)], &types) {
-        Ok(key) => assert!(rt; key.into_vec().as_slice() == KEY.as_slice()),
+        Ok(key) => assert!(rt; key.as_slice() == KEY.as_slice()),
         Err(AllocError) => return Err("encode_key wants memory".into()),
     }
     Ok(())

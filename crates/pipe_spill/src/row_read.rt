@@ -84,7 +84,7 @@ pub fn read_row<'a>(
     }
     match read_values(alloc, rest, input_types) {
         Ok((values, rest)) => {
-            let key = KeyBytes::new(Vec::from_slice(alloc, key)?);
+            let key = KeyBytes::from_slice(alloc, key)?;
             Ok((SpillRow { place, key, values }, rest))
         }
         Err(error) => Err(frame_error(error)),

@@ -3,7 +3,7 @@
 ghost use Rattle.std.specs.Prelude.{◌≡◌, ◌↔◌, ◌<◌, ◌∷◌, ◌++◌, [], IfErr, IfOk, IfSome, IsNone, OnErr, OnOk, length, map, slice_index_or, slice_set, true, vec_len};
 ghost use Rattle.pipe_spill.specs.declared.spill_row.SpillRow.{SpillRow};
 ghost use Rattle.pipe_tables.specs.BufferLayout.{rows_of};
-ghost use Rattle.pipe_tables.specs.Buffers.{AreBuffers, buffered, is_taken, leaving, left_by, no_rows, rests, rows_left, waiting_in, with_none, with_rows};
+ghost use Rattle.pipe_tables.specs.Buffers.{AreBuffers, buffer_of, buffered, is_taken, leaving, left_by, no_rows, rests, rows_left, waiting_in, with_none, with_rows};
 
 use crate::local_end::LocalEnd;
 use pipe_spill::{SpillPayload, SpillRow, partition_of};
@@ -75,7 +75,10 @@ impl SpillPartitions {
     }
 
     /// The partition of a key.
-    pub(crate) fn partition(&self, key: &[u8]) -> usize {
+    #[inline(always)]
+    pub(crate) fn partition(&self, key: &[u8]) -> usize
+        ensures { result ≡ buffer_of key.now self.now }
+    {
         partition_of(key, self.buffers.len())
     }
 
@@ -87,7 +90,21 @@ impl SpillPartitions {
             → (r ≡ row) × (self.new ≡ self.old) }
         ensures buffers { AreBuffers self.new }
     {
-        let partition = partition_of(row.key.as_slice(), self.buffers.len());
+        let partition = self.partition(row.key.as_slice());
+        self.insert_at(partition, row)
+    }
+
+    /// Puts a row behind those of a partition, which is its key's. Where it fills the buffer, the rows
+    /// leave.
+    #[inline(always)]
+    pub(crate) fn insert_at(&mut self, partition: usize, row: SpillRow) -> LocalEnd
+        requires { partition ≡ buffer_of row.key self.old }
+        ensures taken { is_taken result ≡ true → self.new ≡ buffered row self.old }
+        ensures payload { is_taken result ≡ true → left_by result ≡ leaving row self.old }
+        ensures memory { (r : SpillRow) → result ≡ LocalEnd.Memory r
+            → (r ≡ row) × (self.new ≡ self.old) }
+        ensures buffers { AreBuffers self.new }
+    {
         match push_at(&mut self.buffers, partition, row) {
             Err(row) => LocalEnd::Memory(row),
             Ok(count) if count < self.buffer_size => LocalEnd::Done,

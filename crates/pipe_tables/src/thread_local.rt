@@ -9,7 +9,7 @@ ghost use Rattle.pipe_spill.specs.SpillRow.{IsRow, spilled};
 ghost use Rattle.pipe_spill.specs.declared.spill_row.SpillRow.{SpillRow};
 ghost use Rattle.pipe_groups.specs.Holds.{Holds};
 ghost use Rattle.pipe_groups.specs.Shape.{shape_of};
-ghost use Rattle.pipe_tables.specs.Buffers.{AreBuffers, is_taken, is_taken_lent, leaving, left_by, left_by_lent, no_rows};
+ghost use Rattle.pipe_tables.specs.Buffers.{AreBuffers, buffer_of, is_taken, is_taken_lent, leaving, left_by, left_by_lent, no_rows};
 ghost use Rattle.pipe_tables.specs.LocalTable.{IsToLimit, keeps, let_go, overflowing, with_row};
 ghost use Rattle.pipe_tables.specs.Tables.{TakesOne};
 
@@ -123,7 +123,10 @@ impl ThreadLocalTable {
         match self.table.insert(row) {
             InsertEnd::Done => LocalEnd::Done,
             InsertEnd::Memory(row) => LocalEnd::Memory(row),
-            InsertEnd::Overflow(row) => self.overflow(row),
+            InsertEnd::Overflow(row) => {
+                let partition = self.buffers.partition(row.key.as_slice());
+                self.overflow(partition, row)
+            }
         }
     }
 
@@ -165,7 +168,7 @@ impl ThreadLocalTable {
             LentEnd::Overflow => {
                 let partition = self.buffers.partition(key);
                 match own_row(&mut self.spares, partition, key, rows, row) {
-                    Ok(row) => self.overflow(row).lent(),
+                    Ok(row) => self.overflow(partition, row).lent(),
                     Err(AllocError) => LentLocalEnd::Memory,
                 }
             }
@@ -173,14 +176,16 @@ impl ThreadLocalTable {
     }
 
     /// Puts a row into the buffer of its partition.
-    fn overflow(&mut self, row: SpillRow) -> LocalEnd
+    #[inline(always)]
+    fn overflow(&mut self, partition: usize, row: SpillRow) -> LocalEnd
+        requires { partition ≡ buffer_of row.key self.old.buffers }
         ensures taken { is_taken result ≡ true → self.new ≡ overflowing row self.old }
         ensures payload { is_taken result ≡ true → left_by result ≡ leaving row self.old.buffers }
         ensures memory { (r : SpillRow) → result ≡ LocalEnd.Memory r
             → (r ≡ row) × (self.new ≡ self.old) }
         ensures buffers { AreBuffers self.new.buffers }
     {
-        match self.buffers.insert(row) {
+        match self.buffers.insert_at(partition, row) {
             LocalEnd::Memory(row) => LocalEnd::Memory(row),
             end => {
                 self.overflowed = true;
@@ -204,13 +209,11 @@ fn own_row(
     ensures key { IfOk result (λ r. r.key ≡ key.now) }
     ensures values { IfOk result (λ r. r.values ≡ (row_at rows.now row).inputs) }
 {
-    let mut inputs = rows.own_inputs(spares.alloc(), row)?;
-    let (mut bytes, mut values) = spares.take(partition, key.len(), inputs.len());
-    bytes.extend_from_slice(key)?;
-    values.append(&mut inputs)?;
+    let mut values = spares.take(partition, rows.inputs_len());
+    rows.own_inputs_into(spares.alloc(), row, &mut values)?;
     Ok(SpillRow {
         place: rows.place(row),
-        key: KeyBytes::new(bytes),
+        key: KeyBytes::from_slice(spares.alloc(), key)?,
         values: Values::new(values),
     })
 }

@@ -16,6 +16,7 @@ use crate::read_round::{MOST, read_round};
 use pipe_global::Gate;
 use pipe_group_by::GroupByRun;
 use pipe_io::InputFiles;
+use pipe_run::drop_chunks;
 use pipe_source::ChunkReader;
 use pipe_spill::SpillStore;
 use std::alloc::Global;
@@ -23,7 +24,7 @@ use std::sync::Wait;
 use std::thread::Threads;
 
 /// Feeds all chunks that a reader has left into a run that was fed none, so many at a time, which are
-/// read in so many threads. The chunks of a round are dropped before the next is read.
+/// read in so many threads. The chunks of a round are read into the memory of those of the one before.
 pub(crate) fn feed_files<
     'a,
     S: SpillStore + Drop + Send,
@@ -72,14 +73,18 @@ pub(crate) fn feed_files<
             Err(error) => return Err((FileRunError::Read(error), run.into_stores())),
         };
         let is_last = chunks.len() < most;
-        run = match run.feed(rt, alloc, gate, chunks) {
-            Ok(run) => run,
+        let (fed, spent) = match run.feed_lent(rt, alloc, gate, chunks) {
+            Ok(fed) => fed,
             Err((error, stores)) => return Err((FileRunError::Run(error), stores)),
         };
+        run = fed;
         before = counted;
         if is_last {
+            drop_chunks(rt, alloc, threads, reader.give_up(alloc));
+            drop_chunks(rt, alloc, threads, spent);
             return Ok(run);
         }
+        reader.take_back(spent);
     }
     unreachable!()
 }

@@ -12,7 +12,7 @@ abbrev pub invariant-loop-i : goal.invariant-loop-i
 invariant-loop-i l = record {
   done : List AnyValue;
   fields : FieldsLeft 1 l.row l.fields (read_row 1 l.row l.fields (fields_of l.entry)) l.i done (drop l.i (fields_of l.entry));
-  columns : map (λ c. c.items) l.columns.items ≡ with_row (chosen l.wanted done) (map (λ c. c.items) l.initial.columns.items);
+  columns : l.columns.items ≡ with_row (chosen l.wanted done) l.initial.columns.items;
   width : vec_len l.columns ≡ length (chosen l.wanted l.fields);
   place : l.place ≡ length (chosen l.wanted done);
 }

@@ -15,7 +15,7 @@ loop-i-init c = record {
   done = [];
   fields = fields-start 1 c.args.row c.args.fields.now _ (length-cut c.args.text.now c.args.start c.args.ends.now ∙ c.requires.width);
   order = c.requires.order;
-  columns = ap (λ (t : List AnyValue). with_row t (items_of c.args.columns.now.items)) (sym (chosen-nil c.args.wanted.now));
+  columns = ap (λ (t : List AnyValue). with_row t c.args.columns.now.items) (sym (chosen-nil c.args.wanted.now));
   width = c.requires.columns;
   place = ap length (sym (chosen-nil {A = AnyValue} c.args.wanted.now));
 }
@@ -52,7 +52,7 @@ loop-i-preserved c =
             done = inv.done ++ (pushed.0 ∷ []);
             fields = fields-more 1 c.args.row c.args.fields.now _ c.loop-i.i inv.done _ _ c.index-fields-i.result _ pushed.0 inv.fields (omega arith) c.index-fields-i.is here pushed.1;
             order = order;
-            columns = push-wanted c.args.wanted.now c.loop-i.columns.items c.loop-i.place w.index_mut.result.now w.push_field_at.new.column inv.done pushed.0 (items_of c.args.columns.now.items) wanted inv.columns inv.place (omega (arith, inv.width, inv.place, less, c.loop-i.columns.ok.0)) w.index_mut.ensures.value pushed.2;
+            columns = push-wanted c.args.wanted.now c.loop-i.columns.items c.loop-i.place w.index_mut.result.now w.push_field_at.new.column inv.done pushed.0 c.args.columns.now.items wanted inv.columns inv.place (omega (arith, inv.width, inv.place, less, c.loop-i.columns.ok.0)) w.index_mut.ensures.value pushed.2;
             width = inv.width;
             place = ap (λ n. n + 1) inv.place ∙ sym (ap length (push-kept c.args.wanted.now inv.done pushed.0 wanted) ∙ length-push (chosen c.args.wanted.now inv.done) pushed.0);
           })

@@ -13,7 +13,7 @@ invariant-loop-i l = record {
   done : List AnyValue;
   fields : FieldsLeft 1 l.row l.fields (read_row 1 l.row l.fields (cut l.text l.start l.ends)) l.i done (cut l.text l.low (drop l.i l.ends));
   order : InOrder (length l.text) l.low (drop l.i l.ends);
-  columns : map (λ c. c.items) l.columns.items ≡ with_row (chosen l.wanted done) (map (λ c. c.items) l.initial.columns.items);
+  columns : l.columns.items ≡ with_row (chosen l.wanted done) l.initial.columns.items;
   width : vec_len l.columns ≡ length (chosen l.wanted l.fields);
   place : l.place ≡ length (chosen l.wanted done);
 }

@@ -16,7 +16,7 @@ invariant-loop-row l = record {
   rows : RowsLeft 1 l.fields (read_rows 1 1 l.fields (take l.count (records_at l.text l.at))) l.row done (take (l.count - l.row) (records_at l.text l.stops.cursor));
   marked : AreMarked l.text l.stops;
   room : length l.ends.items ≡ length l.fields;
-  columns : map (λ c. c.items) l.columns.items ≡ chosen l.wanted (values_from 0 l.fields done);
+  columns : l.columns.items ≡ chosen l.wanted (values_from 0 l.fields done);
   fit : RowsFit 0 l.fields done;
   width : vec_len l.columns ≡ length (chosen l.wanted l.fields);
 }

@@ -6,8 +6,8 @@ use Rattle.pipe_source.proofs.KeptFacts.{kept-behind}
 use Rattle.pipe_source.proofs.RoundFacts.{chunks-fit, length-chunks, place-past, place_past, round-fits, round-given, round-none, round-stops, told-first, within-all}
 use Rattle.pipe_source.proofs.chunk_reader.ChunkReader.get_round.Goals as goal
 
-pub invariant_of-self : goal.invariant_of-self
-invariant_of-self g c =
+pub invariant_of-self-then-some-count : goal.invariant_of-self-then-some-count
+invariant_of-self-then-some-count g c =
     let what = c.self.inside.what in
     let text = c.self.inside.text in
     let some : c.min-some.result ≡ min (length text.starts.items - text.chunk) c.args.count = search rules in

@@ -1,6 +1,6 @@
 use Rattle.std.proofs.Common.{rules, ◌<◌, length, arith}
 use Rattle.pipe_columns.proofs.TypeFacts.{values_more}
-use Rattle.pipe_columns.proofs.column.do_fit.Goals as goal
+use Rattle.pipe_columns.proofs.column.do_all_fit.Goals as goal
 
 pub loop-value-preserved : goal.loop-value-preserved
 loop-value-preserved c =

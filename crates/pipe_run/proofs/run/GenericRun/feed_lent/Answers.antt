@@ -11,7 +11,7 @@ use Rattle.pipe_run.specs.Setting.{run_of}
 use Rattle.pipe_run.specs.declared.round.RoundStop.TheVariants as stop
 use Rattle.pipe_run.proofs.FeedEnds.{bad-back, bad-untouched, early-back, none-fell, stop-back, stop-cause-of, stop-fits}
 use Rattle.pipe_run.proofs.Feeding.{fed-more}
-use Rattle.pipe_run.proofs.run.GenericRun.feed.Goals as goal
+use Rattle.pipe_run.proofs.run.GenericRun.feed_lent.Goals as goal
 
 pub returns-in-Err-clause-back : goal.returns-in-Err-clause-back
 returns-in-Err-clause-back g c =
