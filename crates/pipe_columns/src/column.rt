@@ -3,7 +3,7 @@
 ghost use Rattle.std.specs.Prelude.{◌≡◌, ◌↔◌, IfNone, IfSome, IsTrue, OnErr, OnOk, true, false};
 ghost use Rattle.std.specs.List.{All};
 ghost use Rattle.pipe_columns.specs.AnyValue.{HasUtf8};
-ghost use Rattle.pipe_columns.specs.Frame.{all_fit, appended, field_of, sliced_column, truncated, unsorted};
+ghost use Rattle.pipe_columns.specs.Frame.{AreOfType, all_fit, appended, field_of, sliced_column, truncated, unsorted};
 
 use crate::any_value::AnyValue;
 use crate::data_type::DataType;
@@ -79,6 +79,20 @@ impl Column {
             })
         } else {
             None
+        }
+    }
+
+    /// A column of values of its type. It looks at none of them.
+    pub fn of_type(name: Text, dtype: DataType, sorted: bool, values: Vec<AnyValue>) -> Column
+        requires { AreOfType dtype values.items }
+        ensures { result
+            ≡ record { name = name; dtype = dtype; sorted = sorted; values = values.items } }
+    {
+        Column {
+            name,
+            dtype,
+            sorted,
+            values,
         }
     }
 

@@ -83,3 +83,18 @@ fn texts(rt: HostRuntime) -> Result<(), Fail> {
     assert!(rt; value.try_clone(rt.alloc())? == value);
     Ok(())
 }
+
+#[test]
+fn gives_parts_up(rt: HostRuntime) -> Result<(), Fail> {
+    let frame = pair(rt.alloc(), true, 1, 2)?;
+    let mut columns = frame.into_columns();
+    assert!(rt; columns.len() == 1);
+    let column = columns.pop().ok_or("no column")?;
+    let values = column.into_values();
+    assert!(rt; values.as_slice() == [AnyValue::Int(1), AnyValue::Int(2)].as_slice());
+    let text = Text::new(rt.alloc(), "t")?;
+    let _utf8 = text.as_bytes();
+    let again = Text::from_utf8(text.into_bytes());
+    assert!(rt; again.as_str() == "t");
+    Ok(())
+}

@@ -5,7 +5,7 @@ use Rattle.pipe_columns.specs.declared.data_type.DataType.{DataType}
 use Rattle.pipe_columns.specs.declared.data_type.DataType.TheVariants as dt
 use Rattle.pipe_columns.specs.declared.any_value.AnyValue.{AnyValue}
 use Rattle.pipe_columns.specs.declared.any_value.AnyValue.TheVariants as av
-use Rattle.pipe_columns.specs.AnyValue.{fits, fits_number, is_signed, is_unsigned}
+use Rattle.pipe_columns.specs.AnyValue.{fits, fits_number, HasUtf8, is_signed, is_unsigned}
 use Rattle.std.specs.Prelude.{codes}
 use Rattle.std.specs.Str.{IsUtf8, bytes_eq, is_utf8}
 use Rattle.std.proofs.lemmas.Option.{none-some, same_Some}
@@ -123,3 +123,44 @@ some-fits dt.String text v h = text-fits (is_utf8 text) text v h
 pub field-fits : (t : DataType) (text : List ℕ) (v : AnyValue) → read_field t text ≡ Some v → fits v t ≡ true
 field-fits t [] v h = let same : av.Null ≡ v = same_Some av.Null v h in rw (← same) refl
 field-fits t (b ∷ bs) v h = some-fits t (b ∷ bs) v h
+
+-- a narrowed number is no text
+narrow-utf8 : (t : DataType) (n : ℤ) (v : AnyValue) (b : Bool) → fits_number n t ≡ b → narrowed t n ≡ Some v → HasUtf8 v
+narrow-utf8 t n v true e h = subst HasUtf8 (same_Some (av.Int n) v (sym (rw e refl) ∙ h)) tt
+narrow-utf8 t n v false e h = let none : None ≡ Some v = sym (rw e refl) ∙ h in absurd (none-some v none)
+
+-- nor is an integer that reads
+int-utf8 : (t : DataType) (o : Option ℤ) (v : AnyValue) → option_and_then (narrowed t) o ≡ Some v → HasUtf8 v
+int-utf8 t None v h = absurd (none-some v h)
+int-utf8 t (Some n) v h = narrow-utf8 t n v (fits_number n t) refl h
+
+-- nor a truth value
+truth-utf8 : (a b : Bool) (v : AnyValue) → (if a then Some (av.Boolean true) else (if b then Some (av.Boolean false) else None)) ≡ Some v → HasUtf8 v
+truth-utf8 true b v h = subst HasUtf8 (same_Some (av.Boolean true) v h) tt
+truth-utf8 false true v h = subst HasUtf8 (same_Some (av.Boolean false) v h) tt
+truth-utf8 false false v h = absurd (none-some v h)
+
+-- a text that reads is in UTF-8
+text-utf8 : (a : Bool) (text : List ℕ) (v : AnyValue) → is_utf8 text ≡ a → (if a then Some (av.Text text) else None) ≡ Some v → HasUtf8 v
+text-utf8 true text v e h = subst HasUtf8 (same_Some (av.Text text) v h) (IsUtf8-from_is_utf8 text e)
+text-utf8 false text v e h = absurd (none-some v h)
+
+-- each value that a text which isn't empty reads as is in UTF-8 if it is a text
+some-utf8 : (t : DataType) (text : List ℕ) (v : AnyValue) → read_some t text ≡ Some v → HasUtf8 v
+some-utf8 dt.Boolean text v h = truth-utf8 (bytes_eq text (codes "true")) (bytes_eq text (codes "false")) v h
+some-utf8 dt.Int8 text v h = int-utf8 dt.Int8 (read_number text) v h
+some-utf8 dt.Int16 text v h = int-utf8 dt.Int16 (read_number text) v h
+some-utf8 dt.Int32 text v h = int-utf8 dt.Int32 (read_number text) v h
+some-utf8 dt.Int64 text v h = int-utf8 dt.Int64 (read_number text) v h
+some-utf8 dt.UInt8 text v h = int-utf8 dt.UInt8 (read_number text) v h
+some-utf8 dt.UInt16 text v h = int-utf8 dt.UInt16 (read_number text) v h
+some-utf8 dt.UInt32 text v h = int-utf8 dt.UInt32 (read_number text) v h
+some-utf8 dt.UInt64 text v h = int-utf8 dt.UInt64 (read_number text) v h
+some-utf8 dt.Int128 text v h = int-utf8 dt.Int128 (read_number text) v h
+some-utf8 dt.Date text v h = int-utf8 dt.Date (read_number text) v h
+some-utf8 dt.String text v h = text-utf8 (is_utf8 text) text v refl h
+
+-- so is a value that is read
+pub field-utf8 : (t : DataType) (text : List ℕ) (v : AnyValue) → read_field t text ≡ Some v → HasUtf8 v
+field-utf8 t [] v h = subst HasUtf8 (same_Some av.Null v h) tt
+field-utf8 t (b ∷ bs) v h = some-utf8 t (b ∷ bs) v h

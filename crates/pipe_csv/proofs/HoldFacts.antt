@@ -4,20 +4,26 @@ use Rattle.std.specs.Prelude.{⊤}
 use Rattle.std.specs.Option.{ok_or}
 use Rattle.std.proofs.lemmas.Bool.{and_from, and_parts}
 use Rattle.std.proofs.lemmas.List.{drop-set-lt, drop_more, get_or-map, length-map, map-set}
+use Rattle.std.proofs.lemmas.List.Elements.{All-cons, All-nil}
+use Rattle.pipe_columns.specs.declared.data_type.DataType.{DataType}
 use Rattle.pipe_columns.specs.declared.any_value.AnyValue.{AnyValue}
 use Rattle.pipe_columns.specs.declared.schema.Field.{Field}
-use Rattle.pipe_columns.specs.AnyValue.{fits}
-use Rattle.pipe_columns.specs.Frame.{AllFit, AllHaveHeight, ColumnData, all_have_height, fields_of, value_at}
+use Rattle.pipe_columns.specs.AnyValue.{fits, HasUtf8}
+use Rattle.pipe_columns.specs.Frame.{AllHaveHeight, AreOfType, ColumnData, all_have_height, fields_of, value_at}
 use Rattle.pipe_csv.specs.Fields.{read_field}
 use Rattle.pipe_csv.specs.CsvRows.{Misfit}
 use Rattle.pipe_csv.specs.Columns.{DoHold, column_of, columns_of, values_from}
 use Rattle.pipe_csv.proofs.ColumnFacts.{items_of}
-use Rattle.pipe_csv.proofs.FieldFacts.{field-fits}
+use Rattle.pipe_csv.proofs.FieldFacts.{field-fits, field-utf8}
+
+-- a value fits a type, and is in UTF-8 if it is a text
+abbrev pub IsOfType : AnyValue → DataType → Type 0
+IsOfType v t = (fits v t ≡ true) × HasUtf8 v
 
 -- the values of a row from a place on fit fields
 abbrev pub RowFits : ℕ → List Field → List AnyValue → Type 0
 RowFits i [] row = ⊤
-RowFits i (f ∷ fs) row = (fits (value_at row i) f.dtype ≡ true) × RowFits (i + 1) fs row
+RowFits i (f ∷ fs) row = IsOfType (value_at row i) f.dtype × RowFits (i + 1) fs row
 
 -- the values of each row from a place on fit fields
 abbrev pub RowsFit : ℕ → List Field → List (List AnyValue) → Type 0
@@ -30,9 +36,14 @@ rows-push i fs [] row h g = (g, tt)
 rows-push i fs (r ∷ rs) row h g = (h.0, rows-push i fs rs row h.1 g)
 
 -- the values of one place of the rows fit its field
-column-fits : (i : ℕ) (f : Field) (fs : List Field) (rows : List (List AnyValue)) → RowsFit i (f ∷ fs) rows → AllFit f.dtype (map (λ row. value_at row i) rows)
-column-fits i f fs [] h = refl
-column-fits i f fs (r ∷ rs) h = and_from _ _ h.0.0 (column-fits i f fs rs h.1)
+column-fits : (i : ℕ) (f : Field) (fs : List Field) (rows : List (List AnyValue)) → RowsFit i (f ∷ fs) rows → AreOfType f.dtype (map (λ row. value_at row i) rows)
+column-fits i f fs [] h = record { fit = refl; utf8 = All-nil HasUtf8 }
+column-fits i f fs (r ∷ rs) h =
+    let rest = column-fits i f fs rs h.1 in
+    record {
+      fit = and_from _ _ h.0.0.0 rest.fit;
+      utf8 = All-cons HasUtf8 (value_at r i) (map (λ row. value_at row i) rs) h.0.0.1 rest.utf8;
+    }
 
 -- the values from the next place on fit
 rows-tail : (i : ℕ) (f : Field) (fs : List Field) (rows : List (List AnyValue)) → RowsFit i (f ∷ fs) rows → RowsFit (i + 1) fs rows
@@ -49,14 +60,14 @@ some-from : (o : Option AnyValue) (e : Misfit) (v : AnyValue) → ok_or o e ≡ 
 some-from None e v h = cc
 some-from (Some w) e v h = cc
 
--- a field that reads gives a value that fits
-pub value-fits : (f : Field) (t : List ℕ) (e : Misfit) (v : AnyValue) → ok_or (read_field f.dtype t) e ≡ Ok v → fits v f.dtype ≡ true
-value-fits f t e v h = field-fits f.dtype t v (some-from (read_field f.dtype t) e v h)
+-- a field that reads gives a value of its type
+pub value-fits : (f : Field) (t : List ℕ) (e : Misfit) (v : AnyValue) → ok_or (read_field f.dtype t) e ≡ Ok v → IsOfType v f.dtype
+value-fits f t e v h = (field-fits f.dtype t v (some-from (read_field f.dtype t) e v h), field-utf8 f.dtype t v (some-from (read_field f.dtype t) e v h))
 
 -- one field of a row is one of its columns
 pub hold-step : (n : ℕ) (fs : List Field) (columns : List (Vec AnyValue Global)) (i : ℕ) (f : Field) (old new : Vec AnyValue Global)
     → DoHold n (drop i fs) (drop i (items_of columns)) → i < length fs → i < length columns → f ≡ get_or fs i f → old ≡ get_or columns i old
-    → AllFit f.dtype old.items × (length old.items ≡ n) × DoHold n (drop (i + 1) fs) (drop (i + 1) (items_of (set columns i new)))
+    → AreOfType f.dtype old.items × (length old.items ≡ n) × DoHold n (drop (i + 1) fs) (drop (i + 1) (items_of (set columns i new)))
 hold-step n fs columns i f old new d h k g o =
     let cs : List (List AnyValue) = items_of columns in
     let at : old.items ≡ get_or cs i old.items = ap (λ (x : Vec AnyValue Global). x.items) o ∙ sym (get_or-map (λ (x : Vec AnyValue Global). x.items) columns i old old.items k) in

@@ -1,7 +1,7 @@
 -- Of the proofs alone: rows as columns.
 use Rattle.std.specs.Prelude.{◌≡◌, ℕ, ◌+◌, List, [], ◌∷◌, ◌++◌, length, map, ⊤}
 use Rattle.pipe_columns.specs.declared.schema.Field.{Field}
-use Rattle.pipe_columns.specs.Frame.{AllFit, ColumnData, value_at}
+use Rattle.pipe_columns.specs.Frame.{AreOfType, ColumnData, value_at}
 use Rattle.pipe_columns.specs.declared.any_value.AnyValue.{AnyValue}
 use Rattle.pipe_csv.specs.CsvRows.{is_ascending}
 
@@ -31,8 +31,8 @@ columns_of [] columns = []
 columns_of (f ∷ fs) [] = []
 columns_of (f ∷ fs) (c ∷ cs) = column_of f c ∷ columns_of fs cs
 
--- each column has so many values, and they fit its field
+-- each column has so many values, and they are of its field's type
 abbrev pub DoHold : ℕ → List Field → List (List AnyValue) → Type 0
 DoHold n [] columns = ⊤
 DoHold n (f ∷ fs) [] = ⊥
-DoHold n (f ∷ fs) (c ∷ cs) = AllFit f.dtype c × (length c ≡ n) × DoHold n fs cs
+DoHold n (f ∷ fs) (c ∷ cs) = AreOfType f.dtype c × (length c ≡ n) × DoHold n fs cs

@@ -3,7 +3,7 @@
 ghost use Rattle.std.specs.Prelude.{[], ◌≡◌, IfOk, map, replicate};
 ghost use Rattle.std.specs.Ordering.{is_lt};
 ghost use Rattle.pipe_columns.specs.AnyValue.{value_cmp};
-ghost use Rattle.pipe_columns.specs.Frame.{AllFit};
+ghost use Rattle.pipe_columns.specs.Frame.{AreOfType};
 ghost use Rattle.pipe_csv.specs.Columns.{column_of};
 ghost use Rattle.pipe_csv.specs.CsvRows.{is_ascending};
 
@@ -52,10 +52,10 @@ pub fn make_column(
     field: &Field,
     values: Vec<AnyValue>,
 ) -> Result<Column, AllocError>
-    requires { AllFit field.now.dtype values.items }
+    requires { AreOfType field.now.dtype values.items }
     ensures { IfOk result (λ c. c ≡ column_of field.now values.items) }
 {
     let name = field.name.try_clone(alloc)?;
     let sorted = is_ascending(&values);
-    Ok(Column::new(name, field.dtype, sorted, values).unwrap())
+    Ok(Column::of_type(name, field.dtype, sorted, values))
 }

@@ -76,6 +76,13 @@ keys-seen rows i height ks is seen =
     (All-map (λ (r : Row). length r.key ≡ length ks) (row_read i ks is) (range_with_len 0 height)
     (λ k d l. length-map ks (λ (values : ColumnValues). value_at (items_of values) (get_or (range_with_len 0 height) k d))))
 
+-- and how many inputs they have
+pub inputs-seen : (rows : List Row) (i height : ℕ) (ks is : List ColumnValues) → rows_read i height ks is ≡ rows → All (λ r. length r.inputs ≡ length is) rows
+inputs-seen rows i height ks is seen =
+    subst (All (λ (r : Row). length r.inputs ≡ length is)) seen
+    (All-map (λ (r : Row). length r.inputs ≡ length is) (row_read i ks is) (range_with_len 0 height)
+    (λ k d l. length-map is (λ (values : ColumnValues). value_at (items_of values) (get_or (range_with_len 0 height) k d))))
+
 -- one of the rows of a chunk
 pub row_at-chunk : (q : QueryTree) (i : ℕ) (frame : FrameData) (n : ℕ) → n < frame.height → row_at (chunk_rows q i frame) n ≡ row_of q i frame n
 row_at-chunk q i frame n h =

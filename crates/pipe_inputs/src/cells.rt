@@ -1,6 +1,6 @@
 //! The values of lists in one row.
 
-ghost use Rattle.std.specs.Prelude.{◌≡◌, [], IfOk, OnOk};
+ghost use Rattle.std.specs.Prelude.{◌≡◌, [], IfOk};
 ghost use Rattle.pipe_columns.specs.AnyValue.{value_cmp};
 ghost use Rattle.pipe_columns.specs.Frame.{value_at};
 ghost use Rattle.pipe_columns.specs.declared.any_value.AnyValue.TheVariants as av;
@@ -95,7 +95,7 @@ pub(crate) fn own_cells_into(
     own: &mut Vec<AnyValue>,
 ) -> Result<(), AllocError>
     requires { own.old.items ≡ [] }
-    ensures { OnOk result (own.new.items ≡ cells lists.now row) }
+    ensures { IfOk result (λ _. own.new.items ≡ cells lists.now row) }
 {
     for values in lists {
         own.push(own_cell(alloc, values, row)?)?;

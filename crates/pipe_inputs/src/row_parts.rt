@@ -1,6 +1,6 @@
 //! The parts of one row.
 
-ghost use Rattle.std.specs.Prelude.{◌≡◌, ◌<◌, ◌^◌, [], All, IfOk, OnOk, length};
+ghost use Rattle.std.specs.Prelude.{◌≡◌, ◌<◌, ◌^◌, [], All, IfOk, length};
 ghost use Rattle.pipe_columns.specs.Frame.{value_at};
 ghost use Rattle.pipe_model.specs.Answer.{tuple_cmp};
 ghost use Rattle.pipe_inputs.specs.ChunkRows.{row_at};
@@ -81,7 +81,7 @@ impl<'a> ChunkRows<'a> {
     ) -> Result<(), AllocError>
         requires there { row < length self.now }
         requires empty { own.old.items ≡ [] }
-        ensures { OnOk result (own.new.items ≡ (row_at self.now row).inputs) }
+        ensures { IfOk result (λ _. own.new.items ≡ (row_at self.now row).inputs) }
     {
         own_cells_into(alloc, &self.inputs, row, own)
     }

@@ -3,11 +3,13 @@ use Rattle.std.proofs.Common.{◌≡◌, ◌≤◌, ◌<◌, ◌+◌, ◌^◌, �
 use Rattle.std.proofs.lemmas.Bool.{and_from}
 use Rattle.std.proofs.lemmas.Bool.Decides.{nat_tests}
 use Rattle.std.proofs.lemmas.List.{length-replicate}
+use Rattle.std.specs.Str.{IsUtf8}
+use Rattle.std.proofs.lemmas.List.Elements.{All-cons, All-nil}
 use Rattle.std.proofs.lemmas.List.FromFn.{map-range_with_len_more}
 use Rattle.pipe_columns.specs.declared.data_type.DataType.TheVariants as dt
 use Rattle.pipe_columns.specs.declared.any_value.AnyValue.TheVariants as av
-use Rattle.pipe_columns.specs.AnyValue.{fits}
-use Rattle.pipe_columns.specs.Frame.{AllFit, AllHaveHeight}
+use Rattle.pipe_columns.specs.AnyValue.{fits, HasUtf8}
+use Rattle.pipe_columns.specs.Frame.{AllHaveHeight, AreOfType}
 use Rattle.pipe_source.specs.CsvChunks.{index_column, numbers_from, with_first, with_last}
 
 -- a number below 2^32 fits
@@ -15,9 +17,14 @@ fits-index : (n : ℕ) → n < 2 ^ 32 → fits (av.Int (pos n)) dt.UInt32 ≡ tr
 fits-index n h = grind (arith, nat_tests)
 
 -- numbers below 2^32 fit
-pub numbers-fit : (first count : ℕ) → first + count ≤ 2 ^ 32 → AllFit dt.UInt32 (numbers_from first count)
-numbers-fit first zero h = refl
-numbers-fit first (suc count) h = and_from _ _ (fits-index first (omega arith)) (numbers-fit (first + 1) count (omega arith))
+pub numbers-fit : (first count : ℕ) → first + count ≤ 2 ^ 32 → AreOfType dt.UInt32 (numbers_from first count)
+numbers-fit first zero h = record { fit = refl; utf8 = All-nil HasUtf8 }
+numbers-fit first (suc count) h =
+    let rest = numbers-fit (first + 1) count (omega arith) in
+    record {
+      fit = and_from _ _ (fits-index first (omega arith)) rest.fit;
+      utf8 = All-cons HasUtf8 (av.Int (pos first)) (numbers_from (first + 1) count) tt rest.utf8;
+    }
 
 -- one more number
 pub numbers-more : (first count : ℕ) → numbers_from first (count + 1) ≡ numbers_from first count ++ (av.Int (pos (first + count)) ∷ [])
@@ -29,9 +36,14 @@ length-numbers first zero = refl
 length-numbers first (suc count) = ap (λ n. suc n) (length-numbers (first + 1) count)
 
 -- names of files fit
-pub names-fit : (count : ℕ) (file : List ℕ) → AllFit dt.String (replicate count (av.Text file))
-names-fit zero file = refl
-names-fit (suc count) file = names-fit count file
+pub names-fit : (count : ℕ) (file : List ℕ) → IsUtf8 file → AreOfType dt.String (replicate count (av.Text file))
+names-fit zero file u = record { fit = refl; utf8 = All-nil HasUtf8 }
+names-fit (suc count) file u =
+    let rest = names-fit count file u in
+    record {
+      fit = rest.fit;
+      utf8 = All-cons HasUtf8 (av.Text file) (replicate count (av.Text file)) u rest.utf8;
+    }
 
 -- so many names
 pub length-names : (count : ℕ) (file : List ℕ) → length (replicate count (av.Text file)) ≡ count

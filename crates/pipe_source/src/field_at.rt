@@ -1,7 +1,8 @@
 //! Fields where they stand in a text. One that writes a short number is read many digits at once,
 //! and each other one as any field.
 
-ghost use Rattle.std.specs.Prelude.{◌≡◌, ◌≤◌, ◌++◌, ◌∷◌, [], IfOk, IfSome, Some, is_some, length, true};
+ghost use Rattle.std.specs.Prelude.{◌≡◌, ◌≤◌, ◌++◌, ◌∷◌, [], IfOk, IfSome, IsTrue, Some, is_some, length, true};
+ghost use Rattle.std.specs.Str.{IsAscii};
 ghost use Rattle.pipe_columns.specs.AnyValue.{fits_number};
 ghost use Rattle.pipe_columns.specs.declared.any_value.AnyValue.{AnyValue};
 ghost use Rattle.pipe_columns.specs.declared.any_value.AnyValue.TheVariants as av;
@@ -53,12 +54,34 @@ fn short_number(dtype: DataType, text: &[u8], low: usize, high: usize) -> Option
 
 /// Whether the field between two places of a text reads as a value of a type.
 #[inline(always)]
-pub(crate) fn does_read_at(dtype: DataType, text: &[u8], low: usize, high: usize) -> bool
+fn does_read_as(dtype: DataType, text: &[u8], low: usize, high: usize) -> bool
     requires order { low ≤ high }
     requires within { high ≤ length text.now }
     ensures { result ≡ is_some (read_field dtype (between text.now low high)) }
 {
     short_number(dtype, text, low, high).is_some() || does_read(dtype, &text[low..high])
+}
+
+/// Whether the field between two places of a text, which may be known to be ASCII, reads as a value of a
+/// type. The types of most fields have code of their own.
+#[inline(always)]
+pub(crate) fn does_read_at(
+    dtype: DataType,
+    text: &[u8],
+    low: usize,
+    high: usize,
+    is_ascii: bool,
+) -> bool
+    requires order { low ≤ high }
+    requires within { high ≤ length text.now }
+    requires ascii { IsTrue is_ascii → IsAscii text.now }
+    ensures { result ≡ is_some (read_field dtype (between text.now low high)) }
+{
+    match dtype {
+        DataType::Int64 => does_read_as(DataType::Int64, text, low, high),
+        DataType::String => is_ascii || does_read(DataType::String, &text[low..high]),
+        _ => does_read_as(dtype, text, low, high),
+    }
 }
 
 /// Adds the text of a field that reads as one: the empty field is null.
@@ -94,7 +117,7 @@ pub(crate) fn push_field(
 
 /// Adds the value of the field between two places of a text, which reads.
 #[inline(always)]
-pub(crate) fn push_field_at(
+fn push_field_as(
     alloc: Global,
     column: &mut ColumnFill,
     dtype: DataType,
@@ -112,5 +135,30 @@ pub(crate) fn push_field_at(
     match short_number(dtype, text, low, high) {
         Some(number) => column.push(AnyValue::Int(i128::from(number))),
         None => push_field(alloc, column, dtype, &text[low..high]),
+    }
+}
+
+/// Adds the value of the field between two places of a text, which reads. The types of most fields have
+/// code of their own.
+#[inline(always)]
+pub(crate) fn push_field_at(
+    alloc: Global,
+    column: &mut ColumnFill,
+    dtype: DataType,
+    text: &[u8],
+    low: usize,
+    high: usize,
+) -> Result<(), AllocError>
+    requires order { low ≤ high }
+    requires within { high ≤ length text.now }
+    requires reads { is_some (read_field dtype (between text.now low high)) ≡ true }
+    ensures { IfOk result (λ _. (value : AnyValue)
+        × (read_field dtype (between text.now low high) ≡ Some value)
+        × (column.new ≡ column.old ++ value ∷ [])) }
+{
+    match dtype {
+        DataType::Int64 => push_field_as(alloc, column, DataType::Int64, text, low, high),
+        DataType::String => push_text(column, &text[low..high]),
+        _ => push_field_as(alloc, column, dtype, text, low, high),
     }
 }

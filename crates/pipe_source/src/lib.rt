@@ -36,4 +36,6 @@ mod memory_tests;
 #[cfg(test)]
 mod piece_tests;
 #[cfg(test)]
+mod spent_tests;
+#[cfg(test)]
 mod tests;

@@ -1,6 +1,7 @@
 //! Rows that are looked over: whether each field reads, without a value of it.
 
-ghost use Rattle.std.specs.Prelude.{◌≡◌, ◌≤◌, ◌<◌, IfErr, IfOk, List, Ok, length, take};
+ghost use Rattle.std.specs.Prelude.{◌≡◌, ◌≤◌, ◌<◌, IfErr, IfOk, IsTrue, List, Ok, length, take};
+ghost use Rattle.std.specs.Str.{IsAscii};
 ghost use Rattle.csv.specs.Records.{fields_of};
 ghost use Rattle.pipe_columns.specs.declared.any_value.AnyValue.{AnyValue};
 ghost use Rattle.pipe_csv.specs.CsvRows.{read_row, read_rows};
@@ -12,7 +13,7 @@ ghost use Rattle.pipe_source.specs.Rows.{AreStarts, ChecksRow, StopsFirst};
 use crate::field_at::does_read_at;
 use crate::starts::Starts;
 use csv::ByteRecord;
-use pipe_columns::Field;
+use pipe_columns::{DataType, Field};
 use pipe_csv::{CsvError, does_read};
 use pipe_scan::{Row, Stops, next_row};
 use std::alloc::Global;
@@ -25,8 +26,10 @@ fn check_fields(
     fields: &[Field],
     file: usize,
     row: usize,
+    is_ascii: bool,
 ) -> Result<(), CsvError>
     requires order { InOrder (length text.now) start ends.now }
+    requires ascii { IsTrue is_ascii → IsAscii text.now }
     requires width { length ends.now ≡ length fields.now }
     ensures reads { IfOk result (λ _. (values : List AnyValue)
         × (read_row file row fields.now (cut text.now start ends.now) ≡ Ok values)) }
@@ -36,7 +39,7 @@ fn check_fields(
     let mut low = start;
     for (i, field) in fields.iter().enumerate() {
         let high = ends[i];
-        if !does_read_at(field.dtype, text, low, high) {
+        if !does_read_at(field.dtype, text, low, high, is_ascii) {
             return Err(CsvError::Field {
                 file,
                 row,
@@ -85,8 +88,10 @@ fn check_row(
     fields: &[Field],
     file: usize,
     row: usize,
+    is_ascii: bool,
 ) -> Result<bool, CsvError>
     requires marked { AreMarked text.now stops.old }
+    requires ascii { IsTrue is_ascii → IsAscii text.now }
     requires width { length ends.old ≡ length fields.now }
     ensures reads { IfOk result (λ found.
         ChecksRow file row fields.now text.now stops.old.cursor stops.new.cursor found) }
@@ -101,7 +106,7 @@ fn check_row(
             if count != fields.len() {
                 return Err(CsvError::Width { file, row });
             }
-            check_fields(text, start, ends, fields, file, row)?;
+            check_fields(text, start, ends, fields, file, row, is_ascii)?;
             Ok(true)
         }
         Row::Quoted => {
@@ -110,6 +115,11 @@ fn check_row(
         }
         Row::Wide => Err(CsvError::Width { file, row }),
     }
+}
+
+/// Whether some field is a text.
+fn have_texts(fields: &[Field]) -> bool {
+    fields.iter().any(|field| field.dtype == DataType::String)
 }
 
 /// Looks over the rows of a text from a place on, so many at most, and tells how many there are,
@@ -132,6 +142,7 @@ pub(crate) fn check_rows(
     ensures stop { IfErr result
         (λ e. StopsBy e (read_rows file 1 fields.now (take most (records_at text.now at)))) }
 {
+    let is_ascii = most == usize::MAX && have_texts(fields) && text.is_ascii();
     let mut ends = vec![in alloc; 0; fields.len()]?;
     let mut entry = ByteRecord::new(alloc);
     let mut bytes = Vec::new(alloc);
@@ -148,6 +159,7 @@ pub(crate) fn check_rows(
             fields,
             file,
             row + 1,
+            is_ascii,
         );
         match found {
             Ok(true) => starts.note(start)?,

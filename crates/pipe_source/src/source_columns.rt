@@ -1,6 +1,6 @@
 //! The chunk of some rows: their numbers in front, and their file's name behind.
 
-ghost use Rattle.std.specs.Prelude.{◌≡◌, ◌+◌, ◌++◌, ◌<◌, ◌≤◌, ◌%◌, ◌^◌, [], IfOk, List, length, map, option_map, pos, replicate, vec_len, IfSome};
+ghost use Rattle.std.specs.Prelude.{◌≡◌, ◌+◌, ◌++◌, ◌<◌, ◌≤◌, ◌%◌, ◌^◌, [], IfOk, List, length, map, option_map, pos, replicate, vec_len, IfSome, IsUtf8};
 ghost use Rattle.pipe_columns.specs.declared.any_value.AnyValue.TheVariants as av;
 ghost use Rattle.pipe_columns.specs.Frame.{AllHaveHeight};
 ghost use Rattle.pipe_csv.specs.Columns.{DoHold, columns_of};
@@ -55,8 +55,10 @@ fn index_column(
 
 /// The name of a file, so many times.
 fn file_names(alloc: Global, file: &Text, count: usize) -> Result<Vec<AnyValue>, AllocError>
-    ensures { IfOk result (λ v. v.items ≡ replicate count (av.Text file.now)) }
+    ensures names { IfOk result (λ v. v.items ≡ replicate count (av.Text file.now)) }
+    ensures utf8 { IsUtf8 file.now }
 {
+    let _utf8 = file.as_bytes();
     let mut names = Vec::with_capacity(alloc, count)?;
     for _ in 0..count {
         let name = file.try_clone(alloc)?;

@@ -109,7 +109,7 @@ pub(crate) fn numbered(alloc: Global) -> Result<CsvReadOptions, AllocError> {
 }
 
 /// A chunk's number, and of each column the name and the values.
-fn show_chunk(shown: &mut String, chunk: &DataChunk) -> Result<(), AllocError> {
+pub(crate) fn show_chunk(shown: &mut String, chunk: &DataChunk) -> Result<(), AllocError> {
     write!(shown, "[{}", chunk.chunk_index)?;
     for column in chunk.frame.columns() {
         write!(shown, " {}", column.name().as_str())?;
@@ -163,7 +163,8 @@ fn read_all(
     }
 }
 
-/// All that a reader gives in rounds of so many chunks; an input that failed is asked again.
+/// All that a reader gives in rounds of so many chunks, each in the memory of the one before; an input
+/// that failed is asked again.
 pub(crate) fn read_rounds<H: Threads + Sync>(
     rt: &H,
     alloc: Global,
@@ -187,6 +188,7 @@ pub(crate) fn read_rounds<H: Threads + Sync>(
                 if chunks.len() < count {
                     return Ok(shown);
                 }
+                reader.take_back(chunks);
             }
             Err(pipe_csv::CsvError::Input) => {}
             Err(pipe_csv::CsvError::Memory) => return Err(AllocError),

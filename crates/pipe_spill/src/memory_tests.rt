@@ -2,7 +2,8 @@
 
 use crate::frame_write::tests::{TWO_ROWS, payload_of, row_of};
 use crate::{
-    DecodeError, FrameError, decode_key, encode_key, read_frame, write_frame, write_payloads,
+    DecodeError, FrameError, KeyBytes, decode_key, encode_key, read_frame, write_frame,
+    write_payloads,
 };
 use pipe_columns::{AnyValue, DataType, Text};
 use std::alloc::AllocError;
@@ -62,6 +63,20 @@ fn memory_for_the_rows_of_a_frame(rt: HostRuntime) -> Result<(), Fail> {
         Ok(rows) => assert!(rt; rows.len() == 2),
         Err(FrameError::Memory) => return Err("read_frame wants memory".into()),
         Err(FrameError::NotAFrame) => return Err("not a frame".into()),
+    }
+    Ok(())
+}
+
+/// A key of few bytes stands in its row, and one of more in memory of its own.
+#[test]
+fn keys_of_any_length(rt: HostRuntime) -> Result<(), Fail> {
+    let alloc = rt.alloc();
+    let bytes = [7; 64];
+    for len in [0, 1, 30, 31, 64] {
+        match KeyBytes::from_slice(alloc, &bytes[..len]) {
+            Ok(key) => assert!(rt; key.as_slice() == &bytes[..len]),
+            Err(AllocError) => return Err("from_slice wants memory".into()),
+        }
     }
     Ok(())
 }

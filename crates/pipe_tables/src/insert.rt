@@ -14,8 +14,16 @@ use crate::hash_table::AggHashTable;
 use crate::insert_end::{InsertEnd, LentEnd};
 use crate::spot::{Spot, spot_for};
 use pipe_inputs::ChunkRows;
-use pipe_spill::SpillRow;
+use pipe_spill::{SpillRow, Values};
 use std::alloc::AllocError;
+
+/// The inputs of a row, whose key is dropped.
+#[inline(always)]
+fn values_of(row: SpillRow) -> Values
+    ensures { result ≡ row.values }
+{
+    row.values
+}
 
 impl AggHashTable {
     /// Takes a row in. Where its key is covered it takes no memory.
@@ -35,13 +43,13 @@ impl AggHashTable {
     {
         match spot_for(&self.keyed, &mut self.hints, self.limit, row.key.as_slice()) {
             Spot::At(index) => {
-                self.keyed.feed(index, row.place, row.values);
+                self.keyed.feed(index, row.place, values_of(row));
                 InsertEnd::Done
             }
             Spot::New(hash) => match self.keyed.push(hash, row.key.as_slice()) {
                 Ok(index) => {
                     self.parts = None;
-                    self.keyed.feed(index, row.place, row.values);
+                    self.keyed.feed(index, row.place, values_of(row));
                     InsertEnd::Done
                 }
                 Err(AllocError) => InsertEnd::Memory(row),

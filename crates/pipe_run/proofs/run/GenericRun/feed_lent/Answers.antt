@@ -48,8 +48,8 @@ returns-in-Err-round-clause-back g c =
     (stop-back x taken (map (λ p. p.journal) c.self.inside.closed.items) (map (λ p. p.store) c.self.inside.closed.items) c.args.self c.self.view_is stores c.self.inside.closed.items c.self.inside.rested.items c.self.inside.rows c.self.invariant.0
     c.args.chunks.items c.in-Err-round.closed.items c.in-Err-round.stop c.stores_of-in-Err-round.ensures stand)
 
-pub invariant_of-result : goal.invariant_of-result
-invariant_of-result g c =
+pub invariant_of-run : goal.invariant_of-run
+invariant_of-run g c =
     let x = c.self.inside.begun in
     let taken : List DataChunk = map (λ m. m.value) c.self.inside.chunks.items in
     let closed = c.in-Ok-round.ended.closed.items in
