@@ -33,15 +33,23 @@ plain-drop zero xs h = h
 plain-drop (suc n) [] h = refl
 plain-drop (suc n) (c ∷ cs) h = plain-drop n cs (and_parts (not (c == 34)) (has_no_quote cs) h).1
 
--- nor has its front
-plain-take : (n : ℕ) (xs : List ℕ) → has_no_quote xs ≡ true → has_no_quote (take n xs) ≡ true
-plain-take zero xs h = refl
-plain-take (suc n) [] h = refl
-plain-take (suc n) (c ∷ cs) h = let k = and_parts (not (c == 34)) (has_no_quote cs) h in rw (k.0, plain-take n cs k.1) refl
+-- the rest of a piece
+between-drop : (text : List ℕ) (low high q : ℕ) → low + q ≤ high → between text (low + q) high ≡ drop q (between text low high)
+between-drop text low high q h =
+    let rest : ℕ = high - (low + q) in
+    let size : q + rest ≡ high - low = omega arith in
+    sym (ap (λ (n : ℕ). drop q (take n (drop low text))) (sym size) ∙ drop-take q rest (drop low text) ∙ ap (take rest) (drop-drop q low text))
 
--- nor what is between two places
-plain-between : (text : List ℕ) (low high : ℕ) → has_no_quote text ≡ true → has_no_quote (between text low high) ≡ true
-plain-between text low high h = plain-take (high - low) (drop low text) (plain-drop low text h)
+-- what isn't without it is true
+pub plain-from : (b : Bool) → not b ≡ false → b ≡ true
+plain-from true e = refl
+plain-from false e = cc
+
+-- nor has the rest of a piece without one
+plain-rest : (text : List ℕ) (low high p : ℕ) → has_no_quote (between text low high) ≡ true → low ≤ p → p ≤ high → has_no_quote (between text p high) ≡ true
+plain-rest text low high p q a b =
+    let same : low + (p - low) ≡ p = omega arith in
+    subst (λ (k : ℕ). has_no_quote (between text k high) ≡ true) same (rw (between-drop text low high (p - low) (omega arith)) (plain-drop (p - low) (between text low high) q))
 
 -- from its end on a piece has no record
 part-none : (text : List ℕ) (p high : ℕ) → p ≡ high → records_at text p ≡ records default_config (between text p high) ++ records_at text high
@@ -50,32 +58,32 @@ part-none text p high e =
     rw (e, between_none text high, none) refl
 
 -- before its end
-part-some : (text : List ℕ) (p high : ℕ) (last : Bool) → nat_lt high (length text) ≡ last → has_no_quote text ≡ true → p < high → high ≤ length text → (high < length text → ends_line (get_or text (high - 1) 0) ≡ true)
+part-some : (text : List ℕ) (p high : ℕ) (last : Bool) → nat_lt high (length text) ≡ last → has_no_quote (between text p high) ≡ true → p < high → high ≤ length text → (high < length text → ends_line (get_or text (high - 1) 0) ≡ true)
     → records_at text p ≡ records default_config (between text p high) ++ records_at text high
 part-some text p high true t q a b e =
     let within : high < length text = grind (arith, nat_tests) in
     let same : high - 1 + 1 ≡ high = omega arith in
     let here = piece_at_line text p (high - 1) (omega arith) (omega arith) (e within) in
-    (rw same at here) (plain-between text p high q)
+    (rw same at here) q
 part-some text p high false t q a b e =
     let beyond : length text ≤ high = grind (arith, nat_tests) in
     let same : high ≡ length text = omega arith in
-    rw same (piece_at_end text p (omega arith) (plain-between text p (length text) q))
+    rw same (piece_at_end text p (omega arith) (rw same at q))
 
 -- from any place
-part-at : (text : List ℕ) (p high : ℕ) (some : Bool) → nat_lt p high ≡ some → has_no_quote text ≡ true → p ≤ high → high ≤ length text → (high < length text → ends_line (get_or text (high - 1) 0) ≡ true)
+part-at : (text : List ℕ) (p high : ℕ) (some : Bool) → nat_lt p high ≡ some → has_no_quote (between text p high) ≡ true → p ≤ high → high ≤ length text → (high < length text → ends_line (get_or text (high - 1) 0) ≡ true)
     → records_at text p ≡ records default_config (between text p high) ++ records_at text high
 part-at text p high true t q a b e = part-some text p high _ refl q (grind (arith, nat_tests)) b e
 part-at text p high false t q a b e =
     let beyond : high ≤ p = grind (arith, nat_tests) in
     part-none text p high (omega arith)
 
--- a text without a quote is cut behind the ends of lines
-pub part-of : (text : List ℕ) (size low high : ℕ) → has_no_quote text ≡ true → low < length text → IsPiece text size low high → IsPart text low high
-part-of text size low high q h piece = record {
+-- a text is cut behind the ends of lines
+pub part-of : (text : List ℕ) (size low high : ℕ) → low < length text → IsPiece text size low high → IsPart text low high
+part-of text size low high h piece = record {
   order = omega (arith, piece.more h);
   within = piece.within;
-  records = λ p a b. part-at text p high _ refl q b piece.within piece.line;
+  records = λ q p a b. part-at text p high _ refl (plain-rest text low high p q a b) b piece.within piece.line;
 }
 
 -- ---- bounds of pieces
@@ -173,31 +181,24 @@ start-skips text low place next width some more all a s e =
 
 -- ---- a piece that was looked over
 
--- the rest of a piece
-between-drop : (text : List ℕ) (low high q : ℕ) → low + q ≤ high → between text (low + q) high ≡ drop q (between text low high)
-between-drop text low high q h =
-    let rest : ℕ = high - (low + q) in
-    let size : q + rest ≡ high - low = omega arith in
-    sym (ap (λ (n : ℕ). drop q (take n (drop low text))) (sym size) ∙ drop-take q rest (drop low text) ∙ ap (take rest) (drop-drop q low text))
-
 -- where a row of a piece begins, in the text
-piece-start : (text : List ℕ) (low high n q : ℕ) → IsPart text low high → n ≤ length (records default_config (between text low high)) → IsStart (between text low high) 0 n q → IsStart text low n (low + q)
-piece-start text low high n q part h s =
+piece-start : (text : List ℕ) (low high n q : ℕ) → IsPart text low high → has_no_quote (between text low high) ≡ true → n ≤ length (records default_config (between text low high)) → IsStart (between text low high) 0 n q → IsStart text low n (low + q)
+piece-start text low high n q part plain h s =
     let piece : List ℕ = between text low high in
     let own : Records = records default_config piece in
     let rest : Records = records_at text high in
     let within : low + q ≤ high = omega (arith, s.within, length-between text low high part.order part.within, part.order) in
-    let here : records_at text (low + q) ≡ records_at piece q ++ rest = part.records (low + q) (omega arith) within ∙ ap (λ (t : List ℕ). records default_config t ++ rest) (between-drop text low high q within) in record {
-      behind = here ∙ ap (λ (t : Records). t ++ rest) s.behind ∙ sym (drop-append-le n own rest h) ∙ ap (drop n) (sym (part.records low (omega arith) part.order));
+    let here : records_at text (low + q) ≡ records_at piece q ++ rest = part.records plain (low + q) (omega arith) within ∙ ap (λ (t : List ℕ). records default_config t ++ rest) (between-drop text low high q within) in record {
+      behind = here ∙ ap (λ (t : Records). t ++ rest) s.behind ∙ sym (drop-append-le n own rest h) ∙ ap (drop n) (sym (part.records plain low (omega arith) part.order));
       within = omega (arith, within, part.within);
     }
 
 -- the places of a piece that were noted
-piece-places : (text : List ℕ) (low high grain : ℕ) (piece : PieceRows) → piece.low ≡ low → IsPart text low high → piece.count ≡ length (records default_config (between text low high)) → AreStarts (between text low high) 0 grain piece.count piece.places.items → ArePlaces text grain piece
-piece-places text low high grain piece e part many starts = record {
+piece-places : (text : List ℕ) (low high grain : ℕ) (piece : PieceRows) → piece.low ≡ low → IsPart text low high → has_no_quote (between text low high) ≡ true → piece.count ≡ length (records default_config (between text low high)) → AreStarts (between text low high) 0 grain piece.count piece.places.items → ArePlaces text grain piece
+piece-places text low high grain piece e part plain many starts = record {
   each = λ k h.
       let start = starts.each k h in
-      rw e (piece-start text low high (k * grain) (get_or piece.places.items k 0) part (omega (arith, many, start.0)) start.1);
+      rw e (piece-start text low high (k * grain) (get_or piece.places.items k 0) part plain (omega (arith, many, start.0)) start.1);
   all = starts.all;
 }
 
@@ -208,9 +209,9 @@ piece-few text low high part =
     omega (arith, part.within, bytes, length-records default_config (length (between text low high) + 1) st.StartRecord (between text low high) tt)
 
 -- a piece was looked over as a text of its own
-pub piece-rows : (file most : ℕ) (schema : List Field) (text : List ℕ) (low high grain : ℕ) (piece : PieceRows) (rows : List (List AnyValue)) → IsPart text low high → length text ≤ most → piece.low ≡ low
+pub piece-rows : (file most : ℕ) (schema : List Field) (text : List ℕ) (low high grain : ℕ) (piece : PieceRows) (rows : List (List AnyValue)) → IsPart text low high → has_no_quote (between text low high) ≡ true → length text ≤ most → piece.low ≡ low
     → read_rows file 1 schema (take most (records_at (between text low high) 0)) ≡ Ok rows → length rows ≡ piece.count → AreStarts (between text low high) 0 grain piece.count piece.places.items → IsLookedOver schema text low high grain piece
-piece-rows file most schema text low high grain piece rows part small e read size starts =
+piece-rows file most schema text low high grain piece rows part plain small e read size starts =
     let own : Records = records default_config (between text low high) in
     let all : take most own ≡ own = take_all most own (omega (arith, piece-few text low high part, small)) in
     let mine : read_rows file 1 schema own ≡ Ok rows = ap (read_rows file 1 schema) (sym all) ∙ read in
@@ -219,11 +220,11 @@ piece-rows file most schema text low high grain piece rows part small e read siz
       rows = record {
         front = own;
         rows = rows;
-        records = part.records low (omega arith) part.order;
+        records = part.records plain low (omega arith) part.order;
         read = rows-anywhere file 1 1 1 schema own rows mine;
         count = sym many ∙ size;
       };
-      places = piece-places text low high grain piece e part (sym size ∙ many) starts;
+      places = piece-places text low high grain piece e part plain (sym size ∙ many) starts;
     }
 
 -- ---- all pieces

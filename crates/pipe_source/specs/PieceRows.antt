@@ -1,18 +1,20 @@
 -- Of the proofs alone: pieces of a text, each of which is looked over by itself.
-use Rattle.std.specs.Prelude.{◌≡◌, ◌≤◌, ◌<◌, ◌+◌, ◌-◌, ◌*◌, ℕ, List, ◌++◌, length, get_or, Ok}
+use Rattle.std.specs.Prelude.{◌≡◌, ◌≤◌, ◌<◌, ◌+◌, ◌-◌, ◌*◌, ℕ, List, ◌++◌, length, get_or, true, Ok}
 use Rattle.csv.specs.Reading.{default_config, records}
 use Rattle.pipe_columns.specs.declared.any_value.AnyValue.{AnyValue}
 use Rattle.pipe_columns.specs.declared.schema.Field.{Field}
 use Rattle.pipe_csv.specs.CsvRows.{read_rows}
+use Rattle.pipe_scan.specs.Lines.{has_no_quote}
 use Rattle.pipe_scan.specs.Records.{Records, between, records_at}
 use Rattle.pipe_source.specs.Rows.{IsStart}
 use Rattle.pipe_source.specs.declared.piece_check.PieceRows.{PieceRows}
 
--- from each place of a piece on, a text has the records of the rest of it, and those behind it
+-- from each place of a piece without a quote on, a text has the records of the rest of it, and those
+-- behind it
 pub record IsPart (text : List ℕ) (low high : ℕ) : Type 0 where
   pub order : low ≤ high
   pub within : high ≤ length text
-  pub records : (p : ℕ) → low ≤ p → p ≤ high
+  pub records : has_no_quote (between text low high) ≡ true → (p : ℕ) → low ≤ p → p ≤ high
       → records_at text p ≡ records default_config (between text p high) ++ records_at text high
 
 -- a text is cut at bounds, one behind the other

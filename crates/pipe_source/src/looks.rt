@@ -70,9 +70,9 @@ impl Looks for Alone {
     }
 }
 
-/// So many threads look over pieces of a text that has no fewer bytes than that, where it has no
-/// quote and all its rows are wanted. Where a row doesn't fit, the caller's thread looks over the
-/// text again, alone.
+/// So many threads look over pieces of a text that has no fewer bytes than that, where its front has no
+/// quote and all its rows are wanted. Where a row doesn't fit or a piece has a quote, the caller's thread
+/// looks over the text again, alone.
 #[derive(Drop)]
 pub(crate) struct SideBySide<'a, H: Threads + Sync> {
     pub(crate) rt: &'a H,
@@ -93,7 +93,8 @@ impl<H: Threads + Sync> Looks for SideBySide<'_, H> {
         size: usize,
     ) -> Result<(usize, usize, Vec<usize>), CsvError> {
         let is_large = self.threads > 1 && text.len() >= self.fewest;
-        if is_large && wanted.is_none() && !has_quote(text) {
+        let front = &text[..text.len().min(FEWEST_BYTES)];
+        if is_large && wanted.is_none() && !has_quote(front) {
             let pieces = self.threads.saturating_mul(PIECES_A_THREAD);
             let sizes = PieceSizes::new(text.len(), pieces, size);
             let found = look_over_pieces(self.rt, alloc, text, fields, file, size, sizes);

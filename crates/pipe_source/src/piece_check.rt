@@ -1,16 +1,16 @@
-//! A text that is cut into pieces behind the ends of lines, which are looked over side by side.
+//! A text that is cut into pieces behind the ends of lines, which are looked over side by side. Where none
+//! has a quote, they have the text's records.
 
-ghost use Rattle.std.specs.Prelude.{◌≡◌, ◌≤◌, ◌<◌, ◌+◌, ℕ, IfOk, Result, get_or, length, true};
+ghost use Rattle.std.specs.Prelude.{◌≡◌, ◌≤◌, ◌<◌, ◌+◌, ℕ, IfOk, Result, get_or, length};
 ghost use Rattle.pipe_csv.specs.declared.csv_error.CsvError.{CsvError};
 ghost use Rattle.pipe_io.specs.declared.whole_file.TheConstants.{MOST_FILE_BYTES};
-ghost use Rattle.pipe_scan.specs.Lines.{has_no_quote};
 ghost use Rattle.pipe_source.specs.declared.piece_check.PieceRows.{PieceRows};
 ghost use Rattle.pipe_source.specs.PieceRows.{AreBounds, AreParts, IsPart, IsPieceAt};
 
 use crate::row_check::check_rows;
 use pipe_columns::Field;
 use pipe_csv::CsvError;
-use pipe_scan::piece_end;
+use pipe_scan::{has_quote, piece_end};
 use std::alloc::{AllocError, Global};
 use std::thread;
 use std::thread::Threads;
@@ -24,15 +24,13 @@ pub(crate) struct PieceRows {
     pub(crate) places: Vec<usize>,
 }
 
-/// The bounds of the pieces of a text without a quote from a place on, each of so many bytes or a
-/// few more.
+/// The bounds of the pieces of a text from a place on, each of so many bytes or a few more.
 pub(crate) fn piece_bounds(
     alloc: Global,
     text: &[u8],
     begin: usize,
     bytes: usize,
 ) -> Result<Vec<usize>, AllocError>
-    requires plain { has_no_quote text.now ≡ true }
     requires within { begin ≤ length text.now }
     requires bytes { 0 < bytes }
     ensures { IfOk result (λ v. AreBounds text.now begin (length text.now) v.items) }
@@ -49,7 +47,7 @@ pub(crate) fn piece_bounds(
 }
 
 /// Looks over the rows of a piece of a text, by its number, and notes the place of every so many of
-/// them.
+/// them. Where it has a quote, it answers as for want of memory.
 fn check_piece(
     alloc: Global,
     text: &[u8],
@@ -68,6 +66,9 @@ fn check_piece(
 {
     let low = bounds[n];
     let piece = &text[low..bounds[n + 1]];
+    if has_quote(piece) {
+        return Err(CsvError::Memory);
+    }
     match check_rows(alloc, piece, 0, fields, file, usize::MAX, grain) {
         Ok((count, places)) => Ok(PieceRows { low, count, places }),
         Err(error) => Err(error),

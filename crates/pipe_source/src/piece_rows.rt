@@ -1,9 +1,8 @@
 //! A text that is looked over in pieces side by side.
 
-ghost use Rattle.std.specs.Prelude.{◌≡◌, ◌≤◌, ◌<◌, IfOk, List, None, Ok, length, true};
+ghost use Rattle.std.specs.Prelude.{◌≡◌, ◌≤◌, ◌<◌, IfOk, List, None, Ok, length};
 ghost use Rattle.pipe_columns.specs.declared.any_value.AnyValue.{AnyValue};
 ghost use Rattle.pipe_io.specs.declared.whole_file.TheConstants.{MOST_FILE_BYTES};
-ghost use Rattle.pipe_scan.specs.Lines.{has_no_quote};
 ghost use Rattle.pipe_source.specs.CsvChunks.{text_rows};
 ghost use Rattle.pipe_source.specs.PieceRows.{AreRowsTo};
 ghost use Rattle.pipe_source.specs.Rows.{AreRowsAt, AreStarts};
@@ -46,8 +45,8 @@ impl PieceSizes {
 }
 
 /// Looks over the rows of a text from a place on in pieces side by side, and tells how many there
-/// are, and where each chunk of a size begins. Where a row doesn't fit, it answers as for want of
-/// memory.
+/// are, and where each chunk of a size begins. Where a row doesn't fit, or one has a quote, it answers as
+/// for want of memory.
 fn check_pieces<H: Threads + Sync>(
     rt: &H,
     alloc: Global,
@@ -58,7 +57,6 @@ fn check_pieces<H: Threads + Sync>(
     size: usize,
     sizes: PieceSizes,
 ) -> Result<(usize, Vec<usize>), AllocError>
-    requires plain { has_no_quote text.now ≡ true }
     requires small { length text.now ≤ MOST_FILE_BYTES }
     requires within { begin ≤ length text.now }
     requires size { 0 < size }
@@ -94,8 +92,7 @@ fn check_pieces<H: Threads + Sync>(
     Ok((count, starts.places))
 }
 
-/// Looks over the text of a file without a quote in pieces side by side. An error says nothing of
-/// the text.
+/// Looks over the text of a file in pieces side by side. An error says nothing of the text.
 pub(crate) fn look_over_pieces<H: Threads + Sync>(
     rt: &H,
     alloc: Global,
@@ -105,7 +102,6 @@ pub(crate) fn look_over_pieces<H: Threads + Sync>(
     size: usize,
     sizes: PieceSizes,
 ) -> Result<(usize, usize, Vec<usize>), CsvError>
-    requires plain { has_no_quote text.now ≡ true }
     requires small { length text.now ≤ MOST_FILE_BYTES }
     requires size { 0 < size }
     requires bytes { 0 < sizes.bytes }

@@ -12,7 +12,7 @@ loop-low-init c =
 pub loop-low-preserved : goal.loop-low-preserved
 loop-low-preserved c =
     let items : c.push-in-loop-low.new.self.items ≡ c.loop-low.bounds.items ++ (c.piece_end-end.result ∷ []) = search rules in
-    let part = part-of c.args.text.now c.args.bytes c.loop-low.low c.piece_end-end.result c.requires.plain c.loop-low-test.true c.piece_end-end.ensures.piece in record {
+    let part = part-of c.args.text.now c.args.bytes c.loop-low.low c.piece_end-end.result c.loop-low-test.true c.piece_end-end.ensures.piece in record {
       within = c.piece_end-end.ensures.piece.within;
       cut = bounds-more c.args.text.now c.args.begin c.loop-low.low c.piece_end-end.result c.loop-low.bounds.items c.push-in-loop-low.new.self.items items c.loop-low.invariant.cut part;
     }
