@@ -122,15 +122,7 @@ impl<'a, S: SpillStore + Drop> TypedRun<'a, S> {
             chunks,
             sinks,
             spent,
-        } = match take_in(
-            rt,
-            alloc,
-            &query,
-            limits.partitions,
-            before,
-            chunks,
-            sinks,
-        ) {
+        } = match take_in(rt, alloc, &query, limits.partitions, before, chunks, sinks) {
             Ok(taken) => taken,
             Err(AllocError) => return Err((PipeError::Memory, stores)),
         };

@@ -8,7 +8,7 @@ use crate::typed_run::TypedRun;
 use pipe_aggs::Query;
 use pipe_columns::DataChunk;
 use pipe_plan::{Limits, SpillAction};
-use pipe_run::{GroupByOutput, PipeError};
+use pipe_run::{GroupByOutput, PipeError, drop_chunks};
 use pipe_spill::SpillStore;
 use std::alloc::Global;
 use std::thread::Threads;
@@ -45,9 +45,10 @@ pub(crate) fn run_typed<S: SpillStore + Drop, H: Threads + Sync>(
         Ok(run) => run,
         Err((error, stores)) => return (Err(error), stores),
     };
-    let run = match run.feed(rt, alloc, chunks) {
-        Ok(run) => run,
+    let (run, spent) = match run.feed(rt, alloc, chunks) {
+        Ok(fed) => fed,
         Err((error, stores)) => return (Err(error), stores),
     };
+    drop_chunks(rt, alloc, run.limits.workers, spent);
     run.finish(alloc)
 }

@@ -56,7 +56,7 @@ marks-behind text at left k h =
     ap (λ (n : ℕ). n / 2) (mask-drop k ms) ∙ mask-half (drop k ms) ∙ ap mask_l (drop-drop 1 k ms ∙ drop-map is_stop (k + 1) (chunk at left text) ∙ ap (map is_stop) cut)
 
 -- the first bit is that of the next stop
-pub first-stop : (text : List ℕ) (at left found : ℕ) → at + left ≤ length text → left ≤ 32 → found ≡ marks text at left → 0 < found
+pub first-stop : (text : List ℕ) (at left found : ℕ) → at + left ≤ length text → left ≤ 64 → found ≡ marks text at left → 0 < found
     → (count_trailing_zeros 64 found < left) × IsNextStop text at (at + count_trailing_zeros 64 found)
 first-stop text at left found h l e s =
     let xs : List ℕ = chunk at left text in

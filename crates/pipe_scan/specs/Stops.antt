@@ -14,5 +14,5 @@ marks text at n = mask_l (map is_stop (chunk at n text))
 -- what is known of the stops of a text behind a cursor
 pub record AreMarked (text : List ℕ) (s : Stops) : Type 0 where
   pub within : s.cursor + s.left ≤ length text
-  pub few : s.left ≤ 32
+  pub few : s.left ≤ 64
   pub found : s.found ≡ marks text s.cursor s.left

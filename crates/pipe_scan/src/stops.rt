@@ -1,4 +1,4 @@
-//! The stops of a text, 32 bytes at a time.
+//! The stops of a text, 64 bytes at a time.
 
 ghost use Rattle.std.specs.Prelude.{◌+◌, ◌<◌, ◌≡◌, ◌≤◌, length, min};
 ghost use Rattle.pipe_scan.specs.NextStop.{IsNextStop};
@@ -34,14 +34,14 @@ impl Stops {
     }
 }
 
-/// The stops among 32 bytes.
+/// The stops among 64 bytes.
 #[inline(always)]
 fn marks_at(text: &[u8], at: usize) -> u64
-    requires { at + 32 ≤ length text.now }
-    ensures { result ≡ marks text.now at 32 }
+    requires { at + 64 ≤ length text.now }
+    ensures { result ≡ marks text.now at 64 }
 {
-    u8x32::from_slice(&text[at..])
-        .simd_le(u8x32::splat(b','))
+    u8x64::from_slice(&text[at..])
+        .simd_le(u8x64::splat(b','))
         .to_bitmask()
 }
 
@@ -98,11 +98,11 @@ pub(crate) fn next_stop(text: &[u8], stops: &mut Stops) -> usize
 {
     while stops.found == 0 {
         let next = stops.cursor + stops.left;
-        if text.len() - next < 32 {
+        if text.len() - next < 64 {
             return last_stop(text, stops);
         }
         stops.cursor = next;
-        stops.left = 32;
+        stops.left = 64;
         stops.found = marks_at(text, next);
     }
     first_mark(text, stops)

@@ -5,4 +5,4 @@ use Rattle.std.proofs.lemmas.Simd.{bitmask_splat, length-chunk}
 use Rattle.pipe_scan.proofs.stops.marks_at.Goals as goal
 
 pub returns : goal.returns
-returns c = bitmask_splat w8 nat_le (chunk c.args.at 32 c.args.text.now) 32 44 (length-chunk c.args.at 32 c.args.text.now c.requires) (omega arith)
+returns c = bitmask_splat w8 nat_le (chunk c.args.at 64 c.args.text.now) 64 44 (length-chunk c.args.at 64 c.args.text.now c.requires) (omega arith)
