@@ -40,7 +40,7 @@ returns g c =
     let begin : CanBegin x = record { fit = fits ∙ c.in-Ok.ensures.fit; faultless = c.in-Ok.ensures.faultless; suited = c.in-Ok.ensures.suited } in
     let chunks : List DataChunk = c.args.chunks.items in
     let first = c.in-Ok.run' in
-    let last = c.in-Ok-feed.run' in
+    let last = c.in-Ok-feed.fed.0 in
     let fed : last.chunks ≡ chunks = c.in-Ok-feed.ensures.chunks ∙ ap (λ (l : List DataChunk). l ++ chunks) c.in-Ok.ensures.chunks in
     let can : CanRun x chunks = record { begin = begin; feed = fed-can x chunks first c.in-Ok.ensures.setting c.in-Ok.ensures.chunks c.in-Ok-feed.ensures.fed } in
     finish-ends x chunks last c.finish.result.0 (map seen c.finish.result.1.items) (c.in-Ok-feed.ensures.setting ∙ c.in-Ok.ensures.setting) fed can

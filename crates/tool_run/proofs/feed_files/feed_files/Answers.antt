@@ -42,17 +42,17 @@ returns-in-Err-clause-back g c =
     let inv = c.loop.invariant in
     front-of c.args.run.setting c.loop.run.setting true c.loop.run.chunks _ inv.setting inv.fit c.into_stores.ensures.back
 
-pub returns-in-Err-feed-clause-back : goal.returns-in-Err-feed-clause-back
-returns-in-Err-feed-clause-back g c =
+pub returns-in-Err-feed_lent-clause-back : goal.returns-in-Err-feed_lent-clause-back
+returns-in-Err-feed_lent-clause-back g c =
     let inv = c.loop.invariant in
     let more : List DataChunk = c.in-Ok.read.0.items in
     let fields : List Field = c.args.run.setting.query.schema in
     let fit : AllFit fields (c.loop.run.chunks ++ more) = fit-more fields (given_fields c.loop.reader) c.loop.run.chunks more inv.fields inv.fit c.in-Ok.ensures.fit in
-    front-of c.args.run.setting c.loop.run.setting true (chunks_reached c.loop.run more c.in-Err-feed.error) _ inv.setting
-    (reached-fit fields c.loop.run more c.in-Err-feed.error inv.fit fit) c.in-Err-feed.ensures.back
+    front-of c.args.run.setting c.loop.run.setting true (chunks_reached c.loop.run more c.in-Err-feed_lent.error) _ inv.setting
+    (reached-fit fields c.loop.run more c.in-Err-feed_lent.error inv.fit fit) c.in-Err-feed_lent.ensures.back
 
-pub returns-in-Err-feed-clause-cause : goal.returns-in-Err-feed-clause-cause
-returns-in-Err-feed-clause-cause g c =
+pub returns-in-Err-feed_lent-clause-cause : goal.returns-in-Err-feed_lent-clause-cause
+returns-in-Err-feed_lent-clause-cause g c =
     let inv = c.loop.invariant in
     let more : List DataChunk = c.in-Ok.read.0.items in
     let all : List DataChunk = c.loop.run.chunks ++ more in
@@ -60,10 +60,10 @@ returns-in-Err-feed-clause-cause g c =
     let chunks : c.in-Ok.read.1.chunks ≡ length all = chunks-more c.loop.before c.in-Ok.read.1 c.loop.run.chunks more all refl inv.chunks c.in-Ok.ensures.chunks in
     let fit : All (λ (x : DataChunk). FitsSchema c.args.run.setting.query.schema x.frame) all =
     fit-more c.args.run.setting.query.schema (given_fields c.loop.reader) c.loop.run.chunks more inv.fields inv.fit c.in-Ok.ensures.fit in
-    feed-cause c.args.run c.loop.run more _ c.in-Err-feed.error inv.counted
+    feed-cause c.args.run c.loop.run more _ c.in-Err-feed_lent.error inv.counted
     (subst (λ (s : Setting). All (λ (x : DataChunk). FitsSchema s.query.schema x.frame) all) (sym inv.setting) fit)
     (subst (λ n. n < 2 ^ 32) rows c.in-Ok.ensures.few.1) (subst (λ n. n < 2 ^ 32) chunks c.in-Ok.ensures.few.0)
-    c.in-Err-feed.ensures.cause
+    c.in-Err-feed_lent.ensures.cause
 
 pub returns-then-is_last-clause-all : goal.returns-then-is_last-clause-all
 returns-then-is_last-clause-all g c =
@@ -73,26 +73,26 @@ returns-then-is_last-clause-all g c =
     let step : AreTaken told c.loop.reader more c.read_round.new.reader = subst (λ (t : Option Files). AreTaken t c.loop.reader more c.read_round.new.reader) inv.told c.in-Ok.ensures.taken in
     let last : length more < c.args.most = search rules in
     let none : HasNone told c.read_round.new.reader = subst (λ (t : Option Files). HasNone t c.read_round.new.reader) inv.told (c.in-Ok.ensures.over last) in
-    taken-all told c.args.reader.now c.read_round.new.reader c.in-Ok-feed.run'.chunks
-    (taken-then told c.args.reader.now c.loop.reader c.read_round.new.reader c.loop.run.chunks more c.in-Ok-feed.run'.chunks c.in-Ok-feed.ensures.chunks inv.taken step) none
+    taken-all told c.args.reader.now c.read_round.new.reader c.in-Ok-feed_lent.fed.0.chunks
+    (taken-then told c.args.reader.now c.loop.reader c.read_round.new.reader c.loop.run.chunks more c.in-Ok-feed_lent.fed.0.chunks c.in-Ok-feed_lent.ensures.chunks inv.taken step) none
 
 pub returns-then-is_last-clause-fit : goal.returns-then-is_last-clause-fit
 returns-then-is_last-clause-fit g c =
     let inv = c.loop.invariant in
     let more : List DataChunk = c.in-Ok.read.0.items in
     let fields : List Field = c.args.run.setting.query.schema in
-    subst (AllFit fields) (sym c.in-Ok-feed.ensures.chunks) (fit-more fields (given_fields c.loop.reader) c.loop.run.chunks more inv.fields inv.fit c.in-Ok.ensures.fit)
+    subst (AllFit fields) (sym c.in-Ok-feed_lent.ensures.chunks) (fit-more fields (given_fields c.loop.reader) c.loop.run.chunks more inv.fields inv.fit c.in-Ok.ensures.fit)
 
 pub returns-then-is_last-clause-counted : goal.returns-then-is_last-clause-counted
-returns-then-is_last-clause-counted g c = fell-then c.args.run.stores c.loop.run.stores c.in-Ok-feed.run'.stores c.loop.invariant.counted c.in-Ok-feed.ensures.counted
+returns-then-is_last-clause-counted g c = fell-then c.args.run.stores c.loop.run.stores c.in-Ok-feed_lent.fed.0.stores c.loop.invariant.counted c.in-Ok-feed_lent.ensures.counted
 
 pub loop-preserved : goal.loop-preserved
 loop-preserved g c =
     let inv = c.loop.invariant in
     let told : Option Files = g.I.InputFiles.told c.args.input.now in
     let more : List DataChunk = c.in-Ok.read.0.items in
-    let now : List DataChunk = c.in-Ok-feed.run'.chunks in
-    let is : now ≡ c.loop.run.chunks ++ more = c.in-Ok-feed.ensures.chunks in
+    let now : List DataChunk = c.in-Ok-feed_lent.fed.0.chunks in
+    let is : now ≡ c.loop.run.chunks ++ more = c.in-Ok-feed_lent.ensures.chunks in
     let step : AreTaken told c.loop.reader more c.read_round.new.reader = subst (λ (t : Option Files). AreTaken t c.loop.reader more c.read_round.new.reader) inv.told c.in-Ok.ensures.taken in
     let fit : All (λ (x : DataChunk). FitsSchema c.args.run.setting.query.schema x.frame) (c.loop.run.chunks ++ more) =
     fit-more c.args.run.setting.query.schema (given_fields c.loop.reader) c.loop.run.chunks more inv.fields inv.fit c.in-Ok.ensures.fit in
@@ -100,7 +100,7 @@ loop-preserved g c =
     record {
       told = search rules;
       later = search rules;
-      setting = c.in-Ok-feed.ensures.setting ∙ inv.setting;
+      setting = c.in-Ok-feed_lent.ensures.setting ∙ inv.setting;
       fields = search rules;
       chunks = chunks-more c.loop.before c.in-Ok.read.1 c.loop.run.chunks more now is inv.chunks c.in-Ok.ensures.chunks;
       rows = rows-more c.loop.before c.in-Ok.read.1 c.loop.run.chunks more now is inv.rows c.in-Ok.ensures.rows;
@@ -108,6 +108,6 @@ loop-preserved g c =
       few_rows = c.in-Ok.ensures.few.1;
       rounds = omega (arith, inv.rounds, c.in-Ok.ensures.chunks, full, c.requires.most);
       fit = subst (All (λ (x : DataChunk). FitsSchema c.args.run.setting.query.schema x.frame)) (sym is) fit;
-      counted = fell-then c.args.run.stores c.loop.run.stores c.in-Ok-feed.run'.stores inv.counted c.in-Ok-feed.ensures.counted;
-      taken = taken-then told c.args.reader.now c.loop.reader c.read_round.new.reader c.loop.run.chunks more now is inv.taken step;
+      counted = fell-then c.args.run.stores c.loop.run.stores c.in-Ok-feed_lent.fed.0.stores inv.counted c.in-Ok-feed_lent.ensures.counted;
+      taken = subst (AreTaken told c.args.reader.now now) (sym c.take_back.ensures) (taken-then told c.args.reader.now c.loop.reader c.read_round.new.reader c.loop.run.chunks more now is inv.taken step);
     }
