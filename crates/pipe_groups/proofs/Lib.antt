@@ -36,3 +36,4 @@ pub mod FrontFacts
 pub mod RunFacts
 pub mod HoldRunFacts
 pub mod KeepNoneFacts
+pub mod FewInputs

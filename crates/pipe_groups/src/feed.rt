@@ -13,7 +13,7 @@ use crate::groups::{Entry, Groups};
 use crate::lent_states::lend_at;
 use crate::states::feed_states;
 use pipe_aggs::AggregateFunction;
-use pipe_columns::{AnyValue, Place};
+use pipe_columns::Place;
 use pipe_inputs::ChunkRows;
 use pipe_spill::Values;
 use std::alloc::AllocError;
@@ -51,18 +51,12 @@ pub(crate) fn put_place(entries: &mut Vec<Entry>, held: &mut usize, index: usize
 }
 
 /// Feeds the running aggregates from a position on the inputs of a row.
-fn feed_at(
-    states: &mut Vec<AggregateFunction>,
-    at: usize,
-    n: usize,
-    place: Place,
-    values: Vec<AnyValue>,
-)
+fn feed_at(states: &mut Vec<AggregateFunction>, at: usize, n: usize, place: Place, values: Values)
     requires within { at + n ≤ length states.old.items }
     requires few { StatesSeen (2 ^ 32 - 2) (take n (drop at states.old.items)) }
-    requires taken { TakesFrom 0 (take n (drop at states.old.items)) values.items }
+    requires taken { TakesFrom 0 (take n (drop at states.old.items)) values }
     ensures states { states.new.items ≡ spliced at
-        (fed_from place 0 values.items (take n (drop at states.old.items))) states.old.items }
+        (fed_from place 0 values (take n (drop at states.old.items))) states.old.items }
     ensures capacity { vec_capacity states.new ≡ vec_capacity states.old }
 {
     feed_states(&mut states[at..at + n], place, values);
@@ -79,7 +73,7 @@ impl Groups {
         ensures room { KeepsRoom self.old self.new }
     {
         let n = self.prototypes.len();
-        feed_at(&mut self.states, index * n, n, place, values.into_vec());
+        feed_at(&mut self.states, index * n, n, place, values);
         put_place(&mut self.entries, &mut self.held, index, place);
     }
 

@@ -35,7 +35,7 @@ pub use laws::{what_few_rows_allow, what_groups_hold, which_keys_are_held};
 pub use part_laws::{how_placed_rows_join, what_a_partition_gives};
 pub use placed_groups::PlacedGroups;
 pub use places::Places;
-pub use row_code::encode_row;
+pub use row_code::{encode_row, own_values};
 
 #[cfg(test)]
 mod slice_tests;

@@ -1,6 +1,6 @@
 //! The values of lists in one row.
 
-ghost use Rattle.std.specs.Prelude.{◌≡◌, [], IfOk};
+ghost use Rattle.std.specs.Prelude.{◌≡◌, IfOk};
 ghost use Rattle.pipe_columns.specs.AnyValue.{value_cmp};
 ghost use Rattle.pipe_columns.specs.Frame.{value_at};
 ghost use Rattle.pipe_columns.specs.declared.any_value.AnyValue.TheVariants as av;
@@ -82,23 +82,8 @@ pub(crate) fn own_cells(
     ensures { IfOk result (λ own. own.items ≡ cells lists.now row) }
 {
     let mut own = Vec::with_capacity(alloc, lists.len())?;
-    own_cells_into(alloc, lists, row, &mut own)?;
-    Ok(own)
-}
-
-/// Puts the values in a row, each of its own, into a list.
-#[inline(always)]
-pub(crate) fn own_cells_into(
-    alloc: Global,
-    lists: &[ColumnValues<'_>],
-    row: usize,
-    own: &mut Vec<AnyValue>,
-) -> Result<(), AllocError>
-    requires { own.old.items ≡ [] }
-    ensures { IfOk result (λ _. own.new.items ≡ cells lists.now row) }
-{
     for values in lists {
         own.push(own_cell(alloc, values, row)?)?;
     }
-    Ok(())
+    Ok(own)
 }

@@ -1,11 +1,11 @@
 //! The parts of one row.
 
-ghost use Rattle.std.specs.Prelude.{◌≡◌, ◌<◌, ◌^◌, [], All, IfOk, length};
+ghost use Rattle.std.specs.Prelude.{◌≡◌, ◌<◌, ◌^◌, All, IfOk, length};
 ghost use Rattle.pipe_columns.specs.Frame.{value_at};
 ghost use Rattle.pipe_model.specs.Answer.{tuple_cmp};
 ghost use Rattle.pipe_inputs.specs.ChunkRows.{row_at};
 
-use crate::cells::{cell, compare_cells, own_cells, own_cells_into};
+use crate::cells::{cell, compare_cells, own_cells};
 use crate::chunk_rows::ChunkRows;
 use pipe_columns::{AnyValue, Place};
 use std::alloc::{AllocError, Global};
@@ -71,19 +71,13 @@ impl<'a> ChunkRows<'a> {
         own_cells(alloc, &self.inputs, row)
     }
 
-    /// Puts a row's inputs, of their own, into an empty list.
+    /// An input of a row, of its own: null past the last.
     #[inline(always)]
-    pub fn own_inputs_into(
-        &self,
-        alloc: Global,
-        row: usize,
-        own: &mut Vec<AnyValue>,
-    ) -> Result<(), AllocError>
-        requires there { row < length self.now }
-        requires empty { own.old.items ≡ [] }
-        ensures { IfOk result (λ _. own.new.items ≡ (row_at self.now row).inputs) }
+    pub fn own_input(&self, alloc: Global, row: usize, j: usize) -> Result<AnyValue, AllocError>
+        requires { row < length self.now }
+        ensures { IfOk result (λ v. v ≡ value_at (row_at self.now row).inputs j) }
     {
-        own_cells_into(alloc, &self.inputs, row, own)
+        self.input(row, j).try_clone(alloc)
     }
 
     /// How many inputs each row has.

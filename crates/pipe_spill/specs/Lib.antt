@@ -1,5 +1,6 @@
 pub mod KeyBytes
 pub mod KeyTypes
+pub mod Values
 pub mod SpillRow
 pub mod FrameBytes
 pub mod Reading

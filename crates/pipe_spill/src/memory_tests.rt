@@ -27,7 +27,7 @@ fn memory_for_a_key(rt: HostRuntime) -> Result<(), Fail> {
 #[test]
 fn memory_for_the_values_of_a_key(rt: HostRuntime) -> Result<(), Fail> {
     match decode_key(rt.alloc(), &KEY, &[DataType::String, DataType::Int16]) {
-        Ok(values) => assert!(rt; values.into_vec().len() == 2),
+        Ok(values) => assert!(rt; values.as_slice().len() == 2),
         Err(DecodeError::Memory) => return Err("decode_key wants memory".into()),
         Err(DecodeError::NotAKey) => return Err("not a key".into()),
     }

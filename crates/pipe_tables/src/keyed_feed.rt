@@ -8,6 +8,7 @@ ghost use Rattle.pipe_groups.specs.Groups.{group_of, HasGroups, new_group, with_
 
 use crate::keyed_groups::KeyedGroups;
 use pipe_columns::Place;
+use pipe_groups::own_values;
 use pipe_inputs::ChunkRows;
 use pipe_spill::Values;
 use std::alloc::AllocError;
@@ -64,9 +65,9 @@ impl KeyedGroups {
             (new_group self.old.shape.prototypes key.now) ∷ [])) }
         ensures err { OnErr result (HasGroups self.old self.new self.old.groups) }
     {
-        let values = rows.own_inputs(self.chains.allocator(), row)?;
+        let values = own_values(self.chains.allocator(), rows, row)?;
         let index = self.push(hash, key)?;
-        self.feed(index, rows.place(row), Values::new(values));
+        self.feed(index, rows.place(row), values);
         Ok(())
     }
 }

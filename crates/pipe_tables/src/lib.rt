@@ -23,7 +23,6 @@ mod part_size;
 mod parts;
 mod query_groups;
 mod reserve;
-mod spares;
 mod spill_partitions;
 mod spot;
 mod take;

@@ -16,12 +16,12 @@ ghost use Rattle.pipe_tables.specs.Tables.{TakesOne};
 use crate::hash_table::AggHashTable;
 use crate::insert_end::{InsertEnd, LentEnd};
 use crate::local_end::{LentLocalEnd, LocalEnd};
-use crate::spares::Spares;
 use crate::spill_partitions::SpillPartitions;
 use pipe_aggs::CheckedQuery;
 use pipe_columns::DataType;
+use pipe_groups::own_values;
 use pipe_inputs::ChunkRows;
-use pipe_spill::{KeyBytes, SpillRow, Values};
+use pipe_spill::{KeyBytes, SpillRow};
 use std::alloc::{AllocError, Global};
 use std::marker::Model;
 
@@ -32,7 +32,6 @@ pub struct ThreadLocalTable {
     pub(crate) table: AggHashTable,
     pub(crate) buffers: SpillPartitions,
     pub(crate) overflowed: bool,
-    pub(crate) spares: Spares,
 }
 
 impl Model for ThreadLocalTable {
@@ -72,12 +71,10 @@ impl ThreadLocalTable {
     {
         let table = AggHashTable::new(alloc, query, Some(spill_size))?;
         let buffers = SpillPartitions::new(alloc, partitions, buffer_size)?;
-        let spares = Spares::new(alloc, partitions)?;
         Ok(ThreadLocalTable {
             table,
             buffers,
             overflowed: false,
-            spares,
         })
     }
 
@@ -95,12 +92,10 @@ impl ThreadLocalTable {
     {
         let table = self.table.split()?;
         let buffers = self.buffers.split()?;
-        let spares = self.spares.split()?;
         Ok(ThreadLocalTable {
             table,
             buffers,
             overflowed: false,
-            spares,
         })
     }
 
@@ -167,7 +162,7 @@ impl ThreadLocalTable {
             LentEnd::Memory => LentLocalEnd::Memory,
             LentEnd::Overflow => {
                 let partition = self.buffers.partition(key);
-                match own_row(&mut self.spares, partition, key, rows, row) {
+                match own_row(self.buffers.alloc(), key, rows, row) {
                     Ok(row) => self.overflow(partition, row).lent(),
                     Err(AllocError) => LentLocalEnd::Memory,
                 }
@@ -195,10 +190,10 @@ impl ThreadLocalTable {
     }
 }
 
-/// A row of a chunk as it is spilled, of its own, with memory beside that of others of its partition.
+/// A row of a chunk as it is spilled, of its own.
+#[inline(always)]
 fn own_row(
-    spares: &mut Spares,
-    partition: usize,
+    alloc: Global,
     key: &[u8],
     rows: &ChunkRows<'_>,
     row: usize,
@@ -209,11 +204,11 @@ fn own_row(
     ensures key { IfOk result (λ r. r.key ≡ key.now) }
     ensures values { IfOk result (λ r. r.values ≡ (row_at rows.now row).inputs) }
 {
-    let mut values = spares.take(partition, rows.inputs_len());
-    rows.own_inputs_into(spares.alloc(), row, &mut values)?;
+    let key = KeyBytes::from_slice(alloc, key)?;
+    let values = own_values(alloc, rows, row)?;
     Ok(SpillRow {
         place: rows.place(row),
-        key: KeyBytes::from_slice(spares.alloc(), key)?,
-        values: Values::new(values),
+        key,
+        values,
     })
 }

@@ -8,14 +8,14 @@ use Rattle.pipe_groups.proofs.states.feed_states.Goals as goal
 use Rattle.pipe_groups.proofs.states.feed_states.Goals.{After-take_out-value}
 
 -- the value that is taken out is the input
-value_is : (c : After-take_out-value) → c.take_out-value.result ≡ value_at c.args.values.items c.loop-j.j
-value_is c = c.take_out-value.ensures.value ∙ value-next c.args.values.items c.loop-j.values.items c.loop-j.j c.loop-j.invariant.inputs
+value_is : (c : After-take_out-value) → c.take_out-value.result ≡ value_at c.args.values c.loop-j.j
+value_is c = c.take_out-value.ensures.value ∙ value-next c.args.values c.loop-j.values c.loop-j.j c.loop-j.invariant.inputs
 
 pub pre_agg-requires-clause-taken : goal.pre_agg-requires-clause-taken
 pre_agg-requires-clause-taken c =
     let j = c.loop-j.j in
     let d = c.index-states-j.result in
-    rw (value_is c.before, same-next c.args.states.now c.loop-j.states j c.loop-j.invariant.left d) (takes-at c.args.states.now c.args.values.items j d c.loop-j-test.true c.requires.taken)
+    rw (value_is c.before, same-next c.args.states.now c.loop-j.states j c.loop-j.invariant.left d) (takes-at c.args.states.now c.args.values j d c.loop-j-test.true c.requires.taken)
 
 pub pre_agg-requires-clause-few : goal.pre_agg-requires-clause-few
 pre_agg-requires-clause-few c =
@@ -28,9 +28,9 @@ loop-j-preserved c =
     let j = c.loop-j.j in
     let d = c.index-states-j.result in
     let now = c.loop-j.states in
-    let fed : c.pre_agg.new.self ≡ after_value c.args.place (value_at c.args.values.items j) (get_or now j d) = c.pre_agg.ensures ∙ ap (λ (v : AnyValue). after_value c.args.place v (get_or now j d)) (value_is c.before.before) in
+    let fed : c.pre_agg.new.self ≡ after_value c.args.place (value_at c.args.values j) (get_or now j d) = c.pre_agg.ensures ∙ ap (λ (v : AnyValue). after_value c.args.place v (get_or now j d)) (value_is c.before.before) in
     record {
       left = left-next c.args.states.now now j c.loop-j.invariant.left c.pre_agg.new.self;
-      inputs = c.take_out-value.ensures.rest ∙ drop-next c.args.values.items c.loop-j.values.items j c.loop-j.invariant.inputs;
-      fed = fed-next c.args.place c.args.values.items now j d c.pre_agg.new.self _ (omega arith) c.loop-j.invariant.fed fed;
+      inputs = c.take_out-value.ensures.rest ∙ drop-next c.args.values c.loop-j.values j c.loop-j.invariant.inputs;
+      fed = fed-next c.args.place c.args.values now j d c.pre_agg.new.self _ (omega arith) c.loop-j.invariant.fed fed;
     }

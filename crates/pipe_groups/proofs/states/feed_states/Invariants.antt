@@ -6,6 +6,6 @@ use Rattle.pipe_groups.proofs.states.feed_states.Given as goal
 abbrev pub invariant-loop-j : goal.invariant-loop-j
 invariant-loop-j l = record {
   left : drop l.j l.states ≡ drop l.j l.fn.states;
-  inputs : drop l.j l.values.items ≡ drop l.j l.fn.values.items;
-  fed : take l.j l.states ++ fed_from l.place l.j l.fn.values.items (drop l.j l.states) ≡ fed_from l.place 0 l.fn.values.items l.fn.states;
+  inputs : drop l.j l.values ≡ drop l.j l.fn.values;
+  fed : take l.j l.states ++ fed_from l.place l.j l.fn.values (drop l.j l.states) ≡ fed_from l.place 0 l.fn.values l.fn.states;
 }

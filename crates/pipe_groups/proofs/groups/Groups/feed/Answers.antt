@@ -32,7 +32,7 @@ feed_at-requires-clause-few c =
 pub feed_at-requires-clause-taken : goal.feed_at-requires-clause-taken
 feed_at-requires-clause-taken c =
     let own = states-are c.self.inside c.args.self.now c.self.view_is c.self.invariant c.args.index c.requires.within c.len-n.result (c.len-n.ensures ∙ c.self.inside.prototypes.ok.0) in
-    takes-same _ _ _ _ own c.into_vec.ensures c.requires.taken
+    takes-same _ _ _ _ own refl c.requires.taken
 
 pub put_place-requires-clause-within : goal.put_place-requires-clause-within
 put_place-requires-clause-within c = index-within c.self.inside c.args.self.now c.self.view_is c.self.invariant c.args.index c.requires.within
@@ -47,8 +47,8 @@ invariant_of-self c =
     let count : n ≡ length a.prototypes.items = c.len-n.ensures ∙ a.prototypes.ok.0 in
     let i = c.args.index in
     let ss : List AggregateFunction = take n (drop (i * n) a.states.items) in
-    put-laid a c.args.self.now c.self.view_is c.self.invariant i c.requires.within n count _ (Some (nearer place_cmp c.args.place (get_or a.entries.items i no_entry).first)) (fed_from c.args.place 0 c.into_vec.result.items ss)
-    refl c.put_place.ensures.entries c.feed_at.ensures.states (length-fed c.args.place 0 c.into_vec.result.items ss ∙ states-size a c.args.self.now c.self.view_is c.self.invariant i c.requires.within n count) refl
+    put-laid a c.args.self.now c.self.view_is c.self.invariant i c.requires.within n count _ (Some (nearer place_cmp c.args.place (get_or a.entries.items i no_entry).first)) (fed_from c.args.place 0 c.args.values ss)
+    refl c.put_place.ensures.entries c.feed_at.ensures.states (length-fed c.args.place 0 c.args.values ss ∙ states-size a c.args.self.now c.self.view_is c.self.invariant i c.requires.within n count) refl
     (counted-once (is_some (get_or a.entries.items i no_entry).first) a.held c.put_place.new.held c.put_place.ensures.held) (λ e. absurd (cc))
 
 pub returns-clause-groups : goal.returns-clause-groups
@@ -59,9 +59,9 @@ returns-clause-groups c =
     let i = c.args.index in
     let ss : List AggregateFunction = take n (drop (i * n) a.states.items) in
     let b : Inside = record a { entries = c.put_place.new.entries; states = c.feed_at.new.states; held = c.put_place.new.held } in (
-      put-groups a c.args.self.now c.self.view_is c.self.invariant i c.requires.within n count b (Some (nearer place_cmp c.args.place (get_or a.entries.items i no_entry).first)) (fed_from c.args.place 0 c.into_vec.result.items ss)
-          refl c.put_place.ensures.entries c.feed_at.ensures.states (length-fed c.args.place 0 c.into_vec.result.items ss ∙ states-size a c.args.self.now c.self.view_is c.self.invariant i c.requires.within n count) refl
-          ∙ rw (c.into_vec.ensures, states-are a c.args.self.now c.self.view_is c.self.invariant i c.requires.within n count, first-is a c.args.self.now c.self.view_is c.self.invariant i c.requires.within n count) refl,
+      put-groups a c.args.self.now c.self.view_is c.self.invariant i c.requires.within n count b (Some (nearer place_cmp c.args.place (get_or a.entries.items i no_entry).first)) (fed_from c.args.place 0 c.args.values ss)
+          refl c.put_place.ensures.entries c.feed_at.ensures.states (length-fed c.args.place 0 c.args.values ss ∙ states-size a c.args.self.now c.self.view_is c.self.invariant i c.requires.within n count) refl
+          ∙ rw (states-are a c.args.self.now c.self.view_is c.self.invariant i c.requires.within n count, first-is a c.args.self.now c.self.view_is c.self.invariant i c.requires.within n count) refl,
       ap (λ (s : Seen). s.shape) c.self.view_is,
     )
 
@@ -73,6 +73,6 @@ returns-clause-room c =
     let i = c.args.index in
     let ss : List AggregateFunction = take n (drop (i * n) a.states.items) in
     let b : Inside = record a { entries = c.put_place.new.entries; states = c.feed_at.new.states; held = c.put_place.new.held } in
-    put-room a c.args.self.now c.self.view_is c.self.invariant i c.requires.within n count b (Some (nearer place_cmp c.args.place (get_or a.entries.items i no_entry).first)) (fed_from c.args.place 0 c.into_vec.result.items ss)
-    refl c.put_place.ensures.entries c.feed_at.ensures.states (length-fed c.args.place 0 c.into_vec.result.items ss ∙ states-size a c.args.self.now c.self.view_is c.self.invariant i c.requires.within n count) refl
+    put-room a c.args.self.now c.self.view_is c.self.invariant i c.requires.within n count b (Some (nearer place_cmp c.args.place (get_or a.entries.items i no_entry).first)) (fed_from c.args.place 0 c.args.values ss)
+    refl c.put_place.ensures.entries c.feed_at.ensures.states (length-fed c.args.place 0 c.args.values ss ∙ states-size a c.args.self.now c.self.view_is c.self.invariant i c.requires.within n count) refl
     c.put_place.ensures.capacity c.feed_at.ensures.capacity

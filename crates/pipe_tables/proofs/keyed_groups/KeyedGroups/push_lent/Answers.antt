@@ -12,8 +12,8 @@ feed-requires-clause-few c = last-few _ _ _ _ c.in_ok-index.index c.in_ok-index.
 pub returns-clause-ok : goal.returns-clause-ok
 returns-clause-ok c =
     let g = new_group c.args.self.now.shape.prototypes c.args.key.now in (
-      last-fed _ _ _ _ c.in_ok-index.index c.in_ok-index.ensures.ok.0 c.in_ok-index.ensures.index c.place.result c.new.result _ c.feed.ensures.groups.0
-          ∙ ap (λ (p : Place). c.args.self.now.groups ++ with_row p c.new.result g ∷ []) c.place.ensures
-          ∙ ap (λ (vs : List AnyValue). c.args.self.now.groups ++ with_row (row_at c.args.rows.now c.args.row).place vs g ∷ []) (c.new.ensures ∙ c.in_ok-values.ensures),
+      last-fed _ _ _ _ c.in_ok-index.index c.in_ok-index.ensures.ok.0 c.in_ok-index.ensures.index c.place.result c.in_ok-values.values _ c.feed.ensures.groups.0
+          ∙ ap (λ (p : Place). c.args.self.now.groups ++ with_row p c.in_ok-values.values g ∷ []) c.place.ensures
+          ∙ ap (λ (vs : List AnyValue). c.args.self.now.groups ++ with_row (row_at c.args.rows.now c.args.row).place vs g ∷ []) c.in_ok-values.ensures,
       c.feed.ensures.groups.1 ∙ c.in_ok-index.ensures.ok.1,
     )
