@@ -12,9 +12,9 @@ use crate::typed_job::TypedJob;
 use pipe_aggs::CheckedQuery;
 use pipe_columns::DataChunk;
 use pipe_sinks::PausedSink;
+use pipe_threads::for_each_beside;
 use std::alloc::{AllocError, Global};
 use std::snapshot::Snapshot;
-use std::thread;
 use std::thread::Threads;
 
 /// The sinks, each with its query again.
@@ -52,7 +52,7 @@ fn work_all<'a, H: Threads + Sync>(
         (slice_index_or jobs.entry.items k d).sink }
 {
     let workers = jobs.len();
-    thread::for_each_mut(
+    for_each_beside(
         rt,
         jobs.as_mut_slice(),
         workers,

@@ -1,8 +1,8 @@
 //! Chunks that a run has fed.
 
 use pipe_columns::{DataChunk, DataFrame};
+use pipe_threads::for_each_beside;
 use std::alloc::Global;
-use std::thread;
 use std::thread::Threads;
 
 /// Drops the frame of a chunk.
@@ -19,7 +19,7 @@ pub fn drop_chunks<H: Threads + Sync>(
     mut chunks: Vec<DataChunk>,
 ) {
     if workers > 1 {
-        thread::for_each_mut(
+        for_each_beside(
             rt,
             chunks.as_mut_slice(),
             workers,

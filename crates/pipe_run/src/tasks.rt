@@ -8,8 +8,8 @@ use pipe_global::{BatchError, ClosedPartition};
 use pipe_groups::PlacedGroups;
 use pipe_spill::SpillStore;
 use pipe_tables::AggHashTable;
+use pipe_threads::for_each_beside;
 use std::alloc::Global;
-use std::thread;
 use std::thread::Threads;
 
 /// A closed partition, the local groups of its keys, and what it gave. Before it is finished that is a want
@@ -87,7 +87,7 @@ pub(crate) fn finish_each<S: SpillStore + Drop + Send, H: Threads + Sync>(
         → WasFinished (slice_index_or tasks.old p d).partition (slice_index_or tasks.old p d).local
         (slice_index_or tasks.new p d).partition (slice_index_or tasks.new p d).given }
 {
-    thread::for_each_mut(rt, tasks, threads, &|_, task| { finish_one(alloc, task) });
+    for_each_beside(rt, tasks, threads, &|_, task| { finish_one(alloc, task) });
 }
 
 /// What all partitions gave, or why the first that refused gave nothing; and the partitions, in order. There is room

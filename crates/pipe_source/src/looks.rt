@@ -19,9 +19,6 @@ use std::thread::Threads;
 /// A text of fewer bytes isn't worth threads.
 pub(crate) const FEWEST_BYTES: usize = 1 << 20;
 
-/// In how many pieces for each thread a large text is cut: where a thread comes late, others take its.
-const PIECES_A_THREAD: usize = 4;
-
 /// Looks over the text of a file.
 pub(crate) trait Looks {
     /// What it rests on.
@@ -95,8 +92,7 @@ impl<H: Threads + Sync> Looks for SideBySide<'_, H> {
         let is_large = self.threads > 1 && text.len() >= self.fewest;
         let front = &text[..text.len().min(FEWEST_BYTES)];
         if is_large && wanted.is_none() && !has_quote(front) {
-            let pieces = self.threads.saturating_mul(PIECES_A_THREAD);
-            let sizes = PieceSizes::new(text.len(), pieces, size);
+            let sizes = PieceSizes::new(text.len(), self.threads, size);
             let found = look_over_pieces(self.rt, alloc, text, fields, file, size, sizes);
             if let Ok(found) = found {
                 return Ok(found);

@@ -18,15 +18,9 @@ use crate::source_place::SourcePlace;
 use pipe_columns::DataChunk;
 use pipe_csv::CsvError;
 use pipe_io::InputFiles;
+use pipe_threads::for_each_beside;
 use std::alloc::{AllocError, Global};
-use std::thread;
 use std::thread::Threads;
-
-/// How many threads read for each that is asked for: a processor that has none left takes one that waits.
-const THREADS_A_PROCESSOR: usize = 4;
-
-/// Where so many threads or more are asked for, no further ones are made.
-const MOST_THREADS: usize = 64;
 
 /// Adds a chunk.
 fn push_chunk(chunks: &mut Vec<DataChunk>, chunk: DataChunk) -> Result<(), AllocError>
@@ -126,7 +120,7 @@ impl Reading {
         ensures each { (n : ℕ) (d : _) → n < length places.old
             → IfOk (slice_index_or places.new n d).made (λ c. c ≡ chunk_at self.now text.now n) }
     {
-        thread::for_each_mut(
+        for_each_beside(
             rt,
             places,
             threads,
@@ -134,8 +128,8 @@ impl Reading {
         );
     }
 
-    /// The first chunks of the rows that are left of a text, read side by side on so many processors, in
-    /// the memory of spent ones.
+    /// The first chunks of the rows that are left of a text, read side by side in so many threads at most,
+    /// in the memory of spent ones.
     pub(crate) fn chunks_of<H: Threads + Sync>(
         &self,
         rt: &H,
@@ -152,8 +146,6 @@ impl Reading {
         ensures { IfOk result (λ v. v.items ≡ chunks_at self.now text.now count) }
     {
         let mut places = places_for(alloc, count, spent)?;
-        let several = threads.saturating_mul(THREADS_A_PROCESSOR);
-        let threads = threads.max(several.min(MOST_THREADS));
         self.read_each(rt, alloc, text, threads, places.as_mut_slice());
         let mut chunks = Vec::new(alloc);
         push_made(&mut chunks, places)?;

@@ -10,8 +10,8 @@ use crate::round::Round;
 use crate::stop::WorkerStop;
 use pipe_global::{Gate, Naming};
 use pipe_spill::SpillStore;
+use pipe_threads::for_each_beside;
 use std::sync::Wait;
-use std::thread;
 use std::thread::Threads;
 
 impl<'a, S: SpillStore + Drop, R: Naming, G: Gate> GenericGroupby2<'a, S, R, G> {
@@ -106,7 +106,7 @@ pub fn work_round<
         → HasEnded R.run k (slice_index_or result.items k d) }
 {
     let threads = jobs.len();
-    thread::for_each_mut(
+    for_each_beside(
         rt,
         jobs.as_mut_slice(),
         threads,
