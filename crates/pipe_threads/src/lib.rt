@@ -4,3 +4,6 @@
 mod beside;
 
 pub use beside::for_each_beside;
+
+#[cfg(test)]
+mod tests;
