@@ -11,8 +11,8 @@ use crate::row_check::check_rows;
 use pipe_columns::Field;
 use pipe_csv::CsvError;
 use pipe_scan::{has_quote, piece_end};
+use pipe_threads::for_each_beside;
 use std::alloc::{AllocError, Global};
-use std::thread;
 use std::thread::Threads;
 
 /// Where a piece of a text begins, how many rows it has, and the place of every so many of them,
@@ -75,6 +75,67 @@ fn check_piece(
     }
 }
 
+/// Places for so many pieces, in each of which a want of memory stands until its piece is looked over.
+fn piece_places(alloc: Global, count: usize) -> Result<Vec<Result<PieceRows, CsvError>>, AllocError>
+    ensures { IfOk result (λ v. length v.items ≡ count) }
+{
+    let mut places = Vec::with_capacity(alloc, count)?;
+    for _place in 0..count {
+        places.push_reserved(Err(CsvError::Memory));
+    }
+    Ok(places)
+}
+
+/// Looks over a piece of a text, by its number, into its place.
+fn check_into(
+    alloc: Global,
+    text: &[u8],
+    bounds: &[usize],
+    n: usize,
+    fields: &[Field],
+    file: usize,
+    grain: usize,
+    place: &mut Result<PieceRows, CsvError>,
+)
+    requires small { length text.now ≤ MOST_FILE_BYTES }
+    requires number { n + 1 < length bounds.now }
+    requires part { IsPart text.now (get_or bounds.now n 0) (get_or bounds.now (n + 1) 0) }
+    requires grain { 0 < grain }
+    ensures { IfOk place.new
+        (λ piece. IsPieceAt fields.now text.now bounds.now grain n piece) }
+{
+    *place = check_piece(alloc, text, bounds, n, fields, file, grain);
+}
+
+/// Looks over the pieces of a text into their places, each in a thread of its own.
+fn check_places<H: Threads + Sync>(
+    rt: &H,
+    alloc: Global,
+    text: &[u8],
+    bounds: &[usize],
+    fields: &[Field],
+    file: usize,
+    grain: usize,
+    places: &mut [Result<PieceRows, CsvError>],
+)
+    requires small { length text.now ≤ MOST_FILE_BYTES }
+    requires many { length places.old + 1 ≡ length bounds.now }
+    requires parts { AreParts text.now bounds.now }
+    requires grain { 0 < grain }
+    ensures many { length places.new ≡ length places.old }
+    ensures each { (n : ℕ) (d : Result PieceRows CsvError)
+        → n < length places.old → IfOk (get_or places.new n d)
+        (λ piece. IsPieceAt fields.now text.now bounds.now grain n piece) }
+{
+    let threads = places.len();
+    for_each_beside(
+        rt,
+        places,
+        threads,
+        &|n, place| { check_into(alloc, text, bounds, n, fields, file, grain, place) },
+    );
+}
+
 /// Looks over the pieces of a text, each in a thread of its own.
 pub(crate) fn check_each<H: Threads + Sync>(
     rt: &H,
@@ -94,11 +155,16 @@ pub(crate) fn check_each<H: Threads + Sync>(
         → n < length pieces.items → IfOk (get_or pieces.items n d)
         (λ piece. IsPieceAt fields.now text.now bounds.now grain n piece)) }
 {
-    let count = bounds.len() - 1;
-    thread::map_indices(
+    let mut places = piece_places(alloc, bounds.len() - 1)?;
+    check_places(
         rt,
         alloc,
-        count,
-        &|n| { check_piece(alloc, text, bounds, n, fields, file, grain) },
-    )
+        text,
+        bounds,
+        fields,
+        file,
+        grain,
+        places.as_mut_slice(),
+    );
+    Ok(places)
 }
