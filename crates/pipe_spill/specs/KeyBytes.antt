@@ -1,4 +1,4 @@
--- The bytes of a key, which stand in its row where they are few.
+-- Of the proofs alone: the bytes of a key, which stand in its row where they are few.
 use Rattle.std.specs.Prelude.{◌≤◌, ℕ, List, take, ⊤}
 use Rattle.pipe_spill.specs.declared.key_bytes.Bytes.{Bytes}
 use Rattle.pipe_spill.specs.declared.key_bytes.Bytes.TheVariants as kept

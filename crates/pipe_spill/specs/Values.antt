@@ -1,4 +1,4 @@
--- A list of values, which stand in the list itself where they are few.
+-- Of the proofs alone: a list of values, which stand in the list itself where they are few.
 use Rattle.std.specs.Prelude.{◌≤◌, List, take, ⊤}
 use Rattle.pipe_columns.specs.declared.any_value.AnyValue.{AnyValue}
 use Rattle.pipe_spill.specs.declared.values.Kept.{Kept}
