@@ -1,11 +1,15 @@
 -- The texts of a row that are copied, one by one.
 use Rattle.std.proofs.Common.{◌≡◌, ◌∙◌, ℕ, zero, suc, ◌+◌, ◌-◌, ◌<◌, Bool, true, false, if◌then◌else◌, List, [], ◌∷◌, ◌++◌, length, length-append, take, drop, get_or, set, refl, ap, arith, subst}
+use Rattle.std.specs.List.{list_any}
 use Rattle.std.proofs.lemmas.List.{append-nil, drop-set-lt, drop_more, take_at}
+use Rattle.std.proofs.lemmas.List.Folds.{list_any_at}
 use Rattle.pipe_columns.specs.declared.any_value.AnyValue.{AnyValue}
 use Rattle.pipe_columns.specs.declared.place.Place.{Place}
 use Rattle.pipe_columns.specs.Frame.{value_at}
 use Rattle.pipe_running.specs.declared.function.AggregateFunction.{AggregateFunction}
+use Rattle.pipe_running.specs.declared.function.AggregateFunction.TheVariants as function
 use Rattle.pipe_running.specs.Lent.{keeps_text}
+use Rattle.pipe_groups.specs.GroupRuns.{keeps_value}
 use Rattle.pipe_groups.specs.Texts.{kept_texts}
 
 abbrev States : Type 0
@@ -70,3 +74,18 @@ pub none-kept : (p : Place) (inputs : List AnyValue) (ss : States) (j : ℕ) (d 
 none-kept p inputs ss j d none lt =
     let here : 0 + j ≡ j = omega arith in
     subst (λ (k : ℕ). keeps_text p (value_at inputs k) (get_or ss j d) ≡ false) here (texts-none p 0 inputs ss j d none lt)
+
+-- ---- where none is a first or a last
+
+-- one that keeps no value keeps no text
+pub keeps-none : (p : Place) (v : AnyValue) (s : AggregateFunction) → keeps_value s ≡ false → keeps_text p v s ≡ false
+keeps-none p v (function.First a) e = cc
+keeps-none p v (function.Last a) e = cc
+keeps-none p v s e = refl
+
+-- nor does any of those of which none does
+pub plain-at : (ss : States) (j : ℕ) (d : AggregateFunction) → j < length ss → list_any keeps_value ss ≡ false → keeps_value (get_or ss j d) ≡ false
+plain-at ss j d lt none = by (keeps_value (get_or ss j d)) refl where
+  by : (b : Bool) → keeps_value (get_or ss j d) ≡ b → keeps_value (get_or ss j d) ≡ false
+  by false e = e
+  by true e = let some : list_any keeps_value ss ≡ true = list_any_at keeps_value ss j d lt e in cc

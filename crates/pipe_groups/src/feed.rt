@@ -17,22 +17,9 @@ use pipe_columns::Place;
 use pipe_inputs::ChunkRows;
 use pipe_spill::Values;
 use std::alloc::AllocError;
-use std::cmp::Ordering;
-
-/// The lesser of a place and the one so far, if any.
-fn least_of(place: Place, first: Option<Place>) -> Place
-    ensures { result ≡ nearer place_cmp place first }
-{
-    match first {
-        None => place,
-        Some(held) => match place.cmp(&held) {
-            Ordering::Less => place,
-            _ => held,
-        },
-    }
-}
 
 /// Puts a place to an entry, and counts it if that is its first.
+#[inline(always)]
 pub(crate) fn put_place(entries: &mut Vec<Entry>, held: &mut usize, index: usize, place: Place)
     requires within { index < length entries.old.items }
     requires few { held.old ≤ length entries.old.items }
@@ -44,10 +31,17 @@ pub(crate) fn put_place(entries: &mut Vec<Entry>, held: &mut usize, index: usize
     ensures capacity { vec_capacity entries.new ≡ vec_capacity entries.old }
 {
     let entry = &mut entries[index];
-    if entry.first.is_none() {
-        *held += 1;
+    match entry.first {
+        None => {
+            *held += 1;
+            entry.first = Some(place);
+        }
+        Some(first) => {
+            if place < first {
+                entry.first = Some(place);
+            }
+        }
     }
-    entry.first = Some(least_of(place, entry.first));
 }
 
 /// Feeds the running aggregates from a position on the inputs of a row.
@@ -79,6 +73,7 @@ impl Groups {
 
     /// Feeds a group a row of a chunk, which is lent. A text that a first or a last keeps is copied
     /// before anything changes; nothing else takes memory.
+    #[inline(always)]
     pub fn feed_lent(
         &mut self,
         index: usize,

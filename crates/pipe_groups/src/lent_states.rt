@@ -1,6 +1,7 @@
 //! Rows that are lent to the running aggregates of one group: only a text that is kept is copied.
 
 ghost use Rattle.std.specs.Prelude.{◌≡◌, ◌+◌, ◌-◌, ◌<◌, ◌≤◌, ◌^◌, ◌∷◌, ◌++◌, [], IsOk, OnErr, OnOk, drop, false, if◌then◌else◌, length, slice_index_or, take, true, vec_capacity};
+ghost use Rattle.std.specs.List.{list_any};
 ghost use Rattle.pipe_columns.specs.declared.any_value.AnyValue.{AnyValue};
 ghost use Rattle.pipe_columns.specs.declared.place.Place.{Place};
 ghost use Rattle.pipe_columns.specs.Frame.{value_at};
@@ -8,6 +9,7 @@ ghost use Rattle.pipe_inputs.specs.ChunkRows.{row_at};
 ghost use Rattle.pipe_running.specs.GroupStates.{fed_from, StatesSeen, TakesFrom};
 ghost use Rattle.pipe_running.specs.Lent.{keeps_text};
 ghost use Rattle.pipe_running.specs.States.{after_value, seen, takes};
+ghost use Rattle.pipe_groups.specs.GroupRuns.{keeps_value};
 ghost use Rattle.pipe_groups.specs.Layout.{spliced};
 ghost use Rattle.pipe_groups.specs.Texts.{kept_texts};
 
@@ -19,13 +21,25 @@ use std::alloc::AllocError;
 /// Whether a running aggregate may keep a text: a first or a last alone does.
 #[inline(always)]
 fn may_keep(state: &AggregateFunction) -> bool
-    ensures { result ≡ false
-        → (p : Place) (v : AnyValue) → keeps_text p v state.now ≡ false }
+    ensures { result ≡ keeps_value state.now }
 {
     match state {
         AggregateFunction::First(_) | AggregateFunction::Last(_) => true,
         _ => false,
     }
+}
+
+/// Whether one of running aggregates may keep a text.
+#[inline(always)]
+fn one_may_keep(states: &[AggregateFunction]) -> bool
+    ensures { result ≡ list_any keeps_value states.now }
+{
+    for state in states {
+        if may_keep(state) {
+            return true;
+        }
+    }
+    false
 }
 
 /// Copies the input at a position, if it is a text that is kept.
@@ -123,8 +137,26 @@ fn lend_states(
     }
 }
 
-/// Feeds n running aggregates from a position on the inputs of a row, or changes none.
-pub(crate) fn lend_at(
+/// Feeds each its input of a row, where none of them keeps a text.
+#[inline(always)]
+fn lend_plain(states: &mut [AggregateFunction], rows: &ChunkRows<'_>, row: usize, place: Place)
+    requires there { row < length rows.now }
+    requires plain { list_any keeps_value states.old ≡ false }
+    requires few { StatesSeen (2 ^ 32 - 2) states.old }
+    requires taken { TakesFrom 0 states.old (row_at rows.now row).inputs }
+    ensures { states.new ≡ fed_from place 0 (row_at rows.now row).inputs states.old }
+{
+    for j in 0..states.len() {
+        let value = rows.input(row, j);
+        let state = &mut states[j];
+        state.pre_agg_lent(place, value);
+    }
+}
+
+/// Feeds n running aggregates from a position on the inputs of a row, of which the texts that are kept
+/// are copied first, or changes none.
+#[inline(never)]
+fn lend_copied(
     states: &mut Vec<AggregateFunction>,
     at: usize,
     n: usize,
@@ -147,5 +179,35 @@ pub(crate) fn lend_at(
 {
     copy_texts(copies, &states[at..at + n], rows, row, place)?;
     lend_states(&mut states[at..at + n], copies, rows, row, place);
+    Ok(())
+}
+
+/// Feeds n running aggregates from a position on the inputs of a row, or changes none.
+#[inline(always)]
+pub(crate) fn lend_at(
+    states: &mut Vec<AggregateFunction>,
+    at: usize,
+    n: usize,
+    copies: &mut Vec<AnyValue>,
+    rows: &ChunkRows<'_>,
+    row: usize,
+    place: Place,
+) -> Result<(), AllocError>
+    requires there { row < length rows.now }
+    requires within { at + n ≤ length states.old.items }
+    requires few { StatesSeen (2 ^ 32 - 2) (take n (drop at states.old.items)) }
+    requires taken { TakesFrom 0 (take n (drop at states.old.items))
+        (row_at rows.now row).inputs }
+    ensures ok { OnOk result (states.new.items ≡ spliced at (fed_from place 0
+        (row_at rows.now row).inputs (take n (drop at states.old.items))) states.old.items) }
+    ensures err { OnErr result (states.new.items ≡ states.old.items) }
+    ensures capacity { vec_capacity states.new ≡ vec_capacity states.old }
+    ensures plain { kept_texts place 0 (row_at rows.now row).inputs
+        (take n (drop at states.old.items)) ≡ [] → IsOk result }
+{
+    if one_may_keep(&states[at..at + n]) {
+        return lend_copied(states, at, n, copies, rows, row, place);
+    }
+    lend_plain(&mut states[at..at + n], rows, row, place);
     Ok(())
 }

@@ -12,6 +12,7 @@ use std::alloc::{AllocError, Global};
 
 /// Puts the code of a row's key into a buffer, in the place of what it held. It takes no memory
 /// where the buffer has room.
+#[inline(always)]
 pub fn encode_row(
     buffer: &mut Vec<u8>,
     rows: &ChunkRows<'_>,

@@ -1,7 +1,8 @@
 -- Reading a file on.
-use Rattle.std.proofs.Common.{◌≡◌, ◌∙◌, ◌<◌, ℕ, List, [], ◌++◌, length, Option, Some, None, refl, sym, ap, append_assoc, length-append, arith}
-use Rattle.std.proofs.lemmas.List.{append-nil}
-use Rattle.std.specs.Io.KnownBytes.{Consumes, IsAtEnd}
+use Rattle.std.proofs.Common.{◌≡◌, ◌∙◌, ◌+◌, ◌<◌, ℕ, List, [], ◌++◌, length, take, drop, IfOk, Result, Ok, Err, Option, Some, None, refl, sym, ap, subst, append_assoc, drop_at, length-append, take-add, arith}
+use Rattle.std.proofs.lemmas.List.{append-nil, take-append-le}
+use Rattle.std.specs.Io.{ReadsAtMost}
+use Rattle.std.specs.Io.KnownBytes.{Consumes, IsAtEnd, ReadConsumes}
 use Rattle.pipe_io.specs.Files.{Files, IsLarger, IsRead, IsWhole}
 
 -- the next bytes come after those that were read
@@ -25,3 +26,16 @@ read_whole (Some files) name (Some rest) done h e =
 pub read_larger : (told : Option Files) (name : List ℕ) (b : Option (List ℕ)) (done : List ℕ) (most : ℕ) → IsRead told name b done → most < length done → IsLarger told name most
 read_larger None name b done most h l = tt
 read_larger (Some files) name b done most h l = (done ++ h.0, h.2, rw length-append (omega arith))
+
+-- what was read into a part stands behind what is before it
+pub read_in_place : {E : Type 0} (a b : Option (List ℕ)) (r : Result ℕ E) (front part rest : List ℕ) (at : ℕ) → length front ≡ at → ReadsAtMost r part
+    → ReadConsumes a b r part → IfOk r (λ n. Consumes a b (take n (drop at (front ++ (part ++ rest)))))
+read_in_place a b (Ok n) front part rest at long fits read =
+    subst (Consumes a b) (sym (ap (take n) (drop_at front (part ++ rest) at long) ∙ take-append-le n part rest fits.0)) read.0
+read_in_place a b (Err e) front part rest at long fits read = tt
+
+-- what was read behind the front of a longer list comes after what stood there
+pub read_behind_front : (told : Option Files) (name : List ℕ) (a b : Option (List ℕ)) (xs zs lent ys : List ℕ) (f n : ℕ) → IsRead told name a (take f xs) → take f zs ≡ take f xs → lent ≡ zs → take f ys ≡ take f lent → Consumes a b (take n (drop f ys)) → IsRead told name b (take (f + n) ys)
+read_behind_front told name a b xs zs lent ys f n before grown same front read =
+    let first : take f ys ≡ take f xs = front ∙ ap (take f) same ∙ grown in
+    subst (IsRead told name b) (ap (λ (t : List ℕ). t ++ take n (drop f ys)) (sym first) ∙ sym (take-add f n ys)) (read_more told name a b (take f xs) (take n (drop f ys)) before read)

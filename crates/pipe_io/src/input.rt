@@ -45,6 +45,11 @@ pub trait InputFiles {
         ensures cause { HasCause (faults self.old) (faults self.new)
             (IsErrOf result input_error.Failed) };
 
+    /// About how many bytes the begun file has, and 0 where that isn't known. Nothing is claimed.
+    fn size_hint(&self) -> usize {
+        0
+    }
+
     /// Gives the next bytes of the begun file, and none exactly at its end.
     /// A refused read takes nothing.
     fn read(&mut self, into: &mut [u8]) -> Result<usize, InputError>

@@ -6,6 +6,7 @@ mod input;
 mod memory_files;
 mod memory_output;
 mod output;
+mod piece;
 mod real_files;
 mod real_output;
 mod whole_file;
@@ -16,7 +17,7 @@ pub use memory_output::MemoryOutput;
 pub use output::{Output, OutputError, write_all};
 pub use real_files::RealFiles;
 pub use real_output::RealOutput;
-pub use whole_file::{FileEnd, MOST_FILE_BYTES, read_file};
+pub use whole_file::{FileEnd, MOST_FILE_BYTES, end_of, read_begun, read_file};
 
 #[cfg(test)]
 mod tests;

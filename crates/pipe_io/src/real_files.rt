@@ -4,7 +4,7 @@ ghost use Rattle.std.specs.Prelude.{◌≡◌, false};
 
 use crate::input::{InputError, InputFiles};
 use pipe_columns::Text;
-use std::fs::{self, Files};
+use std::fs::{self, Files, OpenFile};
 use std::io::{ErrorKind, Read};
 use std::marker::Model;
 
@@ -76,6 +76,16 @@ impl<'a, R: Files, S: Read + Drop> InputFiles for RealFiles<'a, R, S> {
                     Err(InputError::Failed)
                 }
             },
+        }
+    }
+
+    fn size_hint(&self) -> usize {
+        match &self.file {
+            Some(file) => match file.metadata() {
+                Ok(facts) => usize::try_from(facts.len()).unwrap_or(0),
+                Err(_) => 0,
+            },
+            None => 0,
         }
     }
 

@@ -6,7 +6,7 @@ use crate::memory_output::MemoryOutput;
 use crate::output::write_all;
 use crate::real_files::RealFiles;
 use crate::real_output::RealOutput;
-use crate::whole_file::read_file;
+use crate::whole_file::{read_begun, read_file};
 use pipe_columns::Text;
 use std::alloc::{AllocError, Global};
 use std::fs;
@@ -72,9 +72,7 @@ fn listed_writes_fail(rt: HostRuntime) -> Result<(), AllocError> {
 #[test]
 fn real_files_are_read(rt: HostRuntime) -> io::Result<()> {
     let alloc = rt.alloc();
-    let large = vec![in alloc; b'x'; 70000]?;
     fs::write(&rt, "small.csv", "k,v\n")?;
-    fs::write(&rt, "large.csv", large.as_slice())?;
     let mut files = RealFiles::new(&rt, &b"typed"[..]);
     for (name, want) in [
         ("small.csv", "k,v\n"),
@@ -84,8 +82,60 @@ fn real_files_are_read(rt: HostRuntime) -> io::Result<()> {
     ] {
         assert_eq!(rt; text_or_end(alloc, &mut files, name)?.as_str(), want);
     }
-    let bytes = text_or_end(alloc, &mut files, "large.csv")?;
-    assert_eq!(rt; bytes.as_bytes(), large.as_slice());
+    for size in [65535, 65536, 65537, 131072, 200000] {
+        let large = vec![in alloc; b'x'; size]?;
+        fs::write(&rt, "large.csv", large.as_slice())?;
+        let bytes = text_or_end(alloc, &mut files, "large.csv")?;
+        assert_eq!(rt; bytes.as_bytes(), large.as_slice());
+    }
+    Ok(())
+}
+
+/// The text of the file `a`, read into room where so many bytes stand, and more fit.
+fn text_in_room(alloc: Global, len: usize, more: usize) -> Result<String, AllocError> {
+    let mut files = two_files(alloc, 9)?;
+    let name = Text::new(alloc, "a")?;
+    let mut room = vec![in alloc; b'z'; len]?;
+    room.reserve(more)?;
+    if files.begin(&name).is_err() {
+        return String::from_str(alloc, "no file");
+    }
+    match read_begun(&mut files, &name, room) {
+        Ok(bytes) => match Text::from_bytes(bytes) {
+            Some(text) => String::from_str(alloc, text.as_str()),
+            None => String::from_str(alloc, "no text"),
+        },
+        Err(end) => format!(in alloc; "{end:?}"),
+    }
+}
+
+#[test]
+fn any_room_does(rt: HostRuntime) -> Result<(), AllocError> {
+    let alloc = rt.alloc();
+    for (len, more) in [
+        (0, 0),
+        (1, 0),
+        (2, 0),
+        (3, 1),
+        (70000, 0),
+        (0, 1),
+        (0, 70000),
+    ] {
+        assert_eq!(rt; text_in_room(alloc, len, more)?.as_str(), "xy");
+    }
+    Ok(())
+}
+
+#[test]
+fn real_files_tell_their_sizes(rt: HostRuntime) -> io::Result<()> {
+    let alloc = rt.alloc();
+    fs::write(&rt, "four.csv", "k,v\n")?;
+    let mut files = RealFiles::new(&rt, &b"typed"[..]);
+    assert_eq!(rt; files.size_hint(), 0);
+    for (name, want) in [("four.csv", 4), ("-", 0), ("absent.csv", 0)] {
+        let _begun = files.begin(&Text::new(alloc, name)?);
+        assert_eq!(rt; files.size_hint(), want);
+    }
     Ok(())
 }
 

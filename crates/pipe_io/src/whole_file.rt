@@ -1,19 +1,17 @@
 //! A file, read whole.
 
-ghost use Rattle.std.specs.Prelude.{◌≡◌, ◌<◌, ◌≤◌, ◌^◌, ◌+◌, List, ℕ, length, IfOk, IsErrOf, Some};
+ghost use Rattle.std.specs.Prelude.{◌≡◌, ◌<◌, ◌≤◌, ◌^◌, ◌+◌, List, ℕ, length, IfOk, IsErrOf, Some, true, []};
 ghost use Rattle.pipe_columns.specs.Causes.{HasCause};
-ghost use Rattle.pipe_io.specs.Files.{HasNone, IsLarger, IsWhole};
+ghost use Rattle.pipe_io.specs.Files.{HasNone, IsLarger, IsRead, IsWhole};
 ghost use Rattle.pipe_io.specs.declared.whole_file.FileEnd.TheVariants as file_end;
 
 use crate::input::{InputError, InputFiles};
+use crate::piece::{make_room, read_behind};
 use pipe_columns::Text;
 use std::alloc::Global;
 
 /// The most bytes that a file may have.
 pub const MOST_FILE_BYTES: usize = 1 << 30;
-
-/// How many bytes are asked for at once.
-const PIECE_BYTES: usize = 1 << 16;
 
 /// Why a file was not read whole.
 #[derive(Debug, Drop, PartialEq, Eq)]
@@ -29,7 +27,7 @@ pub enum FileEnd {
 }
 
 /// The end that an error of the input makes.
-fn end_of(error: InputError) -> FileEnd
+pub fn end_of(error: InputError) -> FileEnd
     ensures missing { result ≡ file_end.Missing → error ≡ InputError.NoFile }
     ensures failed { result ≡ file_end.Failed → error ≡ InputError.Failed }
     ensures large { result ≡ file_end.TooLarge → ⊥ }
@@ -41,8 +39,8 @@ fn end_of(error: InputError) -> FileEnd
     }
 }
 
-/// All the bytes of the file of a name, in pieces of 64 KiB. Of a larger file than is read, no
-/// more than the piece that passes the bound is taken.
+/// All the bytes of the file of a name, in pieces of 64 KiB, each of which is read straight to its
+/// place. Of a larger file than is read, no more than the piece that passes the bound is taken.
 pub fn read_file<I: InputFiles>(
     alloc: Global,
     input: &mut I,
@@ -61,20 +59,43 @@ pub fn read_file<I: InputFiles>(
     if let Err(error) = input.begin(name) {
         return Err(end_of(error));
     }
-    let mut bytes = Vec::new(alloc);
-    let mut piece = [0; PIECE_BYTES];
+    read_begun(input, name, Vec::new(alloc))
+}
+
+/// All the bytes of the begun file, which is that of a name. They take the room that a vector has,
+/// whatever stands in it, and then more, in pieces of 64 KiB.
+pub fn read_begun<I: InputFiles>(
+    input: &mut I,
+    name: &Text,
+    room: Vec<u8>,
+) -> Result<Vec<u8>, FileEnd>
+    requires started { I.begun input.old ≡ true }
+    requires at_start { IsRead (I.told input.old) name.now (I.left input.old) [] }
+    ensures told { I.told input.new ≡ I.told input.old }
+    ensures bytes { IfOk result (λ v. IsWhole (I.told input.old) name.now v.items) }
+    ensures small { IfOk result (λ v. length v.items ≤ MOST_FILE_BYTES) }
+    ensures missing { IsErrOf result file_end.Missing → ⊥ }
+    ensures large { IsErrOf result file_end.TooLarge
+        → IsLarger (I.told input.old) name.now MOST_FILE_BYTES }
+    ensures cause { HasCause (I.faults input.old) (I.faults input.new)
+        (IsErrOf result file_end.Failed) }
+{
+    let mut bytes = room;
+    let mut filled = 0;
     for _turn in 0..MOST_FILE_BYTES + 1 {
-        match input.read(&mut piece) {
-            Ok(0) => return Ok(bytes),
-            Ok(count) => {
-                if bytes.len() + count > MOST_FILE_BYTES {
-                    return Err(FileEnd::TooLarge);
-                }
-                if bytes.extend_from_slice(&piece[..count]).is_err() {
-                    return Err(FileEnd::Memory);
-                }
+        if make_room(&mut bytes, filled).is_err() {
+            return Err(FileEnd::Memory);
+        }
+        match read_behind(input, bytes.as_mut_slice(), filled) {
+            Ok(0) => {
+                bytes.truncate(filled);
+                return Ok(bytes);
             }
+            Ok(count) => filled += count,
             Err(error) => return Err(end_of(error)),
+        }
+        if filled > MOST_FILE_BYTES {
+            return Err(FileEnd::TooLarge);
         }
     }
     Err(FileEnd::TooLarge)

@@ -202,3 +202,8 @@ last_of_eight text low high l h m k =
 pub if_some : (o : Option ℕ) (P Q : ℕ → Type 0) → ((n : ℕ) → P n → Q n) → IfSome o P → IfSome o Q
 if_some None P Q f h = tt
 if_some (Some n) P Q f h = f n h
+
+-- how many bytes stand between two places, as a number that wraps, where it is 1 to 8
+pub used_few : (high low : ℕ) → low < 18446744073709551616 → high < 18446744073709551616 → 8 ≤ high → ((high + (18446744073709551616 - low)) % 18446744073709551616 + 18446744073709551615) % 18446744073709551616 ≤ 7
+    → (low < high) × (high - low ≤ 8) × ((high + (18446744073709551616 - low)) % 18446744073709551616 ≡ high - low)
+used_few high low l h m u = (omega (arith, l, h, m, u), omega (arith, l, h, m, u), omega (arith, l, h, m, u))

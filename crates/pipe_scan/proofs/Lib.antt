@@ -10,8 +10,13 @@ pub mod ScanFacts
 pub mod PieceEnds
 pub mod ModeFacts
 pub mod StopFacts
+pub mod PlainFacts
 pub mod NumberFacts
 pub mod TextStarts
 pub mod PieceLists
 pub mod EightFacts
 pub mod SkipFacts
+pub mod NumberBits
+pub mod NumberRows
+pub mod NumberMarks
+pub mod NumberCount

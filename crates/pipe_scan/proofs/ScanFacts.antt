@@ -26,12 +26,12 @@ from start [] = start
 from start (e ∷ es) = from (e + 1) es
 
 -- one field more
-cut-push : (text : List ℕ) (start : ℕ) (es : List ℕ) (e : ℕ) → cut text start (es ++ (e ∷ [])) ≡ cut text start es ++ (between text (from start es) e ∷ [])
+pub cut-push : (text : List ℕ) (start : ℕ) (es : List ℕ) (e : ℕ) → cut text start (es ++ (e ∷ [])) ≡ cut text start es ++ (between text (from start es) e ∷ [])
 cut-push text start [] e = refl
 cut-push text start (d ∷ es) e = ap (λ (fs : List (List ℕ)). between text start d ∷ fs) (cut-push text (d + 1) es e)
 
 -- the next field begins behind the last end
-from-push : (start : ℕ) (es : List ℕ) (e : ℕ) → from start (es ++ (e ∷ [])) ≡ e + 1
+pub from-push : (start : ℕ) (es : List ℕ) (e : ℕ) → from start (es ++ (e ∷ [])) ≡ e + 1
 from-push start [] e = refl
 from-push start (d ∷ es) e = from-push (d + 1) es e
 

@@ -6,8 +6,11 @@ pub mod Stops
 pub mod Skipped
 pub mod Pieces
 pub mod Numbers
+pub mod Plain
+pub mod PlainField
 pub mod NextRecord
 pub mod NextStop
 pub mod Modes
 pub mod StepOver
 pub mod Eight
+pub mod NumberBlock

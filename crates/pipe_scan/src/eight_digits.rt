@@ -43,8 +43,9 @@ pub(crate) fn digits_between(text: &[u8], low: usize, high: usize) -> Option<u32
     requires { high ≤ length text.now }
     ensures { IfSome result (λ n. read_few_digits (between text.now low high) ≡ Some n) }
 {
-    if high < 8 || high <= low || high - low > 8 {
+    let used = high.wrapping_sub(low);
+    if high < 8 || used.wrapping_sub(1) > 7 {
         return None;
     }
-    number_of_eight(digits_at(text, high - 8, high - low))
+    number_of_eight(digits_at(text, high - 8, used))
 }

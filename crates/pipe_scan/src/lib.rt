@@ -3,8 +3,12 @@
 
 mod eight_digits;
 mod laws;
+mod number_rows;
 mod numbers;
 mod pieces;
+mod plain_field;
+mod plain_row;
+mod plain_rows;
 mod quoted;
 mod row;
 mod scan;
@@ -15,6 +19,7 @@ mod text_head;
 pub use laws::{records_are_lines, records_of_parts, short_numbers_are_numbers};
 pub use numbers::field_number;
 pub use pieces::{piece_end, piece_ends};
+pub use plain_rows::skip_plain_rows;
 pub use quoted::read_record;
 pub use row::{Row, next_row};
 pub use scan::{Scan, scan_next};
@@ -26,3 +31,7 @@ pub use text_head::{has_quote, text_start};
 mod alike_tests;
 #[cfg(test)]
 mod field_tests;
+#[cfg(test)]
+mod number_tests;
+#[cfg(test)]
+mod plain_tests;

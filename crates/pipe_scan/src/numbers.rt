@@ -7,7 +7,7 @@ ghost use Rattle.pipe_scan.specs.Records.{between};
 use crate::eight_digits::digits_between;
 
 /// So many digits fit into 64 bits, whatever they are.
-const MOST_DIGITS: usize = 18;
+pub(crate) const MOST_DIGITS: usize = 18;
 
 /// The number of few digits, one by one.
 fn short_digits(digits: &[u8]) -> Option<u64>

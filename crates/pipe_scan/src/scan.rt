@@ -28,7 +28,7 @@ pub enum Scan {
 
 /// The place of the first byte from `at` on that ends no line.
 #[inline(always)]
-fn skip_ends(text: &[u8], at: usize) -> usize
+pub(crate) fn skip_ends(text: &[u8], at: usize) -> usize
     requires { at ≤ length text.now }
     ensures least { at ≤ result }
     ensures most { result ≤ length text.now }
@@ -58,9 +58,7 @@ pub fn scan_next(text: &[u8], stops: &mut Stops, ends: &mut [usize]) -> Scan
     if start == text.len() {
         return Scan::End;
     }
-    if start != at {
-        *stops = Stops::new(start);
-    }
+    stops.cursor = start;
     let mut count = 0;
     'fields: loop {
         let stop = next_stop(text, stops);

@@ -14,3 +14,5 @@ pub mod Places
 pub mod RoundFacts
 pub mod ChunksFit
 pub mod PieceRows
+pub mod PlainReads
+pub mod CheckedRows

@@ -1,13 +1,12 @@
 -- Reading rows, of which the rest is left.
 use Rattle.std.proofs.Common.{◌≡◌, ◌∙◌, ◌≤◌, ◌<◌, ◌+◌, ◌-◌, ℕ, zero, suc, List, [], ◌∷◌, ◌++◌, length, take, drop, replicate, Vec, Global, vec_len, Result, Ok, Err, refl, ap, arith}
-use Rattle.std.proofs.lemmas.List.{append-nil, length-append, length-drop, length-map, length-replicate, length-take}
+use Rattle.std.proofs.lemmas.List.{append-nil, length-append, length-drop, length-replicate, length-take}
 use Rattle.pipe_columns.specs.declared.any_value.AnyValue.{AnyValue}
 use Rattle.pipe_columns.specs.declared.schema.Field.{Field}
 use Rattle.pipe_csv.specs.declared.csv_error.CsvError.{CsvError}
 use Rattle.pipe_csv.specs.declared.csv_error.CsvError.TheVariants as ce
 use Rattle.pipe_csv.specs.CsvRows.{Misfit, in_front, read_row, read_rows}
 use Rattle.pipe_csv.specs.CsvError.{StopsBy}
-use Rattle.pipe_csv.proofs.ColumnFacts.{items_of}
 use Rattle.pipe_csv.proofs.RowFacts.{front-front, front-none}
 use Rattle.pipe_scan.specs.Records.{Records}
 use Rattle.pipe_source.specs.Rows.{FirstReads, StopsFirst}

@@ -4,6 +4,7 @@ pub mod Worked
 pub mod Rows
 pub mod Starts
 pub mod Kept
+pub mod Known
 pub mod Found
 pub mod Next
 pub mod Source

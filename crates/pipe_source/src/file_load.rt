@@ -1,8 +1,10 @@
 //! Files that are read whole, up to the first that has rows.
 
-ghost use Rattle.std.specs.Prelude.{◌≡◌, ◌≤◌, ◌<◌, ◌^◌, ◌↔◌, IfErr, IfOk, IsErrOf, true};
+ghost use Rattle.std.specs.Prelude.{◌≡◌, ◌≤◌, ◌<◌, ◌^◌, ◌↔◌, IfErr, IfOk, IsErrOf, length, true};
 ghost use Rattle.pipe_columns.specs.Causes.{HasCause};
 ghost use Rattle.pipe_csv.specs.declared.csv_error.CsvError.TheVariants as csv_error;
+ghost use Rattle.pipe_io.specs.Files.{HasNone, IsLarger, IsWhole};
+ghost use Rattle.pipe_io.specs.declared.whole_file.FileEnd.TheVariants as file_end;
 ghost use Rattle.pipe_source.specs.CsvChunks.{is_any_wanted, is_numbered, wanted_after};
 ghost use Rattle.pipe_source.specs.Found.{Finds, StopsFrom};
 ghost use Rattle.pipe_source.specs.Rows.{IsLoaded, StopsTold};
@@ -13,7 +15,7 @@ use crate::read_options::CsvReadOptions;
 use crate::source_place::SourcePlace;
 use pipe_columns::{Field, Text};
 use pipe_csv::CsvError;
-use pipe_io::{FileEnd, InputFiles, read_file};
+use pipe_io::{FileEnd, InputFiles, MOST_FILE_BYTES, end_of, read_begun};
 use std::alloc::Global;
 
 /// How many rows are still wanted after some, where they are limited.
@@ -38,6 +40,32 @@ fn is_numbered(index: &Option<(Text, u32)>, given: u128, count: usize) -> bool
     }
 }
 
+/// Reads the file of a name whole, into room for about as many bytes as it has, and for one more,
+/// by which its end is seen.
+pub(crate) fn read_text<I: InputFiles, L: Looks>(
+    looks: &L,
+    alloc: Global,
+    input: &mut I,
+    name: &Text,
+) -> Result<Vec<u8>, FileEnd>
+    requires { L.ready }
+    ensures told { I.told input.new ≡ I.told input.old }
+    ensures bytes { IfOk result (λ v. IsWhole (I.told input.old) name.now v.items) }
+    ensures small { IfOk result (λ v. length v.items ≤ MOST_FILE_BYTES) }
+    ensures missing { IsErrOf result file_end.Missing → HasNone (I.told input.old) name.now }
+    ensures large { IsErrOf result file_end.TooLarge
+        → IsLarger (I.told input.old) name.now MOST_FILE_BYTES }
+    ensures cause { HasCause (I.faults input.old) (I.faults input.new)
+        (IsErrOf result file_end.Failed) }
+{
+    if let Err(error) = input.begin(name) {
+        return Err(end_of(error));
+    }
+    let bytes = input.size_hint().min(MOST_FILE_BYTES);
+    let room = looks.room(alloc, bytes + 1);
+    read_begun(input, name, room)
+}
+
 /// Reads the file of a name whole, and looks over its wanted rows.
 fn load_file<I: InputFiles, L: Looks>(
     looks: &L,
@@ -59,7 +87,7 @@ fn load_file<I: InputFiles, L: Looks>(
     ensures cause { HasCause (I.faults input.old) (I.faults input.new)
         (IsErrOf result csv_error.Input) }
 {
-    let text = match read_file(alloc, input, name) {
+    let text = match read_text(looks, alloc, input, name) {
         Ok(text) => text,
         Err(FileEnd::Missing) => return Err(CsvError::Missing { file: at.file }),
         Err(FileEnd::Failed) => return Err(CsvError::Input),

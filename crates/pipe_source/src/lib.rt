@@ -8,6 +8,7 @@ mod field_at;
 mod file_load;
 mod file_text;
 mod kept_text;
+mod known_fields;
 mod laws;
 mod look_over;
 mod looks;
@@ -16,6 +17,7 @@ mod piece_rows;
 mod piece_starts;
 mod read_options;
 mod reading;
+mod room;
 mod round;
 mod row_check;
 mod row_push;
@@ -35,6 +37,8 @@ mod bad_text_tests;
 mod memory_tests;
 #[cfg(test)]
 mod piece_tests;
+#[cfg(test)]
+mod room_tests;
 #[cfg(test)]
 mod spent_tests;
 #[cfg(test)]

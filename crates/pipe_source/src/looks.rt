@@ -1,4 +1,4 @@
-//! Ways in which the text of a file is looked over.
+//! Ways in which room is made for the text of a file and the text is looked over.
 
 ghost use Rattle.std.specs.Prelude.{◌≡◌, ◌≤◌, ◌<◌, IfErr, IfOk, List, Ok, length, ⊤};
 ghost use Rattle.std.specs.Thread.{IsSync};
@@ -10,6 +10,7 @@ ghost use Rattle.pipe_source.specs.Rows.{AreRowsAt, AreStarts};
 
 use crate::look_over::look_over;
 use crate::piece_rows::{PieceSizes, look_over_pieces};
+use crate::room::room_beside;
 use pipe_columns::Field;
 use pipe_csv::CsvError;
 use pipe_scan::has_quote;
@@ -19,10 +20,14 @@ use std::thread::Threads;
 /// A text of fewer bytes isn't worth threads.
 pub(crate) const FEWEST_BYTES: usize = 1 << 20;
 
-/// Looks over the text of a file.
+/// Makes room for the text of a file, and looks over it.
 pub(crate) trait Looks {
     /// What it rests on.
     ghost ready: { Type 0 };
+
+    /// Room for a text of about so many bytes, if it is worth making before they come.
+    fn room(&self, alloc: Global, bytes: usize) -> Vec<u8>
+        requires { ready };
 
     /// Where the wanted rows of the text of a file begin, how many there are, and where each chunk
     /// of a size begins, or the first misfit.
@@ -54,6 +59,10 @@ pub(crate) struct Alone;
 impl Looks for Alone {
     ghost ready = { ⊤ };
 
+    fn room(&self, alloc: Global, _bytes: usize) -> Vec<u8> {
+        Vec::new(alloc)
+    }
+
     fn look(
         &self,
         alloc: Global,
@@ -79,6 +88,15 @@ pub(crate) struct SideBySide<'a, H: Threads + Sync> {
 
 impl<H: Threads + Sync> Looks for SideBySide<'_, H> {
     ghost ready = { IsSync H.row };
+
+    fn room(&self, alloc: Global, bytes: usize) -> Vec<u8> {
+        if self.threads > 1 && bytes >= self.fewest {
+            if let Ok(room) = room_beside(self.rt, alloc, bytes, self.threads) {
+                return room;
+            }
+        }
+        Vec::new(alloc)
+    }
 
     fn look(
         &self,

@@ -11,11 +11,12 @@ ghost use Rattle.pipe_scan.specs.Stops.{AreMarked};
 ghost use Rattle.pipe_source.specs.Rows.{AreStarts, ChecksRow, StopsFirst};
 
 use crate::field_at::does_read_at;
+use crate::known_fields::known_numbers;
 use crate::starts::Starts;
 use csv::ByteRecord;
 use pipe_columns::{DataType, Field};
 use pipe_csv::{CsvError, does_read};
-use pipe_scan::{Row, Stops, next_row};
+use pipe_scan::{Row, Stops, next_row, skip_plain_rows};
 use std::alloc::Global;
 
 /// Looks over the fields of a row that lie in the text.
@@ -122,6 +123,14 @@ fn have_texts(fields: &[Field]) -> bool {
     fields.iter().any(|field| field.dtype == DataType::String)
 }
 
+/// Whether the bytes of a text are known to be ASCII: it is looked through where some field is a text and all
+/// its rows are wanted.
+fn is_known_ascii(text: &[u8], fields: &[Field], most: usize) -> bool
+    ensures { IsTrue result → IsAscii text.now }
+{
+    most == usize::MAX && have_texts(fields) && text.is_ascii()
+}
+
 /// Looks over the rows of a text from a place on, so many at most, and tells how many there are,
 /// and where each chunk of a size begins.
 pub(crate) fn check_rows(
@@ -142,13 +151,15 @@ pub(crate) fn check_rows(
     ensures stop { IfErr result
         (λ e. StopsBy e (read_rows file 1 fields.now (take most (records_at text.now at)))) }
 {
-    let is_ascii = most == usize::MAX && have_texts(fields) && text.is_ascii();
+    let is_ascii = is_known_ascii(text, fields, most);
+    let numbers = known_numbers(alloc, fields, is_ascii)?;
     let mut ends = vec![in alloc; 0; fields.len()]?;
     let mut entry = ByteRecord::new(alloc);
     let mut bytes = Vec::new(alloc);
     let mut stops = Stops::new(at);
     let mut starts = Starts::new(alloc, size);
-    for row in 0..most {
+    let mut row = 0;
+    while row < most {
         let start = stops.cursor();
         let found = check_row(
             text,
@@ -166,6 +177,10 @@ pub(crate) fn check_rows(
             Ok(false) => return Ok((row, starts.places)),
             Err(error) => return Err(error),
         }
+        row += 1;
+        let over = skip_plain_rows(text, &mut stops, &numbers, starts.until.min(most - row));
+        starts.pass(over);
+        row += over;
     }
     Ok((most, starts.places))
 }

@@ -1,6 +1,7 @@
 //! Values as the bytes of their codes.
 
 ghost use Rattle.std.specs.Prelude.{◌≡◌, ◌==◌, false, ◌++◌, ◌∷◌, ◌+ℤ◌, ◌^◌, pos, [], IfOk, OnErr, OnOk, length, take, true};
+ghost use Rattle.std.specs.Int.{bytes_high_first};
 ghost use Rattle.std.specs.List.{list_any};
 ghost use Rattle.pipe_columns.specs.AnyValue.{fits, fits_number};
 ghost use Rattle.pipe_columns.specs.Key.{code, number_code, text_code, value_code};
@@ -25,6 +26,18 @@ fn append_marked<const N: usize>(buffer: &mut Vec<u8>, bytes: [u8; N]) -> Result
     appended
 }
 
+/// Appends the mark of a value that isn't null, and the bytes of a number of 64 bits, all at once.
+#[inline(always)]
+fn append_long(buffer: &mut Vec<u8>, number: u64) -> Result<(), AllocError>
+    ensures ok { OnOk result (buffer.new.items
+        ≡ buffer.old.items ++ 1 ∷ bytes_high_first 8 number) }
+    ensures refused { OnErr result (buffer.new.items ≡ buffer.old.items) }
+{
+    let mut code = [1; 9];
+    code[1..].copy_from_slice(&number.to_be_bytes());
+    buffer.extend_from_slice(&code)
+}
+
 /// A number of 128 bits, counted from the least one.
 fn from_the_least(number: i128) -> u128
     ensures { pos result ≡ number +ℤ pos (2 ^ 127) }
@@ -44,12 +57,12 @@ fn append_number(buffer: &mut Vec<u8>, number: i128, dtype: DataType) -> Result<
         DataType::Int32 | DataType::Date => {
             append_marked(buffer, ((number + (1 << 31)) as u32).to_be_bytes())
         }
-        DataType::Int64 => append_marked(buffer, ((number + (1 << 63)) as u64).to_be_bytes()),
+        DataType::Int64 => append_long(buffer, (number + (1 << 63)) as u64),
         DataType::Int128 => append_marked(buffer, from_the_least(number).to_be_bytes()),
         DataType::UInt8 => append_marked(buffer, (number as u8).to_be_bytes()),
         DataType::UInt16 => append_marked(buffer, (number as u16).to_be_bytes()),
         DataType::UInt32 => append_marked(buffer, (number as u32).to_be_bytes()),
-        DataType::UInt64 => append_marked(buffer, (number as u64).to_be_bytes()),
+        DataType::UInt64 => append_long(buffer, number as u64),
         DataType::Boolean | DataType::String => unreachable!(),
     }
 }
@@ -97,12 +110,9 @@ fn append_text(buffer: &mut Vec<u8>, text: &[u8]) -> Result<(), AllocError>
     appended
 }
 
-/// Appends the code of one value. It takes no memory where the buffer has room.
-pub fn append_value(
-    buffer: &mut Vec<u8>,
-    value: &AnyValue,
-    dtype: DataType,
-) -> Result<(), AllocError>
+/// Appends the code of one value of any type.
+#[inline(never)]
+fn append_any(buffer: &mut Vec<u8>, value: &AnyValue, dtype: DataType) -> Result<(), AllocError>
     requires { fits value.now dtype ≡ true }
     ensures value { IsValue dtype value.now }
     ensures ok { OnOk result (buffer.new.items ≡ buffer.old.items ++ value_code dtype value.now) }
@@ -113,6 +123,26 @@ pub fn append_value(
         AnyValue::Boolean(truth) => buffer.extend_from_slice(&[1, *truth as u8]),
         AnyValue::Int(number) => append_number(buffer, *number, dtype),
         AnyValue::Text(text) => append_text(buffer, text.as_bytes()),
+    }
+}
+
+/// Appends the code of one value. It takes no memory where the buffer has room.
+#[inline(always)]
+pub fn append_value(
+    buffer: &mut Vec<u8>,
+    value: &AnyValue,
+    dtype: DataType,
+) -> Result<(), AllocError>
+    requires { fits value.now dtype ≡ true }
+    ensures value { IsValue dtype value.now }
+    ensures ok { OnOk result (buffer.new.items ≡ buffer.old.items ++ value_code dtype value.now) }
+    ensures refused { OnErr result (buffer.new.items ≡ buffer.old.items) }
+{
+    match (value, dtype) {
+        (AnyValue::Int(number), DataType::Int64) => {
+            append_long(buffer, (*number + (1 << 63)) as u64)
+        }
+        _ => append_any(buffer, value, dtype),
     }
 }
 

@@ -19,6 +19,7 @@ const FEWEST: usize = 1 << 13;
 
 /// Reads what the rows from one on need of the groups that hints say are theirs. First all hints are read,
 /// and then all groups, so that the processor waits for several at once. What it answers says nothing.
+#[inline(never)]
 fn look(
     keyed: &KeyedGroups,
     hints: &Hints,
@@ -50,6 +51,7 @@ fn look(
 impl AggHashTable {
     /// Reads what the next rows of a chunk need, from a row on, once for several of them: where the groups
     /// are many, most of an insert is waiting for their memory. Nothing changes.
+    #[inline(always)]
     pub fn look_ahead(&mut self, types: &[DataType], rows: &ChunkRows<'_>, row: usize)
         requires { All (λ r. AreOfTypes types.now r.key) rows.now }
         ensures { self.new ≡ self.old }

@@ -26,6 +26,7 @@ impl KeyedGroups {
     }
 
     /// Takes row `row` of a chunk into a group. Memory is taken for texts that the group keeps alone.
+    #[inline(always)]
     pub(crate) fn feed_lent(
         &mut self,
         index: usize,

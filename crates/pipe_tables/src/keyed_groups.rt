@@ -7,6 +7,7 @@ ghost use Rattle.pipe_groups.specs.Groups.{count_held, cover, Covers, group_of, 
 ghost use Rattle.pipe_groups.specs.Shape.{IsShape, shape_of};
 ghost use Rattle.pipe_tables.specs.Keyed.{IsAt, IsFound};
 
+use crate::same_keys::are_same;
 use pipe_aggs::CheckedQuery;
 use pipe_chains::Chains;
 use pipe_groups::Groups;
@@ -94,13 +95,14 @@ impl KeyedGroups {
     }
 
     /// The index of the group of a key, which has a hash.
+    #[inline(never)]
     pub(crate) fn find(&self, hash: u64, key: &[u8]) -> Option<usize>
         requires { hash ≡ hash_of key.now }
         ensures { IsFound self.now.groups key.now result }
     {
         let mut at = self.chains.last(hash);
         while let Some(index) = at {
-            if self.groups.key(index) == key {
+            if are_same(self.groups.key(index), key) {
                 return Some(index);
             }
             at = self.chains.before(index);

@@ -23,6 +23,7 @@ mod part_size;
 mod parts;
 mod query_groups;
 mod reserve;
+mod same_keys;
 mod spill_partitions;
 mod spot;
 mod take;

@@ -10,6 +10,7 @@ ghost use Rattle.pipe_tables.specs.Tables.{passes};
 
 use crate::hints::Hints;
 use crate::keyed_groups::KeyedGroups;
+use crate::same_keys::are_same;
 use pipe_chains::hash_bytes;
 
 /// What a table has for a new row of a key.
@@ -47,7 +48,7 @@ pub(crate) fn find_near(
 {
     let hint = hints.get(hash);
     if hint < keyed.len() {
-        if keyed.key(hint) == key {
+        if are_same(keyed.key(hint), key) {
             return Some(hint);
         }
     }
@@ -60,6 +61,7 @@ pub(crate) fn find_near(
 }
 
 /// What there is for a new row of a key. It takes no memory but for hints, which may be had or not.
+#[inline(always)]
 pub(crate) fn spot_for(
     keyed: &KeyedGroups,
     hints: &mut Hints,
@@ -70,8 +72,9 @@ pub(crate) fn spot_for(
     ensures { IsSpot limit keyed.now.groups key.now result }
 {
     let hash = hash_bytes(key);
+    let found = find_near(keyed, hints, hash, key);
     let full = passes(keyed.held(), limit);
-    match find_near(keyed, hints, hash, key) {
+    match found {
         Some(index) => {
             if full && !keyed.has_rows(index) {
                 Spot::Full

@@ -126,6 +126,7 @@ impl ThreadLocalTable {
     }
 
     /// Reads what the next rows of a chunk need of the table, from a row on. Nothing changes.
+    #[inline(always)]
     pub fn look_ahead(&mut self, types: &[DataType], rows: &ChunkRows<'_>, row: usize)
         requires { All (λ r. AreOfTypes types.now r.key) rows.now }
         ensures { self.new ≡ self.old }
@@ -160,13 +161,29 @@ impl ThreadLocalTable {
         match self.table.insert_lent(key, rows, row) {
             LentEnd::Done => LentLocalEnd::Done,
             LentEnd::Memory => LentLocalEnd::Memory,
-            LentEnd::Overflow => {
-                let partition = self.buffers.partition(key);
-                match own_row(self.buffers.alloc(), key, rows, row) {
-                    Ok(row) => self.overflow(partition, row).lent(),
-                    Err(AllocError) => LentLocalEnd::Memory,
-                }
-            }
+            LentEnd::Overflow => self.overflow_lent(key, rows, row),
+        }
+    }
+
+    /// Puts row `row` of a chunk, which is owned, into the buffer of its partition.
+    #[inline(always)]
+    fn overflow_lent(&mut self, key: &[u8], rows: &ChunkRows<'_>, row: usize) -> LentLocalEnd
+        requires there { row < length rows.now }
+        requires placed { row < 2 ^ 32 }
+        requires code { key.now
+            ≡ code self.old.table.shape.key_types (row_at rows.now row).key }
+        ensures taken { is_taken_lent result ≡ true → self.new
+            ≡ overflowing (spilled self.old.table.shape.key_types (row_at rows.now row)) self.old }
+        ensures payload { is_taken_lent result ≡ true → left_by_lent result
+            ≡ leaving (spilled self.old.table.shape.key_types (row_at rows.now row))
+            self.old.buffers }
+        ensures memory { result ≡ LentLocalEnd.Memory → self.new ≡ self.old }
+        ensures buffers { AreBuffers self.new.buffers }
+    {
+        let partition = self.buffers.partition(key);
+        match own_row(self.buffers.alloc(), key, rows, row) {
+            Ok(row) => self.overflow(partition, row).lent(),
+            Err(AllocError) => LentLocalEnd::Memory,
         }
     }
 

@@ -1,31 +1,20 @@
-use Rattle.std.proofs.Common.{[], subst, inl, inr, ◌⊎◌, ◌≡◌, ◌∙◌, refl, arith, ◌<◌, length, ℕ, ◌+◌, take}
+use Rattle.std.proofs.Common.{inl, inr, ◌⊎◌, ◌≡◌, ◌∙◌, refl, arith, ◌<◌, length, ℕ, ◌+◌, take}
 use Rattle.std.proofs.lemmas.List.{length-set}
-use Rattle.pipe_scan.proofs.ScanFacts.{Reads, other_than, reads-copies, reads-starts, records_none, scans-end, scans-last, scans-part, scans-wide}
+use Rattle.pipe_scan.proofs.ScanFacts.{other_than, reads-copies, reads-starts, records_none, scans-end, scans-last, scans-part, scans-wide}
 use Rattle.pipe_scan.proofs.StopFacts.{reads-stop}
 use Rattle.pipe_scan.proofs.scan.scan_next.Goals as goal
-use Rattle.pipe_scan.proofs.scan.scan_next.Goals.{then-start-at, else-start-at}
 
 pub returns-then-start-text-clause-scans : goal.returns-then-start-text-clause-scans
 returns-then-start-text-clause-scans c = records_none c.args.text.now c.args.stops.now.cursor (c.skip_ends-start.ensures.skipped ∙ rw c.if-start-text.true refl)
 
 pub fields-init : goal.fields-init
 fields-init c =
-    let l : c.skip_ends-start.result < length c.args.text.now = omega (arith, c.if-start-text.false, c.skip_ends-start.ensures.most) in
-    let r = reads-starts c.args.text.now c.args.stops.now.cursor c.skip_ends-start.result c.skip_ends-start.ensures.skipped l (c.skip_ends-start.ensures.first l) in
-    elim c.if-start-at.branch [
-      | then-start-at w ↦ rw (w.stops-is, w.new.ensures) (record {
-        few = omega arith;
-        marked = record { within = omega (arith, l); few = omega arith; found = refl };
-        low = c.skip_ends-start.ensures.least;
-        reads = r;
-      })
-      | else-start-at w ↦ rw w.stops-is (record {
-        few = omega arith;
-        marked = c.requires;
-        low = omega arith;
-        reads = subst (λ (i : ℕ). Reads c.args.text.now c.args.stops.now.cursor c.skip_ends-start.result [] i) w.if-start-at.false r;
-      })
-    ]
+    let l : c.skip_ends-start.result < length c.args.text.now = omega (arith, c.if-start-text.false, c.skip_ends-start.ensures.most) in record {
+      few = omega arith;
+      marked = record { within = c.skip_ends-start.ensures.most; low = omega (arith, c.skip_ends-start.ensures.least, c.requires.low); stops = c.requires.stops; others = c.requires.others };
+      low = c.skip_ends-start.ensures.least;
+      reads = reads-starts c.args.text.now c.args.stops.now.cursor c.skip_ends-start.result c.skip_ends-start.ensures.skipped l (c.skip_ends-start.ensures.first l);
+    }
 
 pub returns-then-count-ends-clause-scans : goal.returns-then-count-ends-clause-scans
 returns-then-count-ends-clause-scans c = scans-wide c.args.text.now c.args.stops.now.cursor c.skip_ends-start.result c.fields.ends c.fields.count c.fields.stops.cursor c.fields.invariant.reads c.if-count-ends.true

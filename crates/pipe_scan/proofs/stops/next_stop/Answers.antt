@@ -1,10 +1,17 @@
-use Rattle.std.proofs.Common.{◌∙◌, sym, arith}
-use Rattle.pipe_scan.proofs.StopFacts.{no_marks}
+use Rattle.std.proofs.Common.{arith}
+use Rattle.pipe_scan.specs.Stops.{is_stop}
 use Rattle.pipe_scan.proofs.stops.next_stop.Goals as goal
 
-pub loop-stops-preserved : goal.loop-stops-preserved
-loop-stops-preserved c = record {
-  marked = record { within = omega (arith, c.loop-stops.invariant.marked.within, c.if-text-next-lt64.false); few = omega arith; found = c.marks_at-stops.ensures };
-  low = omega (arith, c.loop-stops.invariant.low);
-  before = no_marks c.args.text.now c.args.stops.now.cursor c.loop-stops.stops.cursor c.loop-stops.stops.left c.loop-stops.invariant.marked.within (sym c.loop-stops.invariant.marked.found ∙ c.loop-stops-test.true) c.loop-stops.invariant.before;
-}
+pub overflow_add-stops : goal.overflow_add-stops
+overflow_add-stops c = let s = c.in-Some.ensures.seen is_stop c.requires.stops in omega (arith, s.1)
+
+pub returns-in-Some-clause-stop : goal.returns-in-Some-clause-stop
+returns-in-Some-clause-stop c = (c.in-Some.ensures.seen is_stop c.requires.stops).0
+
+pub returns-in-Some-clause-marked : goal.returns-in-Some-clause-marked
+returns-in-Some-clause-marked c =
+    let s = c.in-Some.ensures.seen is_stop c.requires.stops in
+    record { within = omega (arith, s.1); low = omega (arith, s.0.low, c.requires.low); stops = c.requires.stops; others = c.requires.others }
+
+pub returns-in-Some-clause-cursor : goal.returns-in-Some-clause-cursor
+returns-in-Some-clause-cursor c = let s = c.in-Some.ensures.seen is_stop c.requires.stops in omega (arith, s.1)

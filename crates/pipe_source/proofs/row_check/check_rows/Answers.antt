@@ -1,17 +1,22 @@
-use Rattle.std.proofs.Common.{◌≡◌, ◌∙◌, ◌++◌, ◌-◌, [], ◌∷◌, arith, length, refl, rules, take}
+use Rattle.std.proofs.Common.{◌≡◌, ◌≤◌, ◌∙◌, ◌+◌, ◌-◌, [], arith, length, refl, rules, take, ℕ, List}
+use Rattle.pipe_columns.specs.declared.schema.Field.{Field}
 use Rattle.pipe_scan.specs.Records.{records_at}
 use Rattle.pipe_source.specs.Rows.{IsStart}
-use Rattle.pipe_source.proofs.RowsLeft.{drop-next, first-stops, rows-more, rows-over, rows-start, same-room, take-first, take-none}
+use Rattle.pipe_source.proofs.CheckedRows.{checked-many, checked-one}
+use Rattle.pipe_source.proofs.RowsLeft.{first-stops, rows-over, rows-start, same-room, take-none}
 use Rattle.pipe_source.proofs.row_check.check_rows.Goals as goal
 
 pub loop-row-init : goal.loop-row-init
 loop-row-init c =
     let none : c.args.most - 0 ≡ c.args.most = omega arith in record {
-      done = [];
-      rows = rw (none, c.new-stops.ensures) (rows-start c.args.file c.args.fields.now (take c.args.most (records_at c.args.text.now c.args.at)));
+      checked = record {
+        done = [];
+        rows = rw (none, c.new-stops.ensures) (rows-start c.args.file c.args.fields.now (take c.args.most (records_at c.args.text.now c.args.at)));
+        next = rw c.new-stops.ensures refl;
+      };
+      few = omega arith;
       marked = search rules;
       room = search rules;
-      next = rw c.new-stops.ensures refl;
       size = c.new-starts.ensures.size;
       noted = c.new-starts.ensures.noted c.args.text.now c.args.at;
     }
@@ -19,29 +24,34 @@ loop-row-init c =
 pub returns-in-Err-clause-stop : goal.returns-in-Err-clause-stop
 returns-in-Err-clause-stop c =
     let inv = c.loop-row.invariant in
-    first-stops c.args.file c.args.fields.now _ c.args.most c.loop-row.row inv.done (records_at c.args.text.now c.loop-row.stops.cursor) c.in-Err.error inv.rows c.loop-row-test.true c.in-Err.ensures.stop
+    first-stops c.args.file c.args.fields.now _ c.args.most c.loop-row.row inv.checked.done (records_at c.args.text.now c.loop-row.stops.cursor) c.in-Err.error inv.checked.rows c.loop-row-test.true c.in-Err.ensures.stop
 
 pub loop-row-preserved : goal.loop-row-preserved
 loop-row-preserved c =
     let inv = c.loop-row.invariant in
+    let text : List ℕ = c.args.text.now in
+    let fields : List Field = c.args.fields.now in
+    let row : ℕ = c.loop-row.row in
+    let cursor : ℕ = c.loop-row.stops.cursor in
+    let start : IsStart text c.args.at row c.cursor-start.result = rw c.cursor-start.ensures (record { behind = inv.checked.next; within = omega (arith, inv.marked.within) }) in
     let reads = rw c.in-Ok-true.field-0-test at c.in-Ok-true.ensures.reads in
-    let recs = records_at c.args.text.now c.loop-row.stops.cursor in
-    let more = records_at c.args.text.now c.check_row-found.new.stops.cursor in
-    let first = take-first c.args.most c.loop-row.row recs more reads.1.0 c.loop-row-test.true reads.1.1 in
-    let start : IsStart c.args.text.now c.args.at c.loop-row.row c.cursor-start.result = rw c.cursor-start.ensures (record { behind = inv.next; within = omega (arith, inv.marked.within) }) in record {
-      done = inv.done ++ (reads.0 ∷ []);
-      rows = rows-more c.args.file c.args.fields.now _ c.loop-row.row inv.done _ _ reads.1.0 reads.0 inv.rows first reads.1.2;
-      marked = c.check_row-found.ensures.marked;
-      room = same-room c.loop-row.ends.len (length c.args.fields.now) c.check_row-found.new.ends c.loop-row.ends.items c.check_row-found.ensures.width inv.room (omega (arith, c.loop-row.ends.ok.0));
-      next = drop-next c.loop-row.row (records_at c.args.text.now c.args.at) recs more reads.1.0 inv.next reads.1.1;
-      size = c.note.ensures.size ∙ inv.size;
-      noted = c.in_ok-note-in-Ok-true.ensures.noted c.args.text.now c.args.at c.loop-row.row inv.noted start;
+    let one = checked-one c.args.file fields text c.args.at c.args.most row cursor c.check_row-found.new.stops.cursor inv.checked c.loop-row-test.true reads in
+    let over : ℕ = c.skip_plain_rows-over.result in
+    let few : row + 1 + over ≤ c.args.most = omega (arith, c.skip_plain_rows-over.ensures.few, c.min.ensures, c.loop-row-test.true) in
+    let plain = rw c.deref.ensures.value at c.skip_plain_rows-over.ensures.rows in
+    let noted = c.in_ok-note-in-Ok-true.ensures.noted text c.args.at row inv.noted start in record {
+      checked = checked-many over c.args.file fields text c.args.at c.args.most (row + 1) c.check_row-found.new.stops.cursor c.skip_plain_rows-over.new.stops.cursor c.is_known_ascii-is_ascii.result c.in_ok-numbers.numbers.items one few c.is_known_ascii-is_ascii.ensures c.in_ok-numbers.ensures plain;
+      few = few;
+      marked = c.skip_plain_rows-over.ensures.marked;
+      room = same-room c.loop-row.ends.len (length fields) c.check_row-found.new.ends c.loop-row.ends.items c.check_row-found.ensures.width inv.room (omega (arith, c.loop-row.ends.ok.0));
+      size = c.pass.ensures.size ∙ c.note.ensures.size ∙ inv.size;
+      noted = c.pass.ensures.noted text c.args.at (row + 1) noted;
     }
 
 pub returns-clause-reads : goal.returns-clause-reads
 returns-clause-reads c =
     let inv = c.loop-row.invariant in (
-      inv.done,
-      rows-over c.args.file c.args.fields.now _ c.loop-row.row inv.done _ inv.rows (take-none c.args.most c.loop-row.row (records_at c.args.text.now c.loop-row.stops.cursor) (omega arith)),
-      omega (arith, inv.rows.count),
+      inv.checked.done,
+      rows-over c.args.file c.args.fields.now _ c.loop-row.row inv.checked.done _ inv.checked.rows (take-none c.args.most c.loop-row.row (records_at c.args.text.now c.loop-row.stops.cursor) (omega (arith, c.loop-row-test.false))),
+      omega (arith, inv.checked.rows.count, inv.few, c.loop-row-test.false),
     )

@@ -4,7 +4,6 @@ use Rattle.csv.specs.Records.{fields_of}
 use Rattle.pipe_csv.proofs.RowFacts.{get-reads, get-some}
 use Rattle.pipe_columns.specs.declared.any_value.AnyValue.{AnyValue}
 use Rattle.pipe_csv.specs.Columns.{with_row}
-use Rattle.pipe_csv.proofs.ColumnFacts.{items_of}
 use Rattle.pipe_wanted.specs.Wanted.{chosen, is_wanted}
 use Rattle.pipe_wanted.proofs.WantedFacts.{chosen-nil}
 use Rattle.pipe_wanted.proofs.ChosenFacts.{fewer-chosen, push-kept, push-left}

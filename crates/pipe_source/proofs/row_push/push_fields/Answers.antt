@@ -1,7 +1,6 @@
 use Rattle.std.proofs.Common.{◌∙◌, ◌++◌, ◌+◌, [], ◌∷◌, ap, arith, length, sym, List}
 use Rattle.pipe_columns.specs.declared.any_value.AnyValue.{AnyValue}
 use Rattle.pipe_csv.specs.Columns.{with_row}
-use Rattle.pipe_csv.proofs.ColumnFacts.{items_of}
 use Rattle.pipe_wanted.specs.Wanted.{chosen, is_wanted}
 use Rattle.pipe_wanted.proofs.WantedFacts.{chosen-nil}
 use Rattle.pipe_wanted.proofs.ChosenFacts.{fewer-chosen, push-kept, push-left}

@@ -1,4 +1,4 @@
-use Rattle.std.proofs.Common.{◌≡◌, List, length, drop, map, vec_len}
+use Rattle.std.proofs.Common.{◌≡◌, List, length, drop, vec_len}
 use Rattle.pipe_columns.specs.declared.any_value.AnyValue.{AnyValue}
 use Rattle.pipe_csv.specs.Columns.{with_row}
 use Rattle.pipe_csv.specs.CsvRows.{read_row}

@@ -1,4 +1,4 @@
-use Rattle.std.proofs.Common.{◌≡◌, ◌-◌, List, length, take, map, vec_len}
+use Rattle.std.proofs.Common.{◌≡◌, ◌-◌, List, length, take, vec_len}
 use Rattle.pipe_columns.specs.declared.any_value.AnyValue.{AnyValue}
 use Rattle.pipe_csv.specs.Columns.{values_from}
 use Rattle.pipe_csv.specs.CsvRows.{read_rows}

@@ -11,21 +11,21 @@ loop-at-init c = find-start _ _ _ _ c.self.invariant c.requires _ c.last-at.ensu
 pub key-requires : goal.key-requires
 key-requires c = find-within _ _ _ _ c.self.invariant c.requires _ (rw c.in-Some.is at c.loop-at.invariant)
 
-pub returns-then-eq : goal.returns-then-eq
-returns-then-eq c =
+pub returns-then-are_same : goal.returns-then-are_same
+returns-then-are_same c =
     subst (λ (t : Seen). IsAt t.groups c.args.key.now c.in-Some.index) c.self.view_is (
       find-within _ _ _ _ c.self.invariant c.requires _ (rw c.in-Some.is at c.loop-at.invariant),
-      same-key c.self.inside.groups.groups c.in-Some.index _ _ _ c.key.ensures c.eq.ensures c.if-eq.true,
+      same-key c.self.inside.groups.groups c.in-Some.index _ _ _ c.key.ensures c.are_same.ensures c.if-are_same.true,
     )
 
 pub before-at-requires : goal.before-at-requires
 before-at-requires c = find-mark _ _ _ _ c.self.invariant c.requires _ (rw c.in-Some.is at c.loop-at.invariant)
 
 pub loop-at-smaller : goal.loop-at-smaller
-loop-at-smaller c = rw c.in-Some.is (find-falls _ _ _ _ c.self.invariant c.requires _ _ (rw c.in-Some.is at c.loop-at.invariant) (other-key c.self.inside.groups.groups c.in-Some.index _ _ _ c.key.ensures c.eq.ensures c.if-eq.false) c.before-at.ensures)
+loop-at-smaller c = rw c.in-Some.is (find-falls _ _ _ _ c.self.invariant c.requires _ _ (rw c.in-Some.is at c.loop-at.invariant) (other-key c.self.inside.groups.groups c.in-Some.index _ _ _ c.key.ensures c.are_same.ensures c.if-are_same.false) c.before-at.ensures)
 
 pub loop-at-preserved : goal.loop-at-preserved
-loop-at-preserved c = find-next _ _ _ _ c.self.invariant c.requires _ _ (rw c.in-Some.is at c.loop-at.invariant) (other-key c.self.inside.groups.groups c.in-Some.index _ _ _ c.key.ensures c.eq.ensures c.if-eq.false) c.before-at.ensures
+loop-at-preserved c = find-next _ _ _ _ c.self.invariant c.requires _ _ (rw c.in-Some.is at c.loop-at.invariant) (other-key c.self.inside.groups.groups c.in-Some.index _ _ _ c.key.ensures c.are_same.ensures c.if-are_same.false) c.before-at.ensures
 
 pub returns : goal.returns
 returns c =

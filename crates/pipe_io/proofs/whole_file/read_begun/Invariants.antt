@@ -1,7 +1,7 @@
-use Rattle.std.proofs.Common.{◌≡◌, ◌≤◌, length, true}
+use Rattle.std.proofs.Common.{◌≡◌, ◌≤◌, length, take, true}
 use Rattle.pipe_io.specs.Files.{IsRead}
 use Rattle.pipe_io.specs.declared.whole_file.TheConstants.{MOST_FILE_BYTES}
-use Rattle.pipe_io.proofs.whole_file.read_file.Given as goal
+use Rattle.pipe_io.proofs.whole_file.read_begun.Given as goal
 
 -- the bytes so far were read, and more may be left
 abbrev pub invariant-loop-turn : goal.invariant-loop-turn
@@ -11,7 +11,8 @@ invariant-loop-turn g l =
       told : input.told l.input ≡ input.told l.fn.input;
       started : input.begun l.input ≡ true;
       later : input.faults l.fn.input ≤ input.faults l.input;
-      read : IsRead (input.told l.fn.input) l.fn.name (input.left l.input) l.bytes.items;
-      turns : l._turn ≤ length l.bytes.items;
-      small : length l.bytes.items ≤ MOST_FILE_BYTES;
+      within : l.filled ≤ length l.bytes.items;
+      read : IsRead (input.told l.fn.input) l.fn.name (input.left l.input) (take l.filled l.bytes.items);
+      turns : l._turn ≤ l.filled;
+      small : l.filled ≤ MOST_FILE_BYTES;
     }
