@@ -107,8 +107,8 @@ pub knows-more : (is_ascii n : Bool) (ns : List Bool) (fs : List Field) (i : ℕ
 knows-more is_ascii n ns fs i f h e a k =
     let more : take (i + 1) fs ≡ take i fs ++ (f ∷ []) = take_more fs i f h ∙ ap (λ (x : Field). take i fs ++ (x ∷ [])) (sym e) in
     rw more (knows-push ns (take i fs) a) where
-  knows-push : (ns : List Bool) (fs : List Field) → AreKnown is_ascii ns fs → AreKnown is_ascii (ns ++ (n ∷ [])) (fs ++ (f ∷ []))
-  knows-push [] [] a = (k, tt)
-  knows-push [] (g ∷ fs) a = absurd a
-  knows-push (m ∷ ns) [] a = absurd a
-  knows-push (m ∷ ns) (g ∷ fs) a = (a.0, knows-push ns fs a.1)
+      knows-push : (ns : List Bool) (fs : List Field) → AreKnown is_ascii ns fs → AreKnown is_ascii (ns ++ (n ∷ [])) (fs ++ (f ∷ []))
+      knows-push [] [] a = (k, tt)
+      knows-push [] (g ∷ fs) a = absurd a
+      knows-push (m ∷ ns) [] a = absurd a
+      knows-push (m ∷ ns) (g ∷ fs) a = (a.0, knows-push ns fs a.1)
