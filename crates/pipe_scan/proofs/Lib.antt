@@ -9,6 +9,8 @@ pub mod Lines
 pub mod ScanFacts
 pub mod PieceEnds
 pub mod ModeFacts
+pub mod NumberBits
+pub mod MarkFacts
 pub mod StopFacts
 pub mod PlainFacts
 pub mod NumberFacts
@@ -16,7 +18,6 @@ pub mod TextStarts
 pub mod PieceLists
 pub mod EightFacts
 pub mod SkipFacts
-pub mod NumberBits
 pub mod NumberRows
 pub mod NumberMarks
 pub mod NumberCount

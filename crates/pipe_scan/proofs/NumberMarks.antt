@@ -1,44 +1,22 @@
 -- The bits of 64 bytes where a row of short numbers begins.
-use Rattle.std.proofs.Common.{◌⊎◌, inl, inr, ◌≡◌, ◌∙◌, ◌≤◌, ◌<◌, ◌+◌, ◌-◌, ◌^◌, ◌==◌, ◌||◌, min, max, ℕ, List, length, map, get_or, Bool, true, false, refl, sym, ap, subst, arith}
-use Rattle.std.specs.Prelude.{cond}
+use Rattle.std.proofs.Common.{◌⊎◌, inl, inr, ◌≡◌, ◌∙◌, ◌≤◌, ◌<◌, ◌+◌, ◌-◌, ◌^◌, ◌==◌, ◌||◌, min, max, ℕ, List, length, get_or, Bool, true, false, refl, sym, ap, subst, arith}
 use lib.Bits.{bit_and}
-use lib.Lanes.{chunk}
 use mir.Syntax.{w64}
 use Rattle.std.specs.Int.{bit_at, bit_not}
 use Rattle.std.specs.Int.RustNames.{bit_or}
 use Rattle.std.proofs.lemmas.Bool.{cases_eq, eqb-true}
-use Rattle.std.proofs.lemmas.List.{get_or-map}
 use Rattle.std.proofs.lemmas.Nat.Bits.{bit_at_and, bit_at_not, bit_at_or}
-use Rattle.std.proofs.lemmas.Simd.{bit_mask_l, get_or-chunk, length-chunk}
 use Rattle.pipe_scan.specs.NumberBlock.{AreLegalEnds, AreLines, IsBegin, IsGood, IsLegal, IsNumberBlock, is_end}
 use Rattle.pipe_scan.specs.Stops.{is_no_digit, marks}
+use Rattle.pipe_scan.proofs.MarkFacts.{bit_if, is_set, is_unset, mark-bit}
 use Rattle.pipe_scan.proofs.NumberBits.{both}
 use Rattle.pipe_scan.proofs.NumberRows.{end_cases}
-
--- a bit that a test sets
-abbrev bit_if : Bool → ℕ
-bit_if b = cond b 1 0
-
--- a bit for each byte of a kind
-mark-bit : (kind : ℕ → Bool) (text : List ℕ) (at i : ℕ) → at + 64 ≤ length text → i < 64 → bit_at (marks kind text at 64) i ≡ bit_if (kind (get_or text (at + i) 0))
-mark-bit kind text at i h l =
-    let n : length (chunk at 64 text) ≡ 64 = length-chunk at 64 text h in
-    bit_mask_l (map kind (chunk at 64 text)) i
-    ∙ ap bit_if (get_or-map kind (chunk at 64 text) i 0 false (omega (arith, n, l)) ∙ ap kind (get_or-chunk at 64 text i 0 l))
 
 either_bit : (a b : Bool) → max (bit_if a) (bit_if b) ≡ bit_if (a || b)
 either_bit true true = refl
 either_bit true false = refl
 either_bit false true = refl
 either_bit false false = refl
-
-is_set : (b : Bool) → bit_if b ≡ 1 → b ≡ true
-is_set true h = refl
-is_set false h = absurd (omega (arith, h))
-
-is_unset : (b : Bool) → bit_if b ≡ 0 → b ≡ false
-is_unset true h = absurd (omega (arith, h))
-is_unset false h = refl
 
 not_set : (b : Bool) → 1 - bit_if b ≡ 1 → b ≡ false
 not_set true h = absurd (omega (arith, h))

@@ -12,7 +12,8 @@ use Rattle.pipe_scan.specs.PlainField.{EndsAs, IsField, is_mark}
 use Rattle.pipe_scan.specs.Records.{between, cut}
 use Rattle.pipe_scan.specs.Stops.{is_no_digit}
 use Rattle.pipe_scan.proofs.NumberFacts.{digit_byte, digits-few, digits_read, field-number, is_digit, sign_byte}
-use Rattle.pipe_scan.proofs.ScanFacts.{Ends, Reads, between_first, between_none, cut-push, from, from-push, length-between, length-cut, reads-ends, reads-parts}
+use Rattle.pipe_scan.specs.InRecord.{Reads, from}
+use Rattle.pipe_scan.proofs.ScanFacts.{Ends, between_first, between_none, cut-push, from-push, length-between, length-cut, reads-ends, reads-parts}
 use Rattle.pipe_scan.proofs.StopFacts.{reads-others}
 use Rattle.pipe_scan.proofs.ByteKinds.{IsOther}
 
@@ -131,7 +132,7 @@ goes-more text at start low numbers i end g h f k = record {
 }
 
 -- CR or LF
-turned : (c : ℕ) → EndsAs true c → (c ≡ 13) ⊎ (c ≡ 10)
+pub turned : (c : ℕ) → EndsAs true c → (c ≡ 13) ⊎ (c ≡ 10)
 turned c (inl e) = inr e
 turned c (inr e) = inl e
 

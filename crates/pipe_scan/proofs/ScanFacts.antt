@@ -11,6 +11,7 @@ use Rattle.csv.specs.declared.parser.State.TheVariants as st
 use Rattle.csv.specs.declared.parser.Action.{Action}
 use Rattle.pipe_scan.proofs.Between.{IsBetween, all_from}
 use Rattle.pipe_scan.specs.Records.{Records}
+use Rattle.pipe_scan.specs.InRecord.{IsInside, Reads, from}
 use Rattle.pipe_scan.specs.Lines.{ends_line}
 use Rattle.pipe_scan.specs.Records.{InOrder, between, cut, records_at}
 use Rattle.pipe_scan.specs.NextRecord.{next_at}
@@ -19,11 +20,6 @@ use Rattle.pipe_scan.proofs.NextPlain.{skips, starts}
 use Rattle.pipe_scan.proofs.OnePass.{all-one_pass}
 use Rattle.pipe_scan.proofs.Cuts.{one_pass-alike}
 use Rattle.pipe_scan.proofs.RecordList.{all-none, all-some, ends-none}
-
--- where the field behind those that ended begins
-abbrev pub from : ℕ → List ℕ → ℕ
-from start [] = start
-from start (e ∷ es) = from (e + 1) es
 
 -- one field more
 pub cut-push : (text : List ℕ) (start : ℕ) (es : List ℕ) (e : ℕ) → cut text start (es ++ (e ∷ [])) ≡ cut text start es ++ (between text (from start es) e ∷ [])
@@ -71,25 +67,6 @@ between_first text low high l h =
 -- how many bytes a field has
 pub length-between : (text : List ℕ) (low high : ℕ) → low ≤ high → high ≤ length text → length (between text low high) ≡ high - low
 length-between text low high l h = rw (length-take, length-drop) (omega arith)
-
--- a state within a record, where there was no quote
-abbrev IsInside : State → Type 0
-IsInside st.StartRecord = ⊥
-IsInside st.AfterCr = ⊥
-IsInside st.StartField = ⊤
-IsInside st.InField = ⊤
-IsInside st.InQuoted = ⊥
-IsInside st.AfterQuote = ⊥
-IsInside st.InEscape = ⊥
-IsInside st.InComment = ⊥
-
--- how far a scan is: behind fields that ended, within another
-pub record Reads (text : List ℕ) (at start : ℕ) (ends : List ℕ) (i : ℕ) : Type 0 where
-  pub state : State
-  pub inside : IsInside state
-  pub behind : from start ends ≤ i
-  pub order : InOrder (length text) start ends
-  pub reads : next_at text at ≡ next_record default_config state (cut text start ends) (between text (from start ends) i) (drop i text)
 
 -- a byte of a field
 copies : (s : State) (fs : List (List ℕ)) (p : List ℕ) (c : ℕ) (rest : List ℕ) → IsInside s → IsOther c → next_record default_config s fs p (c ∷ rest) ≡ next_record default_config st.InField fs (p ++ (c ∷ [])) rest

@@ -5,10 +5,12 @@ use lib.Count.{count_trailing_zeros}
 use Rattle.std.specs.List.{prefix_len}
 use Rattle.std.proofs.lemmas.Bool.{cases_lt, leb-false}
 use Rattle.pipe_scan.proofs.ByteKinds.{IsOther}
-use Rattle.pipe_scan.proofs.ScanFacts.{Reads, other_above, reads-copies}
+use Rattle.pipe_scan.proofs.MarkFacts.{marks-from, none-from}
+use Rattle.pipe_scan.specs.InRecord.{Reads}
+use Rattle.pipe_scan.proofs.ScanFacts.{other_above, reads-copies}
 use Rattle.std.proofs.Math.Nat.{div-div-eq-div-mul, pow-suc, zero-div}
 use Rattle.std.proofs.lemmas.List.{drop_all, drop-drop, drop-map, drop-take, length-take}
-use Rattle.std.proofs.lemmas.Simd.{length-chunk, none_from_empty_mask, run_in_chunk_fails, run_in_chunk_stops, trailing_mask_l}
+use Rattle.std.proofs.lemmas.Simd.{length-chunk, run_in_chunk_fails, run_in_chunk_stops, trailing_mask_l}
 use Rattle.pipe_scan.specs.NextStop.{HasNone, IsNext, IsNextStop, IsSeen}
 use Rattle.pipe_scan.specs.Stops.{AreMarked, DoMark, is_no_digit, is_stop, marks}
 
@@ -99,21 +101,6 @@ seen kind text low bits at d l s =
         flip (inl h) = inr h
         flip (inr h) = inl h
 
--- where no bit is set behind some, no byte of the kind lies there
-none_by : (kind : ℕ → Bool) (text : List ℕ) (low bits at : ℕ) (c : ℕ) → low + c ≤ length text → bits ≡ marks kind text low c → low ≤ at → bits / 2 ^ (at - low) ≡ 0 → (at - low ≤ c) ⊎ (c < at - low) → HasNone kind text at (low + c)
-none_by kind text low bits at c w e l z (inl h) = λ k a b.
-    let s : ℕ = at - low in
-    let j : low + s ≡ at = omega (arith, l) in
-    let m : marks kind text at (c - s) ≡ 0 = subst (λ (n : ℕ). marks kind text n (c - s) ≡ 0) j (sym (marks-behind kind text low c s h) ∙ ap (λ (n : ℕ). n / 2 ^ s) (sym e) ∙ z) in
-    none_from_empty_mask kind text at (c - s) 0 (omega (arith, w, h, l)) m k a (omega (arith, b, h, l))
-none_by kind text low bits at c w e l z (inr h) = λ k a b. absurd (omega (arith, a, b, h, l))
-
-pub none-seen : (kind : ℕ → Bool) (text : List ℕ) (low bits at : ℕ) (d : DoMark kind text low bits) → low ≤ at → bits / 2 ^ (at - low) ≡ 0 → HasNone kind text at (low + d.count)
-none-seen kind text low bits at d l z = none_by kind text low bits at d.count d.within d.are l z (cases_of (cases_lt d.count (at - low))) where
-  cases_of : (d.count < at - low) ⊎ (at - low ≤ d.count) → (at - low ≤ d.count) ⊎ (d.count < at - low)
-  cases_of (inl h) = inr h
-  cases_of (inr h) = inl h
-
 -- nothing is marked of no bytes
 pub no_marks : (kind : ℕ → Bool) (text : List ℕ) (at : ℕ) → at ≤ length text → DoMark kind text at 0
 no_marks kind text at h = record { count = 0; within = omega (arith, h); few = omega arith; are = refl }
@@ -135,15 +122,6 @@ pub reads-stop : (text : List ℕ) (at start : ℕ) (ends : List ℕ) (i stop : 
 reads-stop text at start ends i stop r s =
     reads-others text at start ends i stop r s.low s.high (λ k a b. other_above (get_or text k 0) (leb-false (get_or text k 0) 44 (s.before k a b)))
 
--- what is marked from a cursor on
-abbrev pub here-marked : (text : List ℕ) (at : ℕ) → at + 64 ≤ length text → AreMarked text (record { cursor = at; low = at; stops = marks is_stop text at 64; others = marks is_no_digit text at 64 })
-here-marked text at h = record {
-  within = omega (arith, h);
-  low = omega arith;
-  stops = record { count = 64; within = h; few = omega arith; are = refl };
-  others = record { count = 64; within = h; few = omega arith; are = refl };
-}
-
 -- none lies before a place, and none from there up to another
 none_of : (kind : ℕ → Bool) (text : List ℕ) (low at high k : ℕ) → HasNone kind text low at → HasNone kind text at high → low ≤ k → k < high → (k < at) ⊎ (at ≤ k) → kind (get_or text k 0) ≡ false
 none_of kind text low at high k f g a b (inl h) = f k a h
@@ -163,4 +141,16 @@ later-seen kind text low at next l f n = record {
 
 -- where nothing is marked
 pub fresh-marked : (text : List ℕ) (at : ℕ) → at ≤ length text → AreMarked text (record { cursor = at; low = at; stops = 0; others = 0 })
-fresh-marked text at h = record { within = h; low = omega arith; stops = no_marks is_stop text at h; others = no_marks is_no_digit text at h }
+fresh-marked text at h = record { within = h; stops = none-from is_stop text at at (omega arith) h; others = no_marks is_no_digit text at h }
+
+-- where the stops from a cursor on are
+abbrev pub from-marked : (text : List ℕ) (at : ℕ) → at + 64 ≤ length text → AreMarked text (record { cursor = at; low = at; stops = marks is_stop text at 64; others = 0 })
+from-marked text at h = record { within = omega (arith, h); stops = marks-from is_stop text at h; others = no_marks is_no_digit text at (omega (arith, h)) }
+
+-- where a stop stands, it is the next one
+stop_by : (text : List ℕ) (at stop : ℕ) → is_stop (get_or text at 0) ≡ true → IsNextStop text at stop → (at < stop) ⊎ (stop ≤ at) → stop ≡ at
+stop_by text at stop h s (inl l) = let n : true ≡ false = sym h ∙ s.before at (omega arith) l in absurd cc
+stop_by text at stop h s (inr l) = omega (arith, l, s.low)
+
+pub stop-here : (text : List ℕ) (at stop : ℕ) → is_stop (get_or text at 0) ≡ true → IsNextStop text at stop → stop ≡ at
+stop-here text at stop h s = stop_by text at stop h s (cases_lt at stop)

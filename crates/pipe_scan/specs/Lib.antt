@@ -9,6 +9,7 @@ pub mod Numbers
 pub mod Plain
 pub mod PlainField
 pub mod NextRecord
+pub mod InRecord
 pub mod NextStop
 pub mod Modes
 pub mod StepOver

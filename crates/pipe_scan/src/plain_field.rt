@@ -3,45 +3,12 @@
 ghost use Rattle.std.specs.Prelude.{◌+◌, ◌<◌, ◌≡◌, ◌≤◌, IfSome, IsFalse, IsTrue, Some, length};
 ghost use Rattle.pipe_scan.specs.NextStop.{IsSeen};
 ghost use Rattle.pipe_scan.specs.Plain.{IsAsKnown, IsShort};
-ghost use Rattle.pipe_scan.specs.PlainField.{EndsAs, IsField, behind_sign, is_mark};
+ghost use Rattle.pipe_scan.specs.PlainField.{EndsAs, IsField, is_mark};
 ghost use Rattle.pipe_scan.specs.Records.{between};
-ghost use Rattle.pipe_scan.specs.Stops.{AreMarked, is_no_digit, is_stop};
+ghost use Rattle.pipe_scan.specs.Stops.{AreMarked, is_no_digit};
 
 use crate::numbers::MOST_DIGITS;
-use crate::stops::{Stops, TOGETHER, first_seen, marked_at};
-
-/// Marks the bytes from a place on, if there are 64.
-#[inline(always)]
-fn mark_from(text: &[u8], stops: &mut Stops, at: usize) -> bool
-    requires marked { AreMarked text.now stops.old }
-    requires order { stops.old.cursor ≤ at }
-    requires within { at ≤ length text.now }
-    ensures marked { AreMarked text.now stops.new }
-    ensures cursor { IsTrue result → stops.new.cursor ≡ at }
-    ensures as_before { IsFalse result → stops.new ≡ stops.old }
-{
-    if text.len() - at < TOGETHER {
-        return false;
-    }
-    *stops = marked_at(text, at);
-    true
-}
-
-/// The first stop from the cursor on, where it is among the next 64 bytes. None says nothing.
-#[inline(always)]
-fn seen_stop(text: &[u8], stops: &mut Stops) -> Option<usize>
-    requires { AreMarked text.now stops.old }
-    ensures seen { IfSome result (λ place. IsSeen is_stop text.now stops.old.cursor place) }
-    ensures marked { AreMarked text.now stops.new }
-    ensures cursor { stops.new.cursor ≡ stops.old.cursor }
-{
-    let at = stops.cursor;
-    let seen = first_seen(text, stops.stops, stops.low, at);
-    if seen.is_none() && mark_from(text, stops, at) {
-        return first_seen(text, stops.stops, stops.low, at);
-    }
-    seen
-}
+use crate::stops::{Stops, seen_stop};
 
 /// Whether a byte ends the last field of a row, or another one.
 #[inline(always)]
@@ -63,40 +30,39 @@ fn is_mark(byte: u8) -> bool
     byte == b',' || byte == b'"' || byte == b'\r' || byte == b'\n'
 }
 
-/// The end of the field at the cursor, whose digits begin at `first`, if it is a short number and its end is
-/// marked; the cursor then stands behind the byte there. None says nothing.
+/// Whether so many digits, and then no digit, stand from a place on, by the marked bytes.
 #[inline(always)]
-fn digits_end(text: &[u8], stops: &mut Stops, first: usize, is_last: bool) -> Option<usize>
-    requires marked { AreMarked text.now stops.old }
-    requires first { first ≡ behind_sign text.now stops.old.cursor }
-    requires within { stops.old.cursor < length text.now }
-    ensures field { IfSome result (λ end. IsField text.now is_last stops.old.cursor end) }
-    ensures short { IfSome result (λ end. IsShort (between text.now stops.old.cursor end)) }
-    ensures some { IfSome result (λ end. first < end) }
-    ensures cursor { IfSome result (λ end. stops.new.cursor ≡ end + 1) }
-    ensures marked { AreMarked text.now stops.new }
+fn are_digits(text: &[u8], stops: &Stops, first: usize, count: usize) -> bool
+    requires marked { AreMarked text.now stops.now }
+    requires low { stops.now.low ≤ first }
+    requires near { first + count < stops.now.low + 64 }
+    ensures { IsTrue result → IsSeen is_no_digit text.now first (first + count) }
 {
-    let end = seen_stop(text, stops)?;
-    let other = first_seen(text, stops.others, stops.low, first)?;
-    if other != end || end == first || end - first > MOST_DIGITS || !ends_as(text[end], is_last) {
-        return None;
-    }
-    stops.cursor = end + 1;
-    Some(end)
+    let ahead = stops.others >> (first - stops.low);
+    ahead != 0 && ahead.trailing_zeros() as usize == count
 }
 
-/// Where the digits of the field at the cursor begin, if the text goes on there.
+/// The end of the field at the cursor, where it is a short number and its end is marked; the cursor then stands
+/// behind the byte there. None says nothing.
 #[inline(always)]
-fn first_digit(text: &[u8], stops: &Stops) -> Option<usize>
-    requires { stops.now.cursor ≤ length text.now }
-    ensures first { IfSome result (λ first. first ≡ behind_sign text.now stops.now.cursor) }
-    ensures within { IfSome result (λ _. stops.now.cursor < length text.now) }
+fn number_end(text: &[u8], stops: &mut Stops, is_last: bool) -> Option<usize>
+    requires { AreMarked text.now stops.old }
+    ensures field { IfSome result (λ end. IsField text.now is_last stops.old.cursor end) }
+    ensures short { IfSome result (λ end. IsShort (between text.now stops.old.cursor end)) }
+    ensures cursor { IfSome result (λ end. stops.new.cursor ≡ end + 1) }
+    ensures marked { IfSome result (λ _. AreMarked text.now stops.new) }
 {
     let low = stops.cursor;
-    if low == text.len() {
+    let end = seen_stop(text, stops, true)?;
+    let first = low + usize::from(text[low] == b'-');
+    if first >= end || end - first > MOST_DIGITS || !ends_as(text[end], is_last) {
         return None;
     }
-    Some(low + usize::from(text[low] == b'-'))
+    if are_digits(text, stops, first, end - first) {
+        Some(end)
+    } else {
+        None
+    }
 }
 
 /// The end of the field at the cursor, where it has no quote and its end is marked; the cursor then stands
@@ -106,11 +72,10 @@ pub(crate) fn text_end(text: &[u8], stops: &mut Stops, is_last: bool) -> Option<
     requires { AreMarked text.now stops.old }
     ensures field { IfSome result (λ end. IsField text.now is_last stops.old.cursor end) }
     ensures cursor { IfSome result (λ end. stops.new.cursor ≡ end + 1) }
-    ensures marked { AreMarked text.now stops.new }
+    ensures marked { IfSome result (λ _. AreMarked text.now stops.new) }
 {
     loop {
-        let stop = seen_stop(text, stops)?;
-        stops.cursor = stop + 1;
+        let stop = seen_stop(text, stops, true)?;
         if ends_as(text[stop], is_last) {
             return Some(stop);
         }
@@ -134,11 +99,10 @@ pub(crate) fn field_end(
     ensures known { IfSome result
         (λ end. IsAsKnown is_number (between text.now stops.old.cursor end)) }
     ensures cursor { IfSome result (λ end. stops.new.cursor ≡ end + 1) }
-    ensures marked { AreMarked text.now stops.new }
+    ensures marked { IfSome result (λ _. AreMarked text.now stops.new) }
 {
     if is_number {
-        let first = first_digit(text, stops)?;
-        digits_end(text, stops, first, is_last)
+        number_end(text, stops, is_last)
     } else {
         text_end(text, stops, is_last)
     }

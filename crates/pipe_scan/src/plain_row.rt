@@ -17,9 +17,8 @@ fn skip_fields(text: &[u8], stops: &mut Stops, numbers: &[bool]) -> Option<()>
         × IsPlainRow text.now stops.old.cursor stops.new.cursor start numbers.now ends) }
     ensures marked { IfSome result (λ _. AreMarked text.now stops.new) }
 {
-    let start = skip_ends(text, stops.cursor);
-    stops.cursor = start;
-    if start == text.len() {
+    skip_ends(text, stops);
+    if stops.cursor == text.len() {
         return None;
     }
     let last = numbers.len() - 1;

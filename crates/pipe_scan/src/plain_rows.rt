@@ -51,7 +51,7 @@ pub fn skip_plain_rows(text: &[u8], stops: &mut Stops, numbers: &[bool], most: u
     ensures few { result ≤ most }
     ensures marked { AreMarked text.now stops.new }
 {
-    let mut here = *stops;
+    let mut here = Stops::new(stops.cursor);
     let mut at_once = are_numbers(numbers);
     let mut count = 0;
     while count < most {

@@ -1,16 +1,16 @@
 //! The stops of a text, and its bytes that are no digits, 64 bytes at a time.
 
-ghost use Rattle.std.specs.Prelude.{◌+◌, ◌<◌, ◌≡◌, ◌≤◌, Bool, IfNone, IfSome, length, min, ℕ};
+ghost use Rattle.std.specs.Prelude.{◌+◌, ◌<◌, ◌≡◌, ◌≤◌, IfNone, IfSome, length, min};
 ghost use Rattle.pipe_scan.specs.NextStop.{HasNone, IsNextStop, IsSeen};
-ghost use Rattle.pipe_scan.specs.Stops.{AreMarked, DoMark, is_no_digit, is_stop, marks};
+ghost use Rattle.pipe_scan.specs.Stops.{AreMarked, is_no_digit, is_stop, marks};
 
 use std::simd::prelude::*;
 
 /// How many bytes are looked at together.
 pub(crate) const TOGETHER: usize = 64;
 
-/// A cursor in a text, and marks of bytes from a place on that isn't behind it: of stops, and of bytes
-/// that are no digits.
+/// A cursor in a text, and marks of up to 64 bytes from a place on that isn't behind the cursor: of the stops
+/// from the cursor on, and of the bytes that are no digits, where these are wanted.
 #[derive(Clone, Copy, Drop)]
 pub struct Stops {
     pub(crate) cursor: usize,
@@ -61,44 +61,86 @@ pub(crate) fn others_at(text: &[u8], at: usize) -> u64
     digits.simd_ge(u8x64::splat(10)).to_bitmask()
 }
 
-/// A cursor at a place, with the marks of the bytes from there on.
+/// A cursor at a place, with the marks of the stops from there on.
 #[inline(always)]
-pub(crate) fn marked_at(text: &[u8], at: usize) -> Stops
+pub(crate) fn stops_from(text: &[u8], at: usize) -> Stops
     requires { at + 64 ≤ length text.now }
     ensures { result ≡ record {
       cursor = at;
       low = at;
       stops = marks is_stop text.now at 64;
-      others = marks is_no_digit text.now at 64;
+      others = 0;
     } }
 {
     Stops {
         cursor: at,
         low: at,
         stops: stops_at(text, at),
-        others: others_at(text, at),
+        others: 0,
     }
 }
 
-/// The first marked byte from a place on, of marks of bytes from `low` on.
+/// The first stop that is marked, if there is one; the cursor then stands behind it.
 #[inline(always)]
-pub(crate) fn first_seen(text: &[u8], bits: u64, low: usize, at: usize) -> Option<usize>
-    requires low { low ≤ at }
-    requires within { at ≤ length text.now }
-    ensures seen { (kind : ℕ → Bool) → DoMark kind text.now low bits
-        → IfSome result (λ place. IsSeen kind text.now at place) }
-    ensures none { (kind : ℕ → Bool) (m : DoMark kind text.now low bits)
-        → IfNone result (HasNone kind text.now at (low + m.count)) }
+pub(crate) fn take_stop(text: &[u8], stops: &mut Stops) -> Option<usize>
+    requires { AreMarked text.now stops.old }
+    ensures seen { IfSome result (λ stop. IsSeen is_stop text.now stops.old.cursor stop) }
+    ensures cursor { IfSome result (λ stop. stops.new.cursor ≡ stop + 1) }
+    ensures none { (m : AreMarked text.now stops.old)
+        → IfNone result (HasNone is_stop text.now stops.old.cursor (stops.old.low + m.stops.count)) }
+    ensures as_before { IfNone result (stops.new ≡ stops.old) }
+    ensures marked { AreMarked text.now stops.new }
+    ensures low { stops.new.low ≡ stops.old.low }
+    ensures near { IfSome result (λ stop. stop < stops.new.low + 64) }
 {
-    let skip = at - low;
-    if skip >= TOGETHER {
+    if stops.stops == 0 {
         return None;
     }
-    let ahead = bits >> skip;
-    if ahead == 0 {
-        return None;
+    let stop = stops.low + stops.stops.trailing_zeros() as usize;
+    stops.stops &= stops.stops - 1;
+    stops.cursor = stop + 1;
+    Some(stop)
+}
+
+/// Marks the bytes from the cursor on, if there are 64: the stops, and those that are no digits where they are
+/// wanted.
+#[inline(always)]
+fn mark_from(text: &[u8], stops: &mut Stops, others: bool) -> bool
+    requires { AreMarked text.now stops.old }
+    ensures marked { AreMarked text.now stops.new }
+    ensures cursor { stops.new.cursor ≡ stops.old.cursor }
+    ensures low { stops.new.low ≤ stops.old.cursor }
+{
+    let at = stops.cursor;
+    if text.len() - at < TOGETHER {
+        return false;
     }
-    Some(at + ahead.trailing_zeros() as usize)
+    *stops = stops_from(text, at);
+    if others {
+        stops.others = others_at(text, at);
+    }
+    true
+}
+
+/// The next stop, where it is marked or among the next 64 bytes; the cursor then stands behind it. None
+/// says nothing. Bytes that are no digits are marked where they are wanted.
+#[inline(always)]
+pub(crate) fn seen_stop(text: &[u8], stops: &mut Stops, others: bool) -> Option<usize>
+    requires { AreMarked text.now stops.old }
+    ensures seen { IfSome result (λ place. IsSeen is_stop text.now stops.old.cursor place) }
+    ensures cursor { IfSome result (λ place. stops.new.cursor ≡ place + 1) }
+    ensures low { IfSome result (λ _. stops.new.low ≤ stops.old.cursor) }
+    ensures near { IfSome result (λ place. place < stops.new.low + 64) }
+    ensures marked { IfSome result (λ _. AreMarked text.now stops.new) }
+{
+    if let Some(stop) = take_stop(text, stops) {
+        return Some(stop);
+    }
+    if mark_from(text, stops, others) {
+        take_stop(text, stops)
+    } else {
+        None
+    }
 }
 
 /// The next stop, a byte at a time.
@@ -126,7 +168,7 @@ fn last_stop(text: &[u8], stops: &mut Stops) -> usize
     stop
 }
 
-/// The next stop, where none is marked from the cursor on.
+/// The next stop, where none is marked.
 fn far_stop(text: &[u8], stops: &mut Stops) -> usize
     requires { AreMarked text.now stops.old }
     ensures stop { IsNextStop text.now stops.old.cursor result }
@@ -134,12 +176,11 @@ fn far_stop(text: &[u8], stops: &mut Stops) -> usize
     ensures cursor { stops.new.cursor ≡ min (result + 1) (length text.now) }
 {
     while text.len() - stops.cursor >= TOGETHER {
-        *stops = marked_at(text, stops.cursor);
-        if let Some(stop) = first_seen(text, stops.stops, stops.low, stops.cursor) {
-            stops.cursor = stop + 1;
+        *stops = stops_from(text, stops.cursor);
+        if let Some(stop) = take_stop(text, stops) {
             return stop;
         }
-        stops.cursor += TOGETHER;
+        *stops = Stops::new(stops.cursor + TOGETHER);
     }
     last_stop(text, stops)
 }
@@ -152,11 +193,8 @@ pub(crate) fn next_stop(text: &[u8], stops: &mut Stops) -> usize
     ensures marked { AreMarked text.now stops.new }
     ensures cursor { stops.new.cursor ≡ min (result + 1) (length text.now) }
 {
-    match first_seen(text, stops.stops, stops.low, stops.cursor) {
-        Some(stop) => {
-            stops.cursor = stop + 1;
-            stop
-        }
+    match take_stop(text, stops) {
+        Some(stop) => stop,
         None => far_stop(text, stops),
     }
 }

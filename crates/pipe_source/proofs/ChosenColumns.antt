@@ -58,7 +58,7 @@ chosen-ends (Some x) ws xs None h = refl
 chosen-ends (Some x) ws xs (Some y) h = ap (λ t. x ∷ t) (chosen-behind ws xs (y ∷ []) h)
 
 -- a value of a row goes to the end of the column at its place
-push-at : (columns : List (List AnyValue)) (i : ℕ) (old new : List AnyValue) (done : List AnyValue) (v : AnyValue) (before : List (List AnyValue))
+pub push-at : (columns : List (List AnyValue)) (i : ℕ) (old new : List AnyValue) (done : List AnyValue) (v : AnyValue) (before : List (List AnyValue))
     → columns ≡ with_row done before → length done ≡ i → i < length columns → old ≡ get_or columns i old → new ≡ old ++ (v ∷ []) → set columns i new ≡ with_row (done ++ (v ∷ [])) before
 push-at columns i old new done v before e n h o p =
     let size : length columns ≡ length before = ap length e ∙ length-with_row done before in

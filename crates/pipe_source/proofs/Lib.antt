@@ -1,4 +1,5 @@
 pub mod FieldsLeft
+pub mod PlacedFields
 pub mod RowsLeft
 pub mod StartFacts
 pub mod ColumnLaws

@@ -24,6 +24,7 @@ mod row_push;
 mod source_columns;
 mod source_place;
 mod starts;
+mod wanted_places;
 mod worked;
 
 pub use chunk_reader::ChunkReader;

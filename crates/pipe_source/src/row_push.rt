@@ -1,6 +1,7 @@
 //! Rows that were looked over, whose values go to the ends of columns.
 
-ghost use Rattle.std.specs.Prelude.{◌≡◌, [], IfErr, IfOk, List, Ok, length, replicate, vec_len};
+ghost use Rattle.std.specs.Prelude.{◌≡◌, ◌≤◌, ◌<◌, [], IfErr, IfOk, List, Ok, length, replicate, slice_index_or, vec_len};
+ghost use Rattle.std.specs.List.{range_with_len};
 ghost use Rattle.csv.specs.Records.{fields_of};
 ghost use Rattle.pipe_columns.specs.declared.any_value.AnyValue.{AnyValue};
 ghost use Rattle.pipe_csv.specs.CsvRows.{read_row};
@@ -8,18 +9,36 @@ ghost use Rattle.pipe_wanted.specs.Wanted.{chosen};
 ghost use Rattle.pipe_csv.specs.CsvError.{StopsBy};
 ghost use Rattle.pipe_csv.specs.Columns.{DoHold, values_from, with_row};
 ghost use Rattle.pipe_csv.specs.declared.csv_error.CsvError.TheVariants as csv_error;
-ghost use Rattle.pipe_scan.specs.Records.{InOrder, cut, records_at};
+ghost use Rattle.pipe_scan.specs.Records.{InOrder, between, cut, records_at};
 ghost use Rattle.pipe_scan.specs.Stops.{AreMarked};
 ghost use Rattle.pipe_source.specs.Rows.{AreRowsAt, FirstReads, PushesRow, StopsFirst};
 
 use crate::column_fill::ColumnFill;
 use crate::field_at::{push_field, push_field_at};
+use crate::wanted_places::wanted_places;
 use csv::ByteRecord;
 use pipe_columns::Field;
 use pipe_csv::CsvError;
 use pipe_scan::{Row, Stops, next_row};
 use pipe_wanted::is_wanted;
 use std::alloc::Global;
+
+/// Where the field at a place begins and ends in the text.
+#[inline(always)]
+fn field_bounds(text: &[u8], start: usize, ends: &[usize], place: usize) -> (usize, usize)
+    requires order { InOrder (length text.now) start ends.now }
+    requires place { place < length ends.now }
+    ensures field { slice_index_or (cut text.now start ends.now) place []
+        ≡ between text.now result.0 result.1 }
+    ensures order { result.0 ≤ result.1 }
+    ensures within { result.1 ≤ length text.now }
+{
+    let end = ends[place];
+    if place == 0 {
+        return (start, end);
+    }
+    (ends[place - 1] + 1, end)
+}
 
 /// Adds the wanted values of the fields of a row that lie in the text, each of which reads.
 fn push_fields(
@@ -30,9 +49,11 @@ fn push_fields(
     ends: &[usize],
     fields: &[Field],
     wanted: &[bool],
+    places: &[usize],
     row: usize,
 ) -> Result<(), CsvError>
     requires columns { vec_len columns.old ≡ length (chosen wanted.now fields.now) }
+    requires places { places.now ≡ chosen wanted.now (range_with_len 0 (length fields.now)) }
     requires order { InOrder (length text.now) start ends.now }
     requires width { length ends.now ≡ length fields.now }
     requires reads { (values : List AnyValue)
@@ -45,15 +66,10 @@ fn push_fields(
     ensures stop { IfErr result
         (λ e. StopsBy e (read_row 1 row fields.now (cut text.now start ends.now))) }
 {
-    let mut low = start;
-    let mut place = 0;
-    for (i, field) in fields.iter().enumerate() {
-        let high = ends[i];
-        if is_wanted(wanted, i) {
-            push_field_at(alloc, &mut columns[place], field.dtype, text, low, high)?;
-            place += 1;
-        }
-        low = high + 1;
+    for (i, place) in places.iter().enumerate() {
+        let (low, high) = field_bounds(text, start, ends, *place);
+        let dtype = fields[*place].dtype;
+        push_field_at(alloc, &mut columns[i], dtype, text, low, high)?;
     }
     Ok(())
 }
@@ -104,9 +120,11 @@ fn push_row(
     bytes: &mut Vec<u8>,
     fields: &[Field],
     wanted: &[bool],
+    places: &[usize],
     row: usize,
 ) -> Result<bool, CsvError>
     requires columns { vec_len columns.old ≡ length (chosen wanted.now fields.now) }
+    requires places { places.now ≡ chosen wanted.now (range_with_len 0 (length fields.now)) }
     requires marked { AreMarked text.now stops.old }
     requires width { length ends.old ≡ length fields.now }
     requires reads { FirstReads 1 row fields.now (records_at text.now stops.old.cursor) }
@@ -125,7 +143,9 @@ fn push_row(
             if count != fields.len() {
                 return Err(CsvError::Width { file: 1, row });
             }
-            push_fields(alloc, columns, text, start, ends, fields, wanted, row)?;
+            push_fields(
+                alloc, columns, text, start, ends, fields, wanted, places, row,
+            )?;
             Ok(true)
         }
         Row::Quoted => {
@@ -158,6 +178,7 @@ pub(crate) fn push_rows(
         (λ _. vec_len columns.new ≡ length (chosen wanted.now fields.now)) }
     ensures memory { IfErr result (λ e. e ≡ csv_error.Memory) }
 {
+    let places = wanted_places(alloc, wanted, fields.len())?;
     let mut ends = vec![in alloc; 0; fields.len()]?;
     let mut entry = ByteRecord::new(alloc);
     let mut bytes = Vec::new(alloc);
@@ -173,6 +194,7 @@ pub(crate) fn push_rows(
             &mut bytes,
             fields,
             wanted,
+            &places,
             row + 1,
         );
         match found {

@@ -8,5 +8,5 @@ abbrev pub invariant-loop-i : goal.invariant-loop-i
 invariant-loop-i l = record {
   marked : AreMarked l.text l.stops;
   low : l.fn.stops.cursor ≤ l.stops.cursor;
-  goes : GoesOver l.text l.fn.stops.cursor l.start l.stops.cursor l.numbers l.i;
+  goes : GoesOver l.text l.fn.stops.cursor l.initial.stops.cursor l.stops.cursor l.numbers l.i;
 }

@@ -2,6 +2,7 @@ use Rattle.std.proofs.Common.{◌≡◌, ◌≢◌, ◌∙◌, length, sym, refl
 use Rattle.std.proofs.lemmas.Bool.{eqb-true, eqb-false}
 use Rattle.csv.specs.Records.{fields_of}
 use Rattle.pipe_scan.proofs.SkipFacts.{other-width, plain-fits, plain-misfits, wider-misfits}
+use Rattle.pipe_scan.proofs.StopFacts.{fresh-marked}
 use Rattle.pipe_scan.proofs.skip.step_over.Goals as goal
 use Rattle.pipe_scan.proofs.skip.step_over.Goals.{in-Plain, in-Quoted, in-Wide}
 
@@ -30,3 +31,9 @@ returns-clause-step c = (
     | in-Wide w ↦ wider-misfits c.args.text.now c.args.stops.now.cursor (length c.args.ends.now) (rw (w.in-Wide.is, c.in_ok-next_row.ensures.room) at c.in_ok-next_row.ensures.row)
   ],
 )
+
+pub returns-in-End-clause-marked : goal.returns-in-End-clause-marked
+returns-in-End-clause-marked c = rw c.new.ensures (fresh-marked c.args.text.now c.args.stops.now.cursor c.requires.within)
+
+pub returns-clause-marked : goal.returns-clause-marked
+returns-clause-marked c = rw c.new-2.ensures (fresh-marked c.args.text.now c.args.stops.now.cursor c.requires.within)

@@ -1,69 +1,73 @@
-use Rattle.std.proofs.Common.{◌∙◌, ◌++◌, ◌+◌, [], ◌∷◌, ap, arith, length, sym, List}
+use Rattle.std.proofs.Common.{◌≡◌, ◌∙◌, ◌<◌, ℕ, List, ap, arith, get_or, length, refl, sym}
+use Rattle.std.proofs.lemmas.List.{get_or_default, length-map, length-take-le, take_all}
+use Rattle.std.proofs.lemmas.Option.{same_Some}
 use Rattle.pipe_columns.specs.declared.any_value.AnyValue.{AnyValue}
+use Rattle.pipe_columns.specs.declared.any_value.AnyValue.TheVariants as av
 use Rattle.pipe_csv.specs.Columns.{with_row}
-use Rattle.pipe_wanted.specs.Wanted.{chosen, is_wanted}
-use Rattle.pipe_wanted.proofs.WantedFacts.{chosen-nil}
-use Rattle.pipe_wanted.proofs.ChosenFacts.{fewer-chosen, push-kept, push-left}
-use Rattle.pipe_source.proofs.ChosenColumns.{push-wanted}
-use Rattle.pipe_source.proofs.FieldsLeft.{cut-here, field-reads, field-value, fields-more, fields-start, length-cut, length-push, order-here}
+use Rattle.pipe_csv.proofs.ReadFacts.{length-row}
+use Rattle.pipe_scan.specs.Records.{between}
+use Rattle.pipe_source.proofs.ChosenColumns.{push-at}
+use Rattle.pipe_source.proofs.FieldsLeft.{field-reads}
+use Rattle.pipe_source.proofs.PlacedFields.{bounded-at, place-below, places-count, values-chosen, values-more, values_at}
 use Rattle.pipe_source.proofs.row_push.push_fields.Goals as goal
-use Rattle.pipe_source.proofs.row_push.push_fields.Goals.{then-is_wanted+in_ok-push_field_at, else-is_wanted}
 
-pub loop-i-init : goal.loop-i-init
-loop-i-init c = record {
-  done = [];
-  fields = fields-start 1 c.args.row c.args.fields.now _ (length-cut c.args.text.now c.args.start c.args.ends.now ∙ c.requires.width);
-  order = c.requires.order;
-  columns = ap (λ (t : List AnyValue). with_row t c.args.columns.now.items) (sym (chosen-nil c.args.wanted.now));
-  width = c.requires.columns;
-  place = ap length (sym (chosen-nil {A = AnyValue} c.args.wanted.now));
-}
+-- the place is one of the fields'
+pub field_bounds-low-requires-clause-place : goal.field_bounds-low-requires-clause-place
+field_bounds-low-requires-clause-place c =
+    let b = place-below c.args.wanted.now (length c.args.fields.now) c.args.places.now c.loop-i.i 0 c.requires.places c.loop-i-test.true in
+    omega (arith, b, c.requires.width)
+
+pub bounds-fields-place : goal.bounds-fields-place
+bounds-fields-place c = place-below c.args.wanted.now (length c.args.fields.now) c.args.places.now c.loop-i.i 0 c.requires.places c.loop-i-test.true
+
+pub bounds-fields-place-in-loop-i : goal.bounds-fields-place-in-loop-i
+bounds-fields-place-in-loop-i c = place-below c.args.wanted.now (length c.args.fields.now) c.args.places.now c.loop-i.i 0 c.requires.places c.loop-i-test.true
 
 pub index_mut-requires : goal.index_mut-requires
 index_mut-requires c =
-    let inv = c.loop-i.invariant in
-    let less = fewer-chosen c.args.wanted.now inv.done c.args.fields.now (omega (arith, inv.fields.count)) (ap (is_wanted c.args.wanted.now) inv.fields.count ∙ sym c.is_wanted.ensures ∙ c.if-is_wanted.true) in
-    omega (arith, inv.width, inv.place, less)
+    let n = places-count c.args.wanted.now c.args.fields.now in
+    let p = ap length c.requires.places in
+    omega (arith, n, p, c.loop-i.invariant.width, c.loop-i-test.true)
+
+pub offset_bounds-fields-place : goal.offset_bounds-fields-place
+offset_bounds-fields-place c =
+    let b = place-below c.args.wanted.now (length c.args.fields.now) c.args.places.now c.loop-i.i 0 c.requires.places c.loop-i-test.true in
+    omega (arith, b)
 
 pub push_field_at-requires-clause-reads : goal.push_field_at-requires-clause-reads
 push_field_at-requires-clause-reads c =
-    let inv = c.loop-i.invariant in
-    let here = cut-here c.args.text.now c.loop-i.low c.args.ends.now c.loop-i.i (omega (arith, c.requires.width)) in
-    field-reads c.index-fields-i.result.dtype _ (field-value 1 c.args.row c.args.fields.now _ c.requires.reads.0 c.loop-i.i inv.done _ _ c.index-fields-i.result _ inv.fields c.requires.reads.1 (omega arith) c.index-fields-i.is here)
-
-pub overflow_add-place : goal.overflow_add-place
-overflow_add-place c =
-    let inv = c.loop-i.invariant in
-    let less = fewer-chosen c.args.wanted.now inv.done c.args.fields.now (omega (arith, inv.fields.count)) (ap (is_wanted c.args.wanted.now) inv.fields.count ∙ sym c.is_wanted.ensures ∙ c.if-is_wanted.true) in
-    omega (arith, inv.width, inv.place, less, c.loop-i.columns.ok, c.loop-i.columns.small)
+    let place : ℕ = get_or c.args.places.now c.loop-i.i 0 in
+    let b : place < length c.args.fields.now = place-below c.args.wanted.now (length c.args.fields.now) c.args.places.now c.loop-i.i 0 c.requires.places c.loop-i-test.true in
+    let r = bounded-at 1 c.args.row c.args.fields.now _ c.requires.reads.0 place c.index-fields-place.result c.args.text.now c.field_bounds-low.result.0 c.field_bounds-low.result.1 c.requires.reads.1 b c.field_bounds-low.ensures.field in
+    field-reads (get_or c.args.fields.now place c.index-fields-place.result).dtype (between c.args.text.now c.field_bounds-low.result.0 c.field_bounds-low.result.1) (get_or c.requires.reads.0 place av.Null, r)
 
 pub loop-i-preserved : goal.loop-i-preserved
-loop-i-preserved c =
-    let inv = c.loop-i.invariant in
-    let here = cut-here c.args.text.now c.loop-i.low c.args.ends.now c.loop-i.i (omega (arith, c.requires.width)) in
-    let order = (order-here (length c.args.text.now) c.loop-i.low c.args.ends.now c.loop-i.i inv.order (omega (arith, c.requires.width))).2 in
-    elim c.if-is_wanted.branch [
-      | then-is_wanted+in_ok-push_field_at w ↦
-          let pushed = w.in_ok-push_field_at.ensures in
-          let wanted = ap (is_wanted c.args.wanted.now) inv.fields.count ∙ sym c.is_wanted.ensures ∙ w.if-is_wanted.true in
-          let less = fewer-chosen c.args.wanted.now inv.done c.args.fields.now (omega (arith, inv.fields.count)) wanted in
-          rw (w.columns-is, w.place-is) (record {
-            done = inv.done ++ (pushed.0 ∷ []);
-            fields = fields-more 1 c.args.row c.args.fields.now _ c.loop-i.i inv.done _ _ c.index-fields-i.result _ pushed.0 inv.fields (omega arith) c.index-fields-i.is here pushed.1;
-            order = order;
-            columns = push-wanted c.args.wanted.now c.loop-i.columns.items c.loop-i.place w.index_mut.result.now w.push_field_at.new.column inv.done pushed.0 c.args.columns.now.items wanted inv.columns inv.place (omega (arith, inv.width, inv.place, less, c.loop-i.columns.ok.0)) w.index_mut.ensures.value pushed.2;
-            width = inv.width;
-            place = ap (λ n. n + 1) inv.place ∙ sym (ap length (push-kept c.args.wanted.now inv.done pushed.0 wanted) ∙ length-push (chosen c.args.wanted.now inv.done) pushed.0);
-          })
-      | else-is_wanted w ↦
-          let value = field-value 1 c.args.row c.args.fields.now _ c.requires.reads.0 c.loop-i.i inv.done _ _ c.index-fields-i.result _ inv.fields c.requires.reads.1 (omega arith) c.index-fields-i.is here in
-          let left = push-left c.args.wanted.now inv.done value.0 (ap (is_wanted c.args.wanted.now) inv.fields.count ∙ sym c.is_wanted.ensures ∙ w.if-is_wanted.false) in
-          rw (w.columns-is, w.place-is) (record {
-            done = inv.done ++ (value.0 ∷ []);
-            fields = fields-more 1 c.args.row c.args.fields.now _ c.loop-i.i inv.done _ _ c.index-fields-i.result _ value.0 inv.fields (omega arith) c.index-fields-i.is here value.1;
-            order = order;
-            columns = rw left inv.columns;
-            width = inv.width;
-            place = rw left inv.place;
-          })
-    ]
+loop-i-preserved c = record {
+  columns = λ values h.
+      let i : ℕ = c.loop-i.i in
+      let places = c.args.places.now in
+      let place : ℕ = get_or places i 0 in
+      let b : place < length c.args.fields.now = place-below c.args.wanted.now (length c.args.fields.now) places i 0 c.requires.places c.loop-i-test.true in
+      let pushed = c.in_ok-push_field_at.ensures in
+      let r = bounded-at 1 c.args.row c.args.fields.now _ values place c.index-fields-place.result c.args.text.now c.field_bounds-low.result.0 c.field_bounds-low.result.1 h b c.field_bounds-low.ensures.field in
+      let e : pushed.0 ≡ get_or values place av.Null = same_Some pushed.0 (get_or values place av.Null) (sym pushed.1 ∙ r) in
+      let more = values-more values places i place pushed.0 c.loop-i-test.true (get_or_default places i 0 place c.loop-i-test.true) e in
+      let size : length (values_at values places) ≡ length places = length-map places (λ p. get_or values p av.Null) in
+      let n = length-take-le i (values_at values places) (omega (arith, size, c.loop-i-test.true)) in
+      let count = places-count c.args.wanted.now c.args.fields.now in
+      let same = ap length c.requires.places in
+      let l : i < length c.loop-i.columns.items = omega (arith, count, same, c.loop-i.invariant.width, c.loop-i-test.true, c.loop-i.columns.ok.0) in
+      push-at c.loop-i.columns.items i c.index_mut.result.now c.push_field_at.new.column _ pushed.0 c.args.columns.now.items (c.loop-i.invariant.columns values h) n l c.index_mut.ensures.value pushed.2
+      ∙ ap (λ t. with_row t c.args.columns.now.items) (sym more);
+  width = c.loop-i.invariant.width;
+}
+
+pub returns-clause-pushed : goal.returns-clause-pushed
+returns-clause-pushed c =
+    let values : List AnyValue = c.requires.reads.0 in
+    let places = c.args.places.now in
+    let n = length-row 1 c.args.row c.args.fields.now _ values _ refl c.requires.reads.1 in
+    let size : length (values_at values places) ≡ length places = length-map places (λ p. get_or values p av.Null) in
+    let all = take_all c.loop-i.i (values_at values places) (omega (arith, size, c.loop-i-test.false)) in
+    let chosen = ap (values_at values) c.requires.places ∙ values-chosen c.args.wanted.now values (length c.args.fields.now) n in
+    (values, c.requires.reads.1, c.loop-i.invariant.columns values c.requires.reads.1 ∙ ap (λ t. with_row t c.args.columns.now.items) (all ∙ chosen))
