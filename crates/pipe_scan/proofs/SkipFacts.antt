@@ -1,7 +1,7 @@
 -- Records that are gone over.
-use Rattle.std.proofs.Common.{◌≡◌, ◌≢◌, ◌∙◌, ◌≤◌, ◌+◌, ℕ, List, [], ◌∷◌, ◌++◌, length, take, refl, sym, ap, arith, append_assoc}
+use Rattle.std.proofs.Common.{◌≡◌, ◌≢◌, ◌∙◌, ◌+◌, ℕ, List, [], ◌∷◌, ◌++◌, length, take, sym, ap, arith, append_assoc}
 use Rattle.std.proofs.lemmas.List.{length-take-le, length_push}
-use Rattle.std.proofs.lemmas.List.Elements.{All-nil, All-push}
+use Rattle.std.proofs.lemmas.List.Elements.{All-push}
 use Rattle.pipe_scan.specs.Records.{Records, cut, records_at}
 use Rattle.pipe_scan.specs.Row.{Takes, TakesCut, IsWider}
 use Rattle.pipe_scan.specs.Skipped.{HasOtherWidth, Skips}
@@ -32,17 +32,6 @@ plain-misfits text at next start count ends width t n =
 -- a record that is wider
 pub wider-misfits : (text : List ℕ) (at width : ℕ) → IsWider text at width → HasOtherWidth text at width
 wider-misfits text at width w = (w.0, w.1, w.2, λ e. omega (arith, e, w.3))
-
--- none was gone over
-pub skips_none : (text : List ℕ) (at width : ℕ) → at ≤ length text → Skips text at at width 0
-skips_none text at width l = record {
-  front = [];
-  records = refl;
-  as_many = refl;
-  as_wide = All-nil (λ (fields : List (List ℕ)). length fields ≡ width);
-  order = omega arith;
-  within = l;
-}
 
 -- one more was gone over
 pub skips_more : (text : List ℕ) (at next last width count : ℕ) → Skips text at next width count → TakesWide text next last width → Skips text at last width (count + 1)
