@@ -12,7 +12,8 @@ import time
 
 from trial_runs import is_answer, made_input, program_of, run
 
-LEAST_ROWS, MOST_ROWS = 20_000, 60_000
+# Some of these files have more than a megabyte, which several threads read in parts and look over in pieces.
+LEAST_ROWS, MOST_ROWS = 20_000, 250_000
 
 
 def random_options(chance, folder):

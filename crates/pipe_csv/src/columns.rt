@@ -1,6 +1,6 @@
 //! Columns of values.
 
-ghost use Rattle.std.specs.Prelude.{[], ◌≡◌, IfOk, map, replicate};
+ghost use Rattle.std.specs.Prelude.{◌≡◌, IfOk};
 ghost use Rattle.std.specs.Ordering.{is_lt};
 ghost use Rattle.pipe_columns.specs.AnyValue.{value_cmp};
 ghost use Rattle.pipe_columns.specs.Frame.{AreOfType};
@@ -9,23 +9,6 @@ ghost use Rattle.pipe_csv.specs.CsvRows.{is_ascending};
 
 use pipe_columns::{AnyValue, Column, Field};
 use std::alloc::{AllocError, Global};
-
-/// Columns of no values, each with room for some.
-pub fn empty_columns(
-    alloc: Global,
-    width: usize,
-    room: usize,
-) -> Result<Vec<Vec<AnyValue>>, AllocError>
-    ensures { IfOk result (λ v. map (λ c. c.items) v.items ≡ replicate width []) }
-{
-    let mut columns = Vec::with_capacity(alloc, width)?;
-    for _ in 0..width {
-        if columns.push(Vec::with_capacity(alloc, room)?).is_err() {
-            return Err(AllocError);
-        }
-    }
-    Ok(columns)
-}
 
 /// Whether a value is less than another.
 fn is_less(a: &AnyValue, b: &AnyValue) -> bool

@@ -10,7 +10,7 @@ mod header;
 mod number;
 mod worked;
 
-pub use columns::{empty_columns, make_column};
+pub use columns::make_column;
 pub use csv_error::CsvError;
 pub use csv_text::frame_text;
 pub use field::{does_read, read_field};

@@ -1,6 +1,10 @@
 pub use Rattle.pipe_io.specs.Files
 pub use Rattle.pipe_io.specs.Output
 pub use Rattle.pipe_csv.specs.Texts
+pub use Rattle.pipe_source.specs.CsvChunks
+pub use Rattle.pipe_source.specs.Reader
+pub use Rattle.pipe_source.specs.Rounds
+pub use Rattle.pipe_source.specs.Source
 pub use Rattle.pipe_writers.specs.JsonText
 pub use Rattle.pipe_writers.specs.Kept
 pub use Rattle.pipe_writers.specs.WriteOrder

@@ -10,6 +10,7 @@ pub use pipe_io::{
     FileEnd, InputError, InputFiles, MOST_FILE_BYTES, MemoryFiles, MemoryOutput, Output,
     OutputError, RealFiles, RealOutput, read_file, write_all,
 };
+pub use pipe_source::{ChunkReader, CsvReadOptions, CsvSource, SourcePlace};
 pub use pipe_writers::{
     CsvBatchedWriter, JsonBatchedWriter, OrderedSink, SinkWriter, SliceSink, StreamingVstacker,
     WriteError, write_csv, write_json,

@@ -1,5 +1,10 @@
 //! Arenas and the values of their expressions.
 
+ghost use Rattle.std.specs.Prelude.{◌≡◌, ◌<◌, is_some, length, true};
+ghost use Rattle.pipe_columns.specs.Frame.{fields_of};
+ghost use Rattle.pipe_exprs.specs.Trees.{tree};
+ghost use Rattle.pipe_model.specs.Typing.{is_row_wise, type_of};
+
 use crate::facts::facts_at;
 use crate::types::{node_facts, node_types};
 use crate::{AExpr, AddError, Arena, Len, Node, Operator, PipedExpr};
@@ -53,6 +58,26 @@ fn chunk_of(
     }
 }
 
+/// The column of an expression, whose values are the same where they are asked for alone.
+fn column_of(
+    alloc: Global,
+    arena: &Arena,
+    expr: PipedExpr,
+    chunk: &DataChunk,
+) -> Result<Column, Fail>
+    requires in_arena { expr.node.0 < length arena.now }
+    requires row_wise { is_row_wise (tree arena.now expr.node) ≡ true }
+    requires typed { is_some (type_of (tree arena.now expr.node)
+        (fields_of chunk.now.frame.columns)) ≡ true }
+{
+    let column = expr.evaluate(alloc, arena, chunk)?;
+    let values = expr.values(alloc, arena, chunk)?;
+    if values.as_slice() != column.values() || values.at(0) != column.values().first() {
+        return Err("other values".into());
+    }
+    Ok(column)
+}
+
 /// The column of a node, where it has a type and a value in each row.
 fn evaluated(alloc: Global, arena: &Arena, node: usize, chunk: &DataChunk) -> Result<Column, Fail> {
     let types = node_types(alloc, arena, chunk.frame.columns())?;
@@ -61,7 +86,7 @@ fn evaluated(alloc: Global, arena: &Arena, node: usize, chunk: &DataChunk) -> Re
         return Err("no value in a row".into());
     }
     match types.get(node) {
-        Some(Some(_)) => Ok(PipedExpr { node: Node(node) }.evaluate(alloc, arena, chunk)?),
+        Some(Some(_)) => column_of(alloc, arena, PipedExpr { node: Node(node) }, chunk),
         _ => Err("no type".into()),
     }
 }

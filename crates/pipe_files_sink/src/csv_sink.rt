@@ -11,7 +11,7 @@ use std::sync::Wait;
 use std::thread::Threads;
 
 /// How a sink writes CSV.
-#[derive(Clone, Copy, Debug, PartialEq, Eq)]
+#[derive(Debug, Drop, PartialEq, Eq)]
 pub struct CsvWriterOptions {
     /// Whether a line of the names goes in front.
     pub include_header: bool,

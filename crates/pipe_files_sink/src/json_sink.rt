@@ -11,7 +11,7 @@ use std::sync::Wait;
 use std::thread::Threads;
 
 /// How a sink writes lines of JSON.
-#[derive(Clone, Copy, Debug, PartialEq, Eq)]
+#[derive(Debug, Drop, PartialEq, Eq)]
 pub struct JsonWriterOptions {
     /// Whether each piece is written by the numbers of its chunks.
     pub maintain_order: bool,

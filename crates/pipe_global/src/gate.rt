@@ -7,7 +7,7 @@ pub trait Gate {
 }
 
 /// A gate that returns at once.
-#[derive(Clone, Copy, Debug)]
+#[derive(Debug, Drop)]
 pub struct OpenGate;
 
 impl Gate for OpenGate {

@@ -1,5 +1,5 @@
 -- Reading a file on.
-use Rattle.std.proofs.Common.{◌≡◌, ◌∙◌, ◌+◌, ◌<◌, ℕ, List, [], ◌++◌, length, take, drop, IfOk, Result, Ok, Err, Option, Some, None, refl, sym, ap, subst, append_assoc, drop_at, length-append, take-add, arith}
+use Rattle.std.proofs.Common.{◌≡◌, ◌∙◌, ◌+◌, ◌<◌, ℕ, List, [], ◌++◌, length, take, drop, IfOk, Result, Ok, Err, Option, Some, None, refl, sym, ap, subst, append_assoc, drop_at, length-append, length-take-le, take-add, ◌≤◌, arith}
 use Rattle.std.proofs.lemmas.List.{append-nil, take-append-le}
 use Rattle.std.specs.Io.{ReadsAtMost}
 use Rattle.std.specs.Io.KnownBytes.{Consumes, IsAtEnd, ReadConsumes}
@@ -22,10 +22,11 @@ read_whole (Some files) name (Some rest) done h e =
     let none : h.0 ≡ [] = cc (h.1, e) in
     h.2 ∙ ap Some (ap (λ (t : List ℕ). done ++ t) none ∙ append-nil done)
 
--- more than that was read
-pub read_larger : (told : Option Files) (name : List ℕ) (b : Option (List ℕ)) (done : List ℕ) (most : ℕ) → IsRead told name b done → most < length done → IsLarger told name most
-read_larger None name b done most h l = tt
-read_larger (Some files) name b done most h l = (done ++ h.0, h.2, rw length-append (omega arith))
+-- a front of more bytes than that was read
+pub read_larger : (told : Option Files) (name : List ℕ) (b : Option (List ℕ)) (n most : ℕ) (xs : List ℕ) → n ≤ length xs → IsRead told name b (take n xs) → most < n → IsLarger told name most
+read_larger None name b n most xs within h l = tt
+read_larger (Some files) name b n most xs within h l =
+    (take n xs ++ h.0, h.2, rw (length-append, length-take-le n xs within) (omega (arith, l)))
 
 -- what was read into a part stands behind what is before it
 pub read_in_place : {E : Type 0} (a b : Option (List ℕ)) (r : Result ℕ E) (front part rest : List ℕ) (at : ℕ) → length front ≡ at → ReadsAtMost r part

@@ -3,11 +3,13 @@
 ghost use Rattle.std.specs.Prelude.{◌≡◌, ◌<◌, List, ℕ, Bool, Option, true, false, length, OnOk, OnErr, IsErrOf, []};
 ghost use Rattle.std.specs.Io.{ReadsAtMost};
 ghost use Rattle.std.specs.Io.KnownBytes.{ReadConsumes};
+ghost use Rattle.std.specs.Thread.{IsSync};
 ghost use Rattle.pipe_columns.specs.Causes.{HasCause};
 ghost use Rattle.pipe_io.specs.Files.{Files, HasNone, IsRead};
 ghost use Rattle.pipe_io.specs.declared.input.InputError.TheVariants as input_error;
 
 use pipe_columns::Text;
+use std::thread::Threads;
 
 /// Why an input gave nothing.
 #[derive(Debug, Drop, PartialEq, Eq)]
@@ -62,4 +64,25 @@ pub trait InputFiles {
         ensures found { IsErrOf result input_error.NoFile → ⊥ }
         ensures cause { HasCause (faults self.old) (faults self.new)
             (IsErrOf result input_error.Failed) };
+    /// Gives the next bytes of the begun file as `read` does, of which so many threads at most may
+    /// each read a part.
+    fn read_beside<H: Threads + Sync>(
+        &mut self,
+        _rt: &H,
+        _threads: usize,
+        into: &mut [u8],
+    ) -> Result<usize, InputError>
+        requires shared { IsSync H.row }
+        requires started { begun self.old ≡ true }
+        requires room { 0 < length into.old }
+        ensures told { told self.new ≡ told self.old }
+        ensures begun { begun self.new ≡ true }
+        ensures bound { ReadsAtMost result into.new }
+        ensures bytes { ReadConsumes (left self.old) (left self.new) result into.new }
+        ensures found { IsErrOf result input_error.NoFile → ⊥ }
+        ensures cause { HasCause (faults self.old) (faults self.new)
+            (IsErrOf result input_error.Failed) }
+    {
+        self.read(into)
+    }
 }

@@ -6,6 +6,7 @@ mod input;
 mod memory_files;
 mod memory_output;
 mod output;
+mod parts;
 mod piece;
 mod real_files;
 mod real_output;
@@ -19,5 +20,7 @@ pub use real_files::RealFiles;
 pub use real_output::RealOutput;
 pub use whole_file::{FileEnd, MOST_FILE_BYTES, end_of, read_begun, read_file};
 
+#[cfg(test)]
+mod parts_tests;
 #[cfg(test)]
 mod tests;

@@ -3,23 +3,25 @@
 ghost use Rattle.std.specs.Prelude.{◌≡◌, false};
 
 use crate::input::{InputError, InputFiles};
+use crate::parts::read_in_parts;
 use pipe_columns::Text;
-use std::fs::{self, Files, OpenFile};
+use std::fs::{self, File, Files};
 use std::io::{ErrorKind, Read};
 use std::marker::Model;
+use std::thread::Threads;
 
 /// The files of a runtime, and a reader for the name `-`. It tells none of their bytes. Contracts
 /// see whether one is begun, and the count of faults.
 #[derive(Drop)]
-pub struct RealFiles<'a, R: Files, S> {
+pub struct RealFiles<'a, R: Files<File = File>, S> {
     rt: &'a R,
     stdin: S,
     reads_stdin: bool,
-    file: Option<R::File>,
+    file: Option<File>,
     faults: u64,
 }
 
-impl<'a, R: Files, S> Model for RealFiles<'a, R, S> {
+impl<'a, R: Files<File = File>, S> Model for RealFiles<'a, R, S> {
     ghost use Rattle.std.specs.Prelude.{is_some, ◌||◌};
     ghost use Rattle.pipe_io.specs.RealFiles.{SystemFiles};
 
@@ -28,7 +30,7 @@ impl<'a, R: Files, S> Model for RealFiles<'a, R, S> {
     ghost view = { λ s. record { begun = s.reads_stdin || is_some s.file; faults = s.faults } };
 }
 
-impl<'a, R: Files, S: Read + Drop> RealFiles<'a, R, S> {
+impl<'a, R: Files<File = File>, S: Read + Drop> RealFiles<'a, R, S> {
     /// Nothing is begun. `stdin` is read where `-` is begun, each time from where it stands.
     pub fn new(rt: &'a R, stdin: S) -> RealFiles<'a, R, S>
         ensures idle { result.begun ≡ false }
@@ -44,7 +46,7 @@ impl<'a, R: Files, S: Read + Drop> RealFiles<'a, R, S> {
     }
 }
 
-impl<'a, R: Files, S: Read + Drop> InputFiles for RealFiles<'a, R, S> {
+impl<'a, R: Files<File = File>, S: Read + Drop> InputFiles for RealFiles<'a, R, S> {
     ghost use Rattle.std.specs.Prelude.{None};
     ghost use Rattle.pipe_io.specs.RealFiles.{begun_of, faults_of};
 
@@ -104,5 +106,19 @@ impl<'a, R: Files, S: Read + Drop> InputFiles for RealFiles<'a, R, S> {
                 }
             },
         }
+    }
+
+    fn read_beside<H: Threads + Sync>(
+        &mut self,
+        rt: &H,
+        threads: usize,
+        into: &mut [u8],
+    ) -> Result<usize, InputError> {
+        if let Some(file) = &mut self.file {
+            if let Some(count) = read_in_parts(rt, file, threads, into) {
+                return Ok(count);
+            }
+        }
+        self.read(into)
     }
 }

@@ -100,7 +100,7 @@ fn text_in_room(alloc: Global, len: usize, more: usize) -> Result<String, AllocE
     if files.begin(&name).is_err() {
         return String::from_str(alloc, "no file");
     }
-    match read_begun(&mut files, &name, room) {
+    match read_begun(&mut files, &name, room, 0) {
         Ok(bytes) => match Text::from_bytes(bytes) {
             Some(text) => String::from_str(alloc, text.as_str()),
             None => String::from_str(alloc, "no text"),

@@ -1,6 +1,6 @@
 //! A file, read whole.
 
-ghost use Rattle.std.specs.Prelude.{◌≡◌, ◌<◌, ◌≤◌, ◌^◌, ◌+◌, List, ℕ, length, IfOk, IsErrOf, Some, true, []};
+ghost use Rattle.std.specs.Prelude.{◌≡◌, ◌<◌, ◌≤◌, ◌^◌, ◌+◌, List, ℕ, length, IfOk, IsErrOf, Some, take, true, vec_len};
 ghost use Rattle.pipe_columns.specs.Causes.{HasCause};
 ghost use Rattle.pipe_io.specs.Files.{HasNone, IsLarger, IsRead, IsWhole};
 ghost use Rattle.pipe_io.specs.declared.whole_file.FileEnd.TheVariants as file_end;
@@ -59,18 +59,21 @@ pub fn read_file<I: InputFiles>(
     if let Err(error) = input.begin(name) {
         return Err(end_of(error));
     }
-    read_begun(input, name, Vec::new(alloc))
+    read_begun(input, name, Vec::new(alloc), 0)
 }
 
-/// All the bytes of the begun file, which is that of a name. They take the room that a vector has,
-/// whatever stands in it, and then more, in pieces of 64 KiB.
+/// All the bytes of the begun file, which is that of a name, where so many of them were read into the
+/// front of a vector. The others take the room that it has, whatever stands there, and then more, in
+/// pieces of 64 KiB.
 pub fn read_begun<I: InputFiles>(
     input: &mut I,
     name: &Text,
     room: Vec<u8>,
+    front: usize,
 ) -> Result<Vec<u8>, FileEnd>
     requires started { I.begun input.old ≡ true }
-    requires at_start { IsRead (I.told input.old) name.now (I.left input.old) [] }
+    requires within { front ≤ vec_len room }
+    requires read { IsRead (I.told input.old) name.now (I.left input.old) (take front room.items) }
     ensures told { I.told input.new ≡ I.told input.old }
     ensures bytes { IfOk result (λ v. IsWhole (I.told input.old) name.now v.items) }
     ensures small { IfOk result (λ v. length v.items ≤ MOST_FILE_BYTES) }
@@ -81,8 +84,11 @@ pub fn read_begun<I: InputFiles>(
         (IsErrOf result file_end.Failed) }
 {
     let mut bytes = room;
-    let mut filled = 0;
+    let mut filled = front;
     for _turn in 0..MOST_FILE_BYTES + 1 {
+        if filled > MOST_FILE_BYTES {
+            return Err(FileEnd::TooLarge);
+        }
         if make_room(&mut bytes, filled).is_err() {
             return Err(FileEnd::Memory);
         }
@@ -93,9 +99,6 @@ pub fn read_begun<I: InputFiles>(
             }
             Ok(count) => filled += count,
             Err(error) => return Err(end_of(error)),
-        }
-        if filled > MOST_FILE_BYTES {
-            return Err(FileEnd::TooLarge);
         }
     }
     Err(FileEnd::TooLarge)

@@ -105,9 +105,42 @@ fn texts_of_few_bytes_are_scanned_as_csv_reads_them(rt: HostRuntime) -> Result<(
 }
 
 #[test]
-fn so_are_they_across_32_bytes(rt: HostRuntime) -> Result<(), Fail> {
-    let front = b"abcdefghijklmnopqrstuvwxyzabc";
-    let back = b"abcdefghijklmnopqrstuvwxyzabcdefghijklmn";
+fn so_are_they_across_64_bytes(rt: HostRuntime) -> Result<(), Fail> {
+    let front = b"abcdefghijklmnopqrstuvwxyz0123456789abcdefghijklmnopqrstuvwxy";
+    let back = b"abcdefghijklmnopqrstuvwxyz0123456789abcdefghijklmnopqrstuvwxyz0123456789";
     assert!(rt; all_read_alike(rt.alloc(), front, &TEXTS[..6], back)?);
+    Ok(())
+}
+
+/// Texts at the edges of CSV: marks, ends of lines, empty lines, no end, quotes at the end, one byte, a
+/// header alone.
+const EDGES: [&[u8]; 14] = [
+    b"\xEF\xBB\xBFk,v\n1,5\n",
+    b"\xEF\xBB\xBF\xEF\xBB\xBFk,v\n",
+    b"k,v\n1,5\n",
+    b"k,v\r1,5\r",
+    b"k,v\r\n1,5\r\n",
+    b"k,v\r\n1,5\r",
+    b"k,v\n\n\r\n\r1,5\n\n",
+    b"\n\r\nk,v\n1,5",
+    b"k,v\n1,\"5\"",
+    b"k,v\n1,\"5",
+    b"k,v\n1,\"5\"\"\"\n",
+    b"k,v\n1,5\"",
+    b"k",
+    b"k,v\n",
+];
+
+#[test]
+fn texts_at_the_edges_are_scanned_as_csv_reads_them(rt: HostRuntime) -> Result<(), Fail> {
+    let alloc = rt.alloc();
+    for text in EDGES {
+        assert!(rt; reads_alike(alloc, text)?);
+    }
+    let mut wide = Vec::from_slice(alloc, b"k,v\n1,")?;
+    wide.resize(1 << 20, b'x')?;
+    assert!(rt; reads_alike(alloc, &wide)?);
+    wide.extend_from_slice(b",\"y\"\n2,3\n")?;
+    assert!(rt; reads_alike(alloc, &wide)?);
     Ok(())
 }

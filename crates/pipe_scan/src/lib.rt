@@ -1,4 +1,4 @@
-//! Records of CSV where they stand in a text: found 32 bytes at a time, and cut into pieces.
+//! Records of CSV where they stand in a text: found 64 bytes at a time, and cut into pieces.
 #![tactic(auto)]
 
 mod eight_digits;

@@ -320,6 +320,10 @@ more-at f (x ∷ xs) first each =
     ∙ sym (append_assoc (map f (range_with_len 0 first)) (f first ∷ []) xs)
     ∙ ap (λ t. t ++ xs) (sym front) ∙ rest ∙ ap (λ k. map f (range_with_len 0 k)) (omega arith)
 
--- nothing is left before any file is read
-pub kept-none : (what : Reading) (k : KeptText) → k.at ≡ record { file = 0; chunks = 0; rows = 0 } → k.text.items ≡ [] → k.starts.items ≡ [] → k.chunk ≡ 0 → k.left ≡ 0 → IsKept what k
-kept-none what k a t s c l = search rules
+-- nothing is left of no text
+pub kept-none : (what : Reading) (k : KeptText) → IsPlace what k.at → k.text.items ≡ [] → k.starts.items ≡ [] → k.chunk ≡ 0 → k.left ≡ 0 → IsKept what k
+kept-none what k at t s c l = search rules
+
+-- nor before any file
+pub kept-start : (what : Reading) (k : KeptText) → k.at ≡ record { file = 0; chunks = 0; rows = 0 } → k.text.items ≡ [] → k.starts.items ≡ [] → k.chunk ≡ 0 → k.left ≡ 0 → IsKept what k
+kept-start what k a t s c l = kept-none what k (subst (IsPlace what) (sym a) (record { files = omega arith; rows = omega arith; chunks = omega arith })) t s c l

@@ -11,14 +11,14 @@ use Rattle.pipe_csv.specs.declared.csv_error.CsvError.TheVariants as ce
 use Rattle.pipe_io.specs.Files.{Files}
 use Rattle.pipe_source.specs.CsvChunks.{CsvChunks, Stop, chunks_then, no_more, wanted_fields}
 use Rattle.pipe_source.specs.Reader.{StopsAt, given_fields, left_of, stopped}
-use Rattle.pipe_source.specs.Kept.{IsAdvanced, IsKept, IsPlace, IsReading, chunk_at, chunks_at, name_kept, piece_at, place_at, rows_kept, state_behind, state_of}
+use Rattle.pipe_source.specs.Kept.{IsAdvanced, IsGone, IsKept, IsPlace, IsReading, chunk_at, chunks_at, name_kept, piece_at, place_at, rows_kept, state_behind, state_of}
 use Rattle.pipe_source.specs.Next.{IsNext}
 use Rattle.pipe_source.specs.ReadOn.{HasReadNext, HasReadOn, state_ahead}
 use Rattle.pipe_source.specs.Rounds.{HasStop, StopsWithin}
 use Rattle.pipe_source.specs.declared.kept_text.KeptText.{KeptText}
 use Rattle.pipe_source.specs.declared.reading.Reading.{Reading}
 use Rattle.pipe_source.specs.declared.source_place.SourcePlace.{SourcePlace}
-use Rattle.pipe_source.proofs.KeptFacts.{chunk-there, chunks-given, few-chunks, kept-behind}
+use Rattle.pipe_source.proofs.KeptFacts.{chunk-there, chunks-given, few-chunks, kept-behind, kept-none}
 use Rattle.pipe_source.proofs.ReaderFacts.{behind-rows, given-fits}
 
 -- where one list is left behind some chunks, and another behind others, all are
@@ -90,6 +90,39 @@ has-read-next what told last before now count n old new reading h a few e p =
       place = place-kept what new kept;
       all = λ fewer. told-behind told what n old new h.kept a (omega (arith, many));
     }
+
+-- a text of which no row is left may go, and another without rows stand at its place
+told-gone : (told : Option Files) (what : Reading) (last : SourcePlace) (more : List DataChunk) (old new : KeptText) → IsGone old new
+    → IfSome told (λ files. left_of files (state_behind what last) ≡ chunks_then more (left_of files (state_of what old))) → IfSome told (λ files. left_of files (state_behind what last) ≡ chunks_then more (left_of files (state_of what new)))
+told-gone None what last more old new gone h = tt
+told-gone (Some files) what last more old new gone h =
+    let before = behind-rows files (state_of what old) (rw gone.over refl) in
+    let place = ap (λ (at : SourcePlace). left_of files (state_behind what at)) (sym gone.at) in
+    let after = behind-rows files (state_of what new) (rw gone.left refl) in
+    h ∙ ap (chunks_then more) (before ∙ place ∙ sym after)
+
+gone-behind : (told : Option Files) (what : Reading) (k : KeptText) → k.left ≡ 0 → IfSome told (λ files. left_of files (state_of what k) ≡ left_of files (state_behind what k.at))
+gone-behind None what k l = tt
+gone-behind (Some files) what k l = behind-rows files (state_of what k) (rw l refl)
+
+pub read-or-none : (what : Reading) (told : Option Files) (last : SourcePlace) (before now : List DataChunk) (count : ℕ) (old new : KeptText) → HasReadNext what told last before now count old → (0 < old.left → new ≡ old) → (old.left ≡ 0 → IsGone old new) → HasReadNext what told last before now count new
+read-or-none what told last before now count old new h same gone = by old.left refl where
+  by : (n : ℕ) → old.left ≡ n → HasReadNext what told last before now count new
+  by (suc n) e = subst (HasReadNext what told last before now count) (sym (same (omega (arith, e)))) h
+  by zero e =
+      let g = gone e in
+      let place : IsPlace what new.at = subst (IsPlace what) (sym g.at) h.place in
+      record {
+        kept = kept-none what new place g.text g.starts g.chunk g.left;
+        more = h.more;
+        pushed = h.pushed;
+        some = h.some;
+        few = h.few;
+        left = told-gone told what last h.more old new g h.left;
+        fit = h.fit;
+        place = place;
+        all = λ fewer. gone-behind told what new g.left;
+      }
 
 -- ---- files one after another
 

@@ -141,3 +141,12 @@ pub record IsAdvanced (size n : ℕ) (old new : KeptText) : Type 0 where
   pub file : new.at.file ≡ old.at.file
   pub chunks : new.at.chunks ≡ old.at.chunks + n
   pub rows : new.at.rows ≡ old.at.rows + (old.left - new.left)
+
+-- no row was left of a text, and none stands at its place
+pub record IsGone (old new : KeptText) : Type 0 where
+  pub over : old.left ≡ 0
+  pub at : new.at ≡ old.at
+  pub text : new.text.items ≡ []
+  pub starts : new.starts.items ≡ []
+  pub chunk : new.chunk ≡ 0
+  pub left : new.left ≡ 0

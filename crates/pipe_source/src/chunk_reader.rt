@@ -24,8 +24,8 @@ use std::marker::Model;
 use std::mem;
 use std::thread::Threads;
 
-/// The chunks of named files that are left, in an input that each call is handed. One file at a
-/// time is held whole.
+/// The chunks of named files that are left, in an input that each call is handed. The text of one
+/// file is held whole, and of a second while a call goes on into further files.
 #[derive(Drop)]
 pub struct ChunkReader {
     what: Reading,
@@ -44,26 +44,12 @@ impl Model for ChunkReader {
     ghost invariant = { λ r. IsReading r.what × IsKept r.what r.text };
 }
 
-/// Before any file is read.
-fn no_text(alloc: Global) -> KeptText
-    ensures at { result.at ≡ record { file = 0; chunks = 0; rows = 0 } }
-    ensures text { result.text.items ≡ [] }
-    ensures starts { result.starts.items ≡ [] }
-    ensures chunk { result.chunk ≡ 0 }
-    ensures left { result.left ≡ 0 }
-{
-    KeptText {
-        at: SourcePlace {
-            file: 0,
-            chunks: 0,
-            rows: 0,
-        },
-        text: Vec::new(alloc),
-        starts: Vec::new(alloc),
-        chunk: 0,
-        left: 0,
-    }
-}
+/// Before any file.
+const START: SourcePlace = SourcePlace {
+    file: 0,
+    chunks: 0,
+    rows: 0,
+};
 
 impl ChunkReader {
     /// No file is read yet.
@@ -89,7 +75,7 @@ impl ChunkReader {
                 options,
                 names,
             },
-            text: no_text(alloc),
+            text: KeptText::none(alloc, START),
             spent: Vec::new(alloc),
         }
     }
@@ -123,7 +109,7 @@ impl ChunkReader {
                 options,
                 names,
             },
-            text: no_text(alloc),
+            text: KeptText::none(alloc, START),
             spent: Vec::new(alloc),
         })
     }
@@ -184,8 +170,8 @@ impl ChunkReader {
     }
 
     /// The next chunk. A file is read whole when its first chunk is wanted, and begun only where
-    /// rows are still wanted. A refused call leaves what is left; for want of memory a text that
-    /// was read whole is kept.
+    /// rows are still wanted. A refused call leaves what is left; where memory wants for a chunk, the
+    /// text is kept.
     pub fn next_chunk<I: InputFiles>(
         &mut self,
         alloc: Global,

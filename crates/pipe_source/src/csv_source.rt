@@ -1,13 +1,13 @@
 //! A source of the chunks of named files of an input.
 
-ghost use Rattle.std.specs.Prelude.{◌≡◌, ◌<◌, ◌≤◌, codes, length, vec_len, IfErr, IfOk, IfSome, IsErrOf, OnErr};
+ghost use Rattle.std.specs.Prelude.{◌≡◌, ◌⊎◌, ◌<◌, ◌≤◌, codes, length, vec_len, IfErr, IfOk, IfSome, IsErrOf, OnErr};
 ghost use Rattle.pipe_columns.specs.Causes.{HasCause};
 ghost use Rattle.pipe_columns.specs.Chunks.{GaveFirst};
 ghost use Rattle.pipe_csv.specs.declared.csv_error.CsvError.TheVariants as csv_error;
 ghost use Rattle.pipe_source.specs.CsvChunks.{chunks_then, csv_chunks, narrowed, no_more};
 ghost use Rattle.pipe_source.specs.Reader.{StopsAt, left_of};
 ghost use Rattle.pipe_source.specs.Rounds.{StopsWithin};
-ghost use Rattle.pipe_source.specs.Source.{AreLeft};
+ghost use Rattle.pipe_source.specs.Source.{AreLeft, GivesOne};
 
 use crate::chunk_reader::ChunkReader;
 use crate::read_options::CsvReadOptions;
@@ -18,6 +18,7 @@ use std::alloc::{AllocError, Global};
 use std::thread::Threads;
 
 /// The chunks of named files of an input, one at a call.
+#[derive(Drop)]
 pub struct CsvSource<'a, I: InputFiles> {
     alloc: Global,
     input: &'a mut I,
@@ -117,10 +118,14 @@ impl<I: InputFiles> Source for CsvSource<'_, I> {
         ensures given { IfOk result (λ r. GaveFirst r
             (AreLeft (I.told self.old.input.now) self.old.reader)
             (AreLeft (I.told self.new.input.now) self.new.reader)) }
+        ensures one { IfOk result (λ r. IfSome (I.told self.old.input.now) (λ files.
+            GivesOne r (left_of files self.old.reader) (left_of files self.new.reader))) }
         ensures stopped { IfErr result (λ e. IfSome (I.told self.old.input.now)
             (λ files. StopsAt e (left_of files self.old.reader))) }
         ensures refused { OnErr result (IfSome (I.told self.old.input.now)
             (λ files. left_of files self.new.reader ≡ left_of files self.old.reader)) }
+        ensures as_before { IfErr result (λ e.
+            (e ≡ csv_error.Memory) ⊎ (self.new.reader ≡ self.old.reader)) }
         ensures told { I.told self.new.input.now ≡ I.told self.old.input.now }
         ensures cause { HasCause (I.faults self.old.input.now) (I.faults self.new.input.now)
             (IsErrOf result csv_error.Input) }

@@ -40,8 +40,8 @@ fn is_numbered(index: &Option<(Text, u32)>, given: u128, count: usize) -> bool
     }
 }
 
-/// Reads the file of a name whole, into room for about as many bytes as it has, and for one more,
-/// by which its end is seen.
+/// Reads the file of a name whole, the first of its bytes into room for about as many as it has, and
+/// for one more, by which its end is seen.
 pub(crate) fn read_text<I: InputFiles, L: Looks>(
     looks: &L,
     alloc: Global,
@@ -62,8 +62,10 @@ pub(crate) fn read_text<I: InputFiles, L: Looks>(
         return Err(end_of(error));
     }
     let bytes = input.size_hint().min(MOST_FILE_BYTES);
-    let room = looks.room(alloc, bytes + 1);
-    read_begun(input, name, room)
+    match looks.read_front(alloc, input, name, bytes + 1) {
+        Ok((room, front)) => read_begun(input, name, room, front),
+        Err(error) => Err(end_of(error)),
+    }
 }
 
 /// Reads the file of a name whole, and looks over its wanted rows.

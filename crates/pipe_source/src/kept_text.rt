@@ -1,9 +1,10 @@
 //! What a reader keeps of the file that it read last.
 
-ghost use Rattle.std.specs.Prelude.{◌≡◌, ◌≤◌, ◌<◌, ◌+◌, ◌-◌, ◌*◌, ◌^◌, length};
-ghost use Rattle.pipe_source.specs.Kept.{IsAdvanced};
+ghost use Rattle.std.specs.Prelude.{[], ◌≡◌, ◌≤◌, ◌<◌, ◌+◌, ◌-◌, ◌*◌, ◌^◌, length};
+ghost use Rattle.pipe_source.specs.Kept.{IsAdvanced, IsGone};
 
 use crate::source_place::SourcePlace;
+use std::alloc::Global;
 
 /// The text of a file, where each chunk of it begins, which chunk comes next, how many rows are
 /// left, and the place of the next one.
@@ -17,6 +18,34 @@ pub(crate) struct KeptText {
 }
 
 impl KeptText {
+    /// No text, at a place.
+    pub(crate) fn none(alloc: Global, at: SourcePlace) -> KeptText
+        ensures at { result.at ≡ at }
+        ensures text { result.text.items ≡ [] }
+        ensures starts { result.starts.items ≡ [] }
+        ensures chunk { result.chunk ≡ 0 }
+        ensures left { result.left ≡ 0 }
+    {
+        KeptText {
+            at,
+            text: Vec::new(alloc),
+            starts: Vec::new(alloc),
+            chunk: 0,
+            left: 0,
+        }
+    }
+
+    /// The same text, or none at its place where no row of it is left.
+    pub(crate) fn or_none(self, alloc: Global) -> KeptText
+        ensures kept { 0 < self.left → result ≡ self }
+        ensures gone { self.left ≡ 0 → IsGone self result }
+    {
+        if self.left > 0 {
+            return self;
+        }
+        KeptText::none(alloc, self.at)
+    }
+
     /// How many chunks are left.
     pub(crate) fn chunks_left(&self) -> usize
         requires { self.now.chunk ≤ length self.now.starts.items }

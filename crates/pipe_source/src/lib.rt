@@ -39,7 +39,11 @@ mod memory_tests;
 #[cfg(test)]
 mod piece_tests;
 #[cfg(test)]
+mod real_tests;
+#[cfg(test)]
 mod room_tests;
+#[cfg(test)]
+mod source_tests;
 #[cfg(test)]
 mod spent_tests;
 #[cfg(test)]

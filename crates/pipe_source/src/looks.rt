@@ -1,18 +1,22 @@
-//! Ways in which room is made for the text of a file and the text is looked over.
+//! Ways in which the first bytes of a file are read and its text is looked over.
 
-ghost use Rattle.std.specs.Prelude.{◌≡◌, ◌≤◌, ◌<◌, IfErr, IfOk, List, Ok, length, ⊤};
+ghost use Rattle.std.specs.Prelude.{◌≡◌, ◌≤◌, ◌<◌, [], IfErr, IfOk, IsErrOf, List, Ok, length, take, true, vec_len, ⊤};
 ghost use Rattle.std.specs.Thread.{IsSync};
+ghost use Rattle.pipe_columns.specs.Causes.{HasCause};
 ghost use Rattle.pipe_columns.specs.declared.any_value.AnyValue.{AnyValue};
 ghost use Rattle.pipe_csv.specs.CsvError.{StopsBy};
+ghost use Rattle.pipe_io.specs.Files.{IsRead};
+ghost use Rattle.pipe_io.specs.declared.input.InputError.TheVariants as input_error;
 ghost use Rattle.pipe_io.specs.declared.whole_file.TheConstants.{MOST_FILE_BYTES};
 ghost use Rattle.pipe_source.specs.CsvChunks.{text_rows};
 ghost use Rattle.pipe_source.specs.Rows.{AreRowsAt, AreStarts};
 
 use crate::look_over::look_over;
 use crate::piece_rows::{PieceSizes, look_over_pieces};
-use crate::room::room_beside;
-use pipe_columns::Field;
+use crate::room::read_front_beside;
+use pipe_columns::{Field, Text};
 use pipe_csv::CsvError;
+use pipe_io::{InputError, InputFiles};
 use pipe_scan::has_quote;
 use std::alloc::Global;
 use std::thread::Threads;
@@ -20,14 +24,32 @@ use std::thread::Threads;
 /// A text of fewer bytes isn't worth threads.
 pub(crate) const FEWEST_BYTES: usize = 1 << 20;
 
-/// Makes room for the text of a file, and looks over it.
+/// Reads the first bytes of a file, and looks over its text.
 pub(crate) trait Looks {
     /// What it rests on.
     ghost ready: { Type 0 };
 
-    /// Room for a text of about so many bytes, if it is worth making before they come.
-    fn room(&self, alloc: Global, bytes: usize) -> Vec<u8>
-        requires { ready };
+    /// Room for the text of the begun file, which is that of a name and has about so many bytes, and
+    /// how many of them were read to the front of it, where that is worth a call of its own.
+    fn read_front<I: InputFiles>(
+        &self,
+        alloc: Global,
+        input: &mut I,
+        name: &Text,
+        bytes: usize,
+    ) -> Result<(Vec<u8>, usize), InputError>
+        requires ready { ready }
+        requires started { I.begun input.old ≡ true }
+        requires at_start { IsRead (I.told input.old) name.now (I.left input.old) [] }
+        requires some { 0 < bytes }
+        ensures told { I.told input.new ≡ I.told input.old }
+        ensures begun { I.begun input.new ≡ true }
+        ensures within { IfOk result (λ r. r.1 ≤ vec_len r.0) }
+        ensures read { IfOk result (λ r.
+            IsRead (I.told input.old) name.now (I.left input.new) (take r.1 r.0.items)) }
+        ensures found { IsErrOf result input_error.NoFile → ⊥ }
+        ensures cause { HasCause (I.faults input.old) (I.faults input.new)
+            (IsErrOf result input_error.Failed) };
 
     /// Where the wanted rows of the text of a file begin, how many there are, and where each chunk
     /// of a size begins, or the first misfit.
@@ -52,15 +74,21 @@ pub(crate) trait Looks {
             (λ e. StopsBy e (text_rows file wanted fields.now text.now)) };
 }
 
-/// The caller's thread looks over a text alone.
+/// The caller's thread reads and looks over a text alone.
 #[derive(Clone, Copy, Drop)]
 pub(crate) struct Alone;
 
 impl Looks for Alone {
     ghost ready = { ⊤ };
 
-    fn room(&self, alloc: Global, _bytes: usize) -> Vec<u8> {
-        Vec::new(alloc)
+    fn read_front<I: InputFiles>(
+        &self,
+        alloc: Global,
+        _input: &mut I,
+        _name: &Text,
+        _bytes: usize,
+    ) -> Result<(Vec<u8>, usize), InputError> {
+        Ok((Vec::new(alloc), 0))
     }
 
     fn look(
@@ -76,8 +104,8 @@ impl Looks for Alone {
     }
 }
 
-/// So many threads look over pieces of a text that has no fewer bytes than that, where its front has no
-/// quote and all its rows are wanted. Where a row doesn't fit or a piece has a quote, the caller's thread
+/// So many threads read a file that has no fewer bytes than that, in parts, and look over pieces of its
+/// text, where its front has no quote and all its rows are wanted. Where a row doesn't fit or a piece has a quote, the caller's thread
 /// looks over the text again, alone.
 #[derive(Drop)]
 pub(crate) struct SideBySide<'a, H: Threads + Sync> {
@@ -89,13 +117,17 @@ pub(crate) struct SideBySide<'a, H: Threads + Sync> {
 impl<H: Threads + Sync> Looks for SideBySide<'_, H> {
     ghost ready = { IsSync H.row };
 
-    fn room(&self, alloc: Global, bytes: usize) -> Vec<u8> {
+    fn read_front<I: InputFiles>(
+        &self,
+        alloc: Global,
+        input: &mut I,
+        name: &Text,
+        bytes: usize,
+    ) -> Result<(Vec<u8>, usize), InputError> {
         if self.threads > 1 && bytes >= self.fewest {
-            if let Ok(room) = room_beside(self.rt, alloc, bytes, self.threads) {
-                return room;
-            }
+            return read_front_beside(self.rt, alloc, input, name, bytes, self.threads);
         }
-        Vec::new(alloc)
+        Ok((Vec::new(alloc), 0))
     }
 
     fn look(

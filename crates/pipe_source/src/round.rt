@@ -153,7 +153,7 @@ impl Reading {
     }
 
     /// Adds chunks of the next file behind a place, so many in all at most, and tells what is left
-    /// of its text, if there is one.
+    /// of its text, if there is one. A text of which no row is left is let go.
     fn read_next<I: InputFiles, H: Threads + Sync>(
         &self,
         rt: &H,
@@ -195,7 +195,7 @@ impl Reading {
             return Err(CsvError::Memory);
         }
         text.advance(some, self.options.chunk_size);
-        Ok(Some(text))
+        Ok(Some(text.or_none(alloc)))
     }
 
     /// Adds chunks of the files behind a place, so many in all at most, and tells what is left of

@@ -35,6 +35,30 @@ pub(crate) fn memory_files(
     Ok(MemoryFiles::new(held, Vec::from_slice(alloc, failing)?))
 }
 
+/// The schema of a key and a value.
+pub(crate) fn key_and_value(alloc: Global) -> Result<Schema, AllocError> {
+    let key = Field {
+        name: Text::new(alloc, "k")?,
+        dtype: DataType::Int64,
+    };
+    let value = Field {
+        name: Text::new(alloc, "v")?,
+        dtype: DataType::Int64,
+    };
+    Ok(Schema::new(vec![in alloc; key, value]?))
+}
+
+/// Some names.
+pub(crate) fn texts_of(alloc: Global, names: &[&str]) -> Result<Vec<Text>, AllocError> {
+    let mut texts = Vec::new(alloc);
+    for name in names {
+        if texts.push(Text::new(alloc, name)?).is_err() {
+            return Err(AllocError);
+        }
+    }
+    Ok(texts)
+}
+
 /// A reader of files of a key and a value.
 pub(crate) fn reader_of(
     alloc: Global,
@@ -44,21 +68,8 @@ pub(crate) fn reader_of(
     if options.chunk_size == 0 {
         return Ok(None);
     }
-    let mut texts = Vec::new(alloc);
-    for name in names {
-        if texts.push(Text::new(alloc, name)?).is_err() {
-            return Err(AllocError);
-        }
-    }
-    let key = Field {
-        name: Text::new(alloc, "k")?,
-        dtype: DataType::Int64,
-    };
-    let value = Field {
-        name: Text::new(alloc, "v")?,
-        dtype: DataType::Int64,
-    };
-    let schema = Schema::new(vec![in alloc; key, value]?);
+    let texts = texts_of(alloc, names)?;
+    let schema = key_and_value(alloc)?;
     Ok(Some(ChunkReader::new(alloc, texts, schema, options)))
 }
 
@@ -68,19 +79,11 @@ fn reader_of_columns(
     options: CsvReadOptions,
     wanted: &[bool],
 ) -> Result<Option<ChunkReader>, AllocError> {
-    if options.chunk_size == 0 || wanted.len() > 2 {
+    let schema = key_and_value(alloc)?;
+    if options.chunk_size == 0 || wanted.len() > schema.fields().len() {
         return Ok(None);
     }
-    let names = vec![in alloc; Text::new(alloc, "a")?]?;
-    let key = Field {
-        name: Text::new(alloc, "k")?,
-        dtype: DataType::Int64,
-    };
-    let value = Field {
-        name: Text::new(alloc, "v")?,
-        dtype: DataType::Int64,
-    };
-    let schema = Schema::new(vec![in alloc; key, value]?);
+    let names = texts_of(alloc, &["a"])?;
     let wanted = Vec::from_slice(alloc, wanted)?;
     match ChunkReader::of_columns(alloc, names, schema, options, wanted) {
         Ok(reader) => Ok(Some(reader)),

@@ -7,8 +7,8 @@ use Rattle.pipe_exprs.specs.Operands.{node_types}
 use Rattle.pipe_exprs.proofs.OperandFacts.{row_wise-read, typed-read}
 use Rattle.pipe_exprs.proofs.evaluate_tests.evaluated.Goals as goal
 
-pub evaluate-requires : goal.evaluate-requires
-evaluate-requires c =
+pub column_of-requires : goal.column_of-requires
+column_of-requires c =
     let types : List (Option DataType) = c.deref-2.result.now in
     let made : types ≡ node_types c.args.arena.now c.args.chunk.now.frame.columns = c.deref-2.ensures.value ∙ c.in_ok-types.ensures ∙ ap (node_types c.args.arena.now) c.columns.ensures.columns in
     let lookup = c.in-Some-Some.ensures.lookup in

@@ -1,6 +1,5 @@
 use Rattle.std.proofs.Common.{◌≡◌, ◌≤◌, length, take, true}
 use Rattle.pipe_io.specs.Files.{IsRead}
-use Rattle.pipe_io.specs.declared.whole_file.TheConstants.{MOST_FILE_BYTES}
 use Rattle.pipe_io.proofs.whole_file.read_begun.Given as goal
 
 -- the bytes so far were read, and more may be left
@@ -14,5 +13,4 @@ invariant-loop-turn g l =
       within : l.filled ≤ length l.bytes.items;
       read : IsRead (input.told l.fn.input) l.fn.name (input.left l.input) (take l.filled l.bytes.items);
       turns : l._turn ≤ l.filled;
-      small : l.filled ≤ MOST_FILE_BYTES;
     }

@@ -1,12 +1,18 @@
 use Rattle.std.proofs.Common.{◌≡◌, ◌∙◌, ◌++◌, ◌-◌, ap, length, min, rules}
-use Rattle.pipe_source.proofs.RoundFacts.{has-read-next}
+use Rattle.pipe_source.specs.ReadOn.{HasReadNext}
+use Rattle.pipe_source.proofs.RoundFacts.{has-read-next, read-or-none}
 use Rattle.pipe_source.proofs.reading.Reading.read_next.Goals as goal
 
 pub returns-clause-read : goal.returns-clause-read
 returns-clause-read g c =
+    let what = c.args.self.now in
+    let told = g.I.InputFiles.told c.args.input.now in
+    let before = c.args.chunks.now.items in
+    let now = c.push_all.new.chunks.items in
+    let text = c.in-Ok-Some.text in
     let found = rw c.in-Ok-Some.field-0-is at c.in-Ok-Some.ensures.found in
-    let added : c.push_all.new.chunks.items ≡ c.args.chunks.now.items ++ c.in-Ok.more.items = search rules in
-    let pushed = added ∙ ap (λ t. c.args.chunks.now.items ++ t) c.in-Ok.ensures in
-    let some : c.min-some.result ≡ min (length c.in-Ok-Some.text.starts.items - c.in-Ok-Some.text.chunk) (c.args.count - length c.args.chunks.now.items) = search rules in
-    has-read-next c.args.self.now (g.I.InputFiles.told c.args.input.now) c.args.last c.args.chunks.now.items c.push_all.new.chunks.items c.args.count c.min-some.result c.in-Ok-Some.text c.advance.new.self
-    c.requires.reading found c.advance.ensures c.requires.some some pushed
+    let added : now ≡ before ++ c.in-Ok.more.items = search rules in
+    let pushed = added ∙ ap (λ t. before ++ t) c.in-Ok.ensures in
+    let some : c.min-some.result ≡ min (length text.starts.items - text.chunk) (c.args.count - length before) = search rules in
+    let read : HasReadNext what told c.args.last before now c.args.count c.advance.new.self = has-read-next what told c.args.last before now c.args.count c.min-some.result text c.advance.new.self c.requires.reading found c.advance.ensures c.requires.some some pushed in
+    read-or-none what told c.args.last before now c.args.count c.advance.new.self c.or_none.result read c.or_none.ensures.kept c.or_none.ensures.gone

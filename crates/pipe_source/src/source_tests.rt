@@ -1,0 +1,139 @@
+//! A source over two files, by single calls and by rounds, whichever input call fails.
+
+use crate::csv_source::CsvSource;
+use crate::read_options::CsvReadOptions;
+use crate::tests::{TWO_FILES, key_and_value, memory_files, numbered, plain, show_chunk, texts_of};
+use pipe_columns::{DataChunk, Source, SourceResult};
+use pipe_csv::CsvError;
+use pipe_io::InputFiles;
+use std::alloc::{AllocError, Global};
+use std::fmt::Write;
+use std::test::Fail;
+use std::thread::Threads;
+
+/// The rows of both files in chunks of two, numbered and under their file's name, of which three are wanted.
+const THREE_ROWS: &str = "[0 i 0 1 k 1 2 v 5 6 p a.csv a.csv][1 i 2 k 1 v 7 p b.csv]csv";
+
+/// Their values in chunks of one, and which files these are.
+const FOUR_VALUES: &str = "[0 v 5][1 v 6][2 v 7][3 v 9]";
+
+/// Adds what some chunks show.
+fn show_chunks(shown: &mut String, chunks: &[DataChunk]) -> Result<(), AllocError> {
+    for chunk in chunks {
+        show_chunk(shown, chunk)?;
+    }
+    Ok(())
+}
+
+/// All that a source gives by single calls, and its name; an input that failed is asked again.
+fn by_calls<I: InputFiles>(alloc: Global, source: CsvSource<'_, I>) -> Result<String, AllocError> {
+    let mut source = source;
+    let mut shown = String::new(alloc);
+    for _ in 0..100 {
+        match source.get_batches() {
+            Ok(SourceResult::GotMoreData(chunks)) => show_chunks(&mut shown, &chunks)?,
+            Ok(SourceResult::Finished) => {
+                write!(shown, "{}", source.fmt())?;
+                return Ok(shown);
+            }
+            Err(CsvError::Input) => {}
+            Err(CsvError::Memory) => return Err(AllocError),
+            Err(error) => {
+                write!(shown, "{error:?}")?;
+                return Ok(shown);
+            }
+        }
+    }
+    Ok(shown)
+}
+
+/// All that a source gives in rounds of so many chunks.
+fn by_rounds<I: InputFiles, H: Threads + Sync>(
+    rt: &H,
+    alloc: Global,
+    source: CsvSource<'_, I>,
+    count: usize,
+) -> Result<String, AllocError> {
+    let mut source = source;
+    let mut shown = String::new(alloc);
+    for _ in 0..100 {
+        match source.get_round(rt, count, 2) {
+            Ok(chunks) => {
+                show_chunks(&mut shown, &chunks)?;
+                if chunks.len() < count {
+                    return Ok(shown);
+                }
+            }
+            Err(CsvError::Input) => {}
+            Err(_) => return Err(AllocError),
+        }
+    }
+    Ok(shown)
+}
+
+/// All that a source over two files gives by single calls, where some input calls fail.
+fn shown_by_calls(
+    alloc: Global,
+    files: &[(&str, &str)],
+    failing: &[u64],
+    options: CsvReadOptions,
+) -> Result<String, Fail> {
+    if options.chunk_size == 0 {
+        return Err("no chunk".into());
+    }
+    let mut input = memory_files(alloc, files, failing)?;
+    let names = texts_of(alloc, &["a.csv", "b.csv"])?;
+    let schema = key_and_value(alloc)?;
+    let source = CsvSource::new(alloc, &mut input, names, schema, options);
+    Ok(by_calls(alloc, source)?)
+}
+
+/// The same of some columns, in rounds of so many chunks.
+fn shown_by_rounds<H: Threads + Sync>(
+    rt: &H,
+    alloc: Global,
+    failing: &[u64],
+    options: CsvReadOptions,
+    wanted: &[bool],
+    count: usize,
+) -> Result<String, Fail> {
+    let schema = key_and_value(alloc)?;
+    if options.chunk_size == 0 || wanted.len() > schema.fields().len() {
+        return Err("no chunk".into());
+    }
+    let mut input = memory_files(alloc, &TWO_FILES, failing)?;
+    let names = texts_of(alloc, &["a.csv", "b.csv"])?;
+    let wanted = Vec::from_slice(alloc, wanted)?;
+    let source = CsvSource::of_columns(alloc, &mut input, names, schema, options, wanted)?;
+    Ok(by_rounds(rt, alloc, source, count)?)
+}
+
+#[test]
+fn single_calls_give_three_rows_of_two_files(rt: HostRuntime) -> Result<(), Fail> {
+    let alloc = rt.alloc();
+    for failing in 0..8 {
+        let shown = shown_by_calls(alloc, &TWO_FILES, &[failing], numbered(alloc)?)?;
+        assert!(rt; shown.as_str() == THREE_ROWS, "{failing}");
+    }
+    Ok(())
+}
+
+#[test]
+fn rounds_give_the_values_of_two_files(rt: HostRuntime) -> Result<(), Fail> {
+    let alloc = rt.alloc();
+    for count in 1..6 {
+        for failing in 0..8 {
+            let shown = shown_by_rounds(&rt, alloc, &[failing], plain(1, None), &[false], count)?;
+            assert!(rt; shown.as_str() == FOUR_VALUES, "{count} {failing}");
+        }
+    }
+    Ok(())
+}
+
+#[test]
+fn a_file_that_does_not_fit_gives_no_row(rt: HostRuntime) -> Result<(), Fail> {
+    let files = [("a.csv", "k,v\n1,5\n"), ("b.csv", "k,v\n2,6\n3,x\n")];
+    let shown = shown_by_calls(rt.alloc(), &files, &[], plain(1, None))?;
+    assert!(rt; shown.as_str() == "[0 k 1 v 5]Field { file: 2, row: 2, column: 2 }");
+    Ok(())
+}
