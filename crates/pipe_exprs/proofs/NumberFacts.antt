@@ -74,6 +74,22 @@ short dt.Int128 z i u h = cc
 short dt.Date z i u h = cc
 short dt.String z i u h = cc
 
+-- numbers of any integer type
+pub number_short : (t : DataType) (z : ℤ) → is_integer t ≡ true → fits_number z t ≡ true → unsigned_abs z ≤ 2 ^ 64
+number_short dt.Boolean z i h = cc
+number_short dt.Int8 z i h = omega (arith, short dt.Int8 z i refl h)
+number_short dt.Int16 z i h = omega (arith, short dt.Int16 z i refl h)
+number_short dt.Int32 z i h = omega (arith, short dt.Int32 z i refl h)
+number_short dt.Int64 z i h = omega (arith, short dt.Int64 z i refl h)
+number_short dt.UInt8 z i h = omega (arith, short dt.UInt8 z i refl h)
+number_short dt.UInt16 z i h = omega (arith, short dt.UInt16 z i refl h)
+number_short dt.UInt32 z i h = omega (arith, short dt.UInt32 z i refl h)
+number_short dt.UInt64 (pos k) i h = grind arith
+number_short dt.UInt64 (negsuc k) i h = cc
+number_short dt.Int128 z i h = cc
+number_short dt.Date z i h = cc
+number_short dt.String z i h = cc
+
 -- their product is one of 128 bits
 pub product_is : (t : DataType) (a b : ℤ) → is_integer t ≡ true → same_type t dt.UInt64 ≡ false → fits_number a t ≡ true → fits_number b t ≡ true → FitsSigned w128 a → FitsSigned w128 b
     → to_z w128 (of_z w128 (to_z w128 (of_z w128 a) *ℤ to_z w128 (of_z w128 b))) ≡ a *ℤ b

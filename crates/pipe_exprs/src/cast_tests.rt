@@ -126,16 +126,16 @@ const OF_DATE: [Cast; 9] = [
 ];
 
 /// The types of numbers, and the casts of each.
-const TABLES: [(DataType, [Cast; 9]); 9] = [
-    (DataType::Int8, OF_INT8),
-    (DataType::Int16, OF_INT16),
-    (DataType::Int32, OF_INT32),
-    (DataType::Int64, OF_INT64),
-    (DataType::UInt8, OF_UINT8),
-    (DataType::UInt16, OF_UINT16),
-    (DataType::UInt32, OF_UINT32),
-    (DataType::UInt64, OF_UINT64),
-    (DataType::Date, OF_DATE),
+const TABLES: [(DataType, &[Cast]); 9] = [
+    (DataType::Int8, &OF_INT8),
+    (DataType::Int16, &OF_INT16),
+    (DataType::Int32, &OF_INT32),
+    (DataType::Int64, &OF_INT64),
+    (DataType::UInt8, &OF_UINT8),
+    (DataType::UInt16, &OF_UINT16),
+    (DataType::UInt32, &OF_UINT32),
+    (DataType::UInt64, &OF_UINT64),
+    (DataType::Date, &OF_DATE),
 ];
 
 /// Asks that numbers of a type become what is said in others.

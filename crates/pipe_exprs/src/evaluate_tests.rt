@@ -91,14 +91,19 @@ fn evaluated(alloc: Global, arena: &Arena, node: usize, chunk: &DataChunk) -> Re
     }
 }
 
-/// The only value of a node over a chunk of one row.
-fn only_value(alloc: Global, arena: &Arena, node: usize) -> Result<AnyValue, Fail> {
-    let chunk = chunk_of(alloc, DataType::Int8, false, &[0])?;
-    let column = evaluated(alloc, arena, node, &chunk)?;
+/// The first value of a column.
+fn first_value(alloc: Global, column: &Column) -> Result<AnyValue, Fail> {
     match column.values().first() {
         Some(value) => Ok(value.try_clone(alloc)?),
         None => Err("no row".into()),
     }
+}
+
+/// The only value of a node over a chunk of one row.
+fn only_value(alloc: Global, arena: &Arena, node: usize) -> Result<AnyValue, Fail> {
+    let chunk = chunk_of(alloc, DataType::Int8, false, &[0])?;
+    let column = evaluated(alloc, arena, node, &chunk)?;
+    first_value(alloc, &column)
 }
 
 /// Whether an operator makes a wanted value of two values of a type.
@@ -271,17 +276,36 @@ fn doubled_arena(alloc: Global) -> Result<Arena, Fail> {
     Ok(arena)
 }
 
-#[test]
-fn shared_nodes_once(rt: HostRuntime) -> Result<(), Fail> {
-    let alloc = rt.alloc();
-    let arena = doubled_arena(alloc)?;
-    let chunk = chunk_of(alloc, DataType::Int64, false, &[1, 3])?;
-    for (node, first) in [(62, 4611686018427387904), (64, 0)] {
-        let column = evaluated(alloc, &arena, node, &chunk)?;
-        let is = column.values().first() == Some(&AnyValue::Int(first));
+/// Whether the column of a node begins with a number.
+fn begins_with(
+    alloc: Global,
+    arena: &Arena,
+    node: usize,
+    chunk: &DataChunk,
+    number: i128,
+) -> Result<bool, Fail> {
+    let column = evaluated(alloc, arena, node, chunk)?;
+    Ok(column.values().first() == Some(&AnyValue::Int(number)))
+}
+
+/// Asks that nodes of a doubled column begin with these numbers.
+fn check_doubled(
+    rt: &(impl Abort + Alloc<A = Global>),
+    arena: &Arena,
+    chunk: &DataChunk,
+) -> Result<(), Fail> {
+    for (node, first) in &[(62, 4611686018427387904), (64, 0)] {
+        let is = begins_with(rt.alloc(), arena, *node, chunk, *first)?;
         assert!(rt; is, "at {node}");
     }
     Ok(())
+}
+
+#[test]
+fn shared_nodes_once(rt: HostRuntime) -> Result<(), Fail> {
+    let arena = doubled_arena(rt.alloc())?;
+    let chunk = chunk_of(rt.alloc(), DataType::Int64, false, &[1, 3])?;
+    check_doubled(&rt, &arena, &chunk)
 }
 
 /// A column, it under another name, and its sum with itself: nodes 0 to 2.
@@ -293,19 +317,38 @@ fn named_arena(alloc: Global) -> Result<Arena, Fail> {
     Ok(arena)
 }
 
-#[test]
-fn flags(rt: HostRuntime) -> Result<(), Fail> {
-    let alloc = rt.alloc();
-    let arena = named_arena(alloc)?;
-    let chunk = chunk_of(alloc, DataType::Int8, true, &[1, 2])?;
-    for (node, name, sorted, last) in [(0, "v", true, 2), (1, "w", true, 2), (2, "v", false, 4)] {
-        let column = evaluated(alloc, &arena, node, &chunk)?;
-        let is = column.name().as_str() == name
-            && column.sorted() == sorted
-            && column.values().last() == Some(&AnyValue::Int(last));
-        assert!(rt; is, "at {node}");
+/// Whether a column has this name and this flag, and ends with a number.
+fn is_flagged(column: &Column, name: &str, sorted: bool, last: i128) -> bool {
+    column.name().as_str() == name
+        && column.sorted() == sorted
+        && column.values().last() == Some(&AnyValue::Int(last))
+}
+
+/// Asks that the columns of the nodes over a sorted chunk have these names and flags.
+fn check_flags(
+    rt: &(impl Abort + Alloc<A = Global>),
+    arena: &Arena,
+    chunk: &DataChunk,
+) -> Result<(), Fail> {
+    for (node, name, sorted, last) in &[(0, "v", true, 2), (1, "w", true, 2), (2, "v", false, 4)] {
+        let column = evaluated(rt.alloc(), arena, *node, chunk)?;
+        assert!(rt; is_flagged(&column, name, *sorted, *last), "at {node}");
     }
     Ok(())
+}
+
+#[test]
+fn flags(rt: HostRuntime) -> Result<(), Fail> {
+    let arena = named_arena(rt.alloc())?;
+    let chunk = chunk_of(rt.alloc(), DataType::Int8, true, &[1, 2])?;
+    check_flags(&rt, &arena, &chunk)
+}
+
+/// Whether a column has two rows, the first of them null, under this name.
+fn is_of_two_nulls(column: &Column, name: &str) -> bool {
+    column.name().as_str() == name
+        && column.values().len() == 2
+        && column.values().first() == Some(&AnyValue::Null)
 }
 
 #[test]
@@ -313,8 +356,6 @@ fn counts(rt: HostRuntime) -> Result<(), Fail> {
     let alloc = rt.alloc();
     let chunk = chunk_of(alloc, DataType::Int8, true, &[1, 2])?;
     let nulls = Len.evaluate(alloc, &chunk)?;
-    assert!(rt; nulls.name().as_str() == "len");
-    assert!(rt; nulls.values().len() == 2);
-    assert!(rt; nulls.values().first() == Some(&AnyValue::Null));
+    assert!(rt; is_of_two_nulls(&nulls, "len"));
     Ok(())
 }

@@ -151,42 +151,51 @@ const TRUTHS: [Truths; 9] = [
     (None, None, None, None),
 ];
 
-/// Asks that each operator makes of two numbers of a type what their row says.
-fn check_row(rt: &(impl Abort + Alloc<A = Global>), dtype: DataType, row: Row) -> Result<(), Fail> {
-    let (a, b, (sum, difference, product), division, order) = row;
-    let (quotient, rest) = match division {
-        Some((quotient, rest)) => (Some(quotient), Some(rest)),
-        None => (None, None),
-    };
-    for (op, want) in [
+/// Asks that an operator makes a value of two numbers of a type.
+fn check_operator(
+    rt: &(impl Abort + Alloc<A = Global>),
+    op: Operator,
+    dtype: DataType,
+    (a, b): (i128, i128),
+    want: AnyValue,
+) -> Result<(), Fail> {
+    let (left, right) = (AnyValue::Int(a), AnyValue::Int(b));
+    let is = makes(rt.alloc(), op, dtype, left, right, want)?;
+    assert!(rt; is, "{op:?} of {a} and {b} of {dtype:?}");
+    Ok(())
+}
+
+/// Asks that arithmetic makes of two numbers of a type what their row says.
+fn check_arithmetic(
+    rt: &(impl Abort + Alloc<A = Global>),
+    dtype: DataType,
+    row: &Row,
+) -> Result<(), Fail> {
+    let (a, b, (sum, difference, product), division, _) = *row;
+    for (op, want) in &[
         (Operator::Plus, Some(sum)),
         (Operator::Minus, Some(difference)),
         (Operator::Multiply, Some(product)),
-        (Operator::FloorDivide, quotient),
-        (Operator::Modulus, rest),
+        (
+            Operator::FloorDivide,
+            division.map(|(quotient, _)| quotient),
+        ),
+        (Operator::Modulus, division.map(|(_, rest)| rest)),
     ] {
-        let want = number(want);
-        let is = makes(
-            rt.alloc(),
-            op,
-            dtype,
-            AnyValue::Int(a),
-            AnyValue::Int(b),
-            want,
-        )?;
-        assert!(rt; is, "{op:?} of {a} and {b} of {dtype:?}");
+        check_operator(rt, *op, dtype, (a, b), number(*want))?;
     }
+    Ok(())
+}
+
+/// Asks that two numbers of a type compare as their row says.
+fn check_order(
+    rt: &(impl Abort + Alloc<A = Global>),
+    dtype: DataType,
+    row: &Row,
+) -> Result<(), Fail> {
+    let (a, b, _, _, order) = *row;
     for (op, want) in COMPARISONS.iter().zip(order) {
-        let want = AnyValue::Boolean(want);
-        let is = makes(
-            rt.alloc(),
-            *op,
-            dtype,
-            AnyValue::Int(a),
-            AnyValue::Int(b),
-            want,
-        )?;
-        assert!(rt; is, "{op:?} of {a} and {b} of {dtype:?}");
+        check_operator(rt, *op, dtype, (a, b), AnyValue::Boolean(want))?;
     }
     Ok(())
 }
@@ -205,19 +214,39 @@ const OPERATORS: [Operator; 11] = [
     Operator::GtEq,
 ];
 
+/// Whether an operator makes null of two values of a type.
+fn makes_null(
+    alloc: Global,
+    op: Operator,
+    dtype: DataType,
+    a: AnyValue,
+    b: AnyValue,
+) -> Result<bool, Fail> {
+    makes(alloc, op, dtype, a, b, AnyValue::Null)
+}
+
+/// Asks that an operator makes null of a number of a type, or a null, and a null.
+fn check_null(
+    rt: &(impl Abort + Alloc<A = Global>),
+    op: Operator,
+    dtype: DataType,
+    a: Option<i128>,
+) -> Result<(), Fail> {
+    let left = makes_null(rt.alloc(), op, dtype, number(a), AnyValue::Null)?;
+    assert!(rt; left, "{op:?} of {a:?} and null of {dtype:?}");
+    let right = makes_null(rt.alloc(), op, dtype, AnyValue::Null, number(a))?;
+    assert!(rt; right, "{op:?} of null and {a:?} of {dtype:?}");
+    Ok(())
+}
+
 /// Asks that each operator makes null of a number of a type, or a null, and a null.
 fn check_nulls(
     rt: &(impl Abort + Alloc<A = Global>),
     dtype: DataType,
     a: Option<i128>,
 ) -> Result<(), Fail> {
-    for op in OPERATORS {
-        let null = AnyValue::Null;
-        let left = makes(rt.alloc(), op, dtype, number(a), AnyValue::Null, null)?;
-        assert!(rt; left, "{op:?} of {a:?} and null of {dtype:?}");
-        let null = AnyValue::Null;
-        let right = makes(rt.alloc(), op, dtype, AnyValue::Null, number(a), null)?;
-        assert!(rt; right, "{op:?} of null and {a:?} of {dtype:?}");
+    for op in &OPERATORS {
+        check_null(rt, *op, dtype, a)?;
     }
     Ok(())
 }
@@ -231,7 +260,8 @@ fn operators_at_the_edges(rt: HostRuntime) -> Result<(), Fail> {
         (DataType::UInt64, UINT64.as_slice()),
     ] {
         for row in rows {
-            check_row(&rt, dtype, *row)?;
+            check_arithmetic(&rt, dtype, row)?;
+            check_order(&rt, dtype, row)?;
         }
     }
     Ok(())
@@ -260,14 +290,25 @@ fn truth(value: Option<bool>) -> AnyValue {
     }
 }
 
+/// Asks that an operator makes a truth of two truths, each of them perhaps null.
+fn check_logic(
+    rt: &(impl Abort + Alloc<A = Global>),
+    op: Operator,
+    a: Option<bool>,
+    b: Option<bool>,
+    want: Option<bool>,
+) -> Result<(), Fail> {
+    let dtype = DataType::Boolean;
+    let is = makes(rt.alloc(), op, dtype, truth(a), truth(b), truth(want))?;
+    assert!(rt; is, "{op:?} of {a:?} and {b:?}");
+    Ok(())
+}
+
 #[test]
 fn logic_of_three_truths(rt: HostRuntime) -> Result<(), Fail> {
-    for (a, b, both, either) in TRUTHS {
-        for (op, want) in [(Operator::And, both), (Operator::Or, either)] {
-            let dtype = DataType::Boolean;
-            let is = makes(rt.alloc(), op, dtype, truth(a), truth(b), truth(want))?;
-            assert!(rt; is, "{op:?} of {a:?} and {b:?}");
-        }
+    for (a, b, both, either) in &TRUTHS {
+        check_logic(&rt, Operator::And, *a, *b, *both)?;
+        check_logic(&rt, Operator::Or, *a, *b, *either)?;
     }
     Ok(())
 }

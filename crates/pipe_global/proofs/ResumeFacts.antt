@@ -1,8 +1,8 @@
 -- Partitions that a run takes over: one after another, and their events by partition and by worker.
-use Rattle.std.proofs.Common.{◌≡◌, ◌∙◌, ◌+◌, ◌<◌, ℕ, suc, true, List, [], ◌∷◌, ◌++◌, length, sum, refl, sym, ap, subst, arith, add-one, length-append, ⊎_elim}
+use Rattle.std.proofs.Common.{◌≡◌, ◌∙◌, ◌+◌, ◌<◌, ℕ, suc, true, List, [], ◌∷◌, ◌++◌, length, sum, take, refl, sym, ap, subst, arith, add-one, length-append, ⊎_elim}
 use Rattle.std.specs.List.{count_by, slice_index_or}
 use Rattle.std.proofs.lemmas.Bool.{cases_lt}
-use Rattle.std.proofs.lemmas.List.{get_or_append_left, get_or_push}
+use Rattle.std.proofs.lemmas.List.{get_or_append_left, get_or_push, map_push, take_more}
 use Rattle.std.proofs.lemmas.List.Elements.{recursion_from_All}
 use Rattle.std.proofs.lemmas.List.Sums.{sum_by-cons}
 use Rattle.pipe_plan.specs.declared.event.PartitionEvent.{PartitionEvent}
@@ -59,6 +59,12 @@ both-counts n (s ∷ ps) each =
 -- the books of all workers say as many events as the journals hold
 pub books-are-events : (r : Run) (ps : List PartitionSeen) → AreTakenOver r ps → all_books ps r.limits.workers ≡ all_events ps
 books-are-events r ps are = sum_to-range r.limits.workers (λ w. sum (books_of ps w)) ∙ both-counts r.limits.workers ps (λ p d lt. length-book r p (slice_index_or ps p d) (are p d lt).replayed)
+
+-- one partition more
+pub books-next : (ps : List PartitionSeen) (w i : ℕ) (d : PartitionSeen) → i < length ps → books_of (take (i + 1) ps) w ≡ books_of (take i ps) w ++ slice_index_or (slice_index_or ps i d).book w 0 ∷ []
+books-next ps w i d at =
+    ap (λ (l : List PartitionSeen). books_of l w) (take_more ps i d at)
+    ∙ map_push (λ (s : PartitionSeen). slice_index_or s.book w 0) (take i ps) (slice_index_or ps i d)
 
 -- one worker more
 pub books-more : (ps : List PartitionSeen) (n : ℕ) → all_books ps (n + 1) ≡ all_books ps n + sum (books_of ps n)

@@ -103,6 +103,34 @@ fn all_shares_of<S: SpillStore + Drop, R: Naming>(
     Ok(shares)
 }
 
+/// What the table of a resumed run takes memory for: room for all partitions once they are closed,
+/// room for their locks, and the shares of all workers.
+fn memory_for<S: SpillStore + Drop, R: Naming>(
+    alloc: Global,
+    book: &mut Book<OfWorkers<R>>,
+    events: Share<OfWorkers<R>>,
+    faults: Share<OfFaults<R>>,
+    partitions: &[ClosedPartition<S>],
+    picks: &[usize],
+) -> Result<(Room<S, R>, Vec<Mutex<Partition<S, R>>>, Vec<Shares<R>>), AllocError>
+    requires run { AreTakenOver R.run partitions.now }
+    requires count { length partitions.now ≡ R.run.limits.partitions }
+    requires workers { length picks.now ≡ R.run.limits.workers }
+    requires events { (events.parts ≡ length picks.now) × (events.amount ≡ 0) }
+    requires faults { (faults.parts ≡ length picks.now) × (faults.amount ≡ 0) }
+    ensures none { IfOk result (λ r. vec_len r.1 ≡ 0) }
+    ensures room { IfOk result (λ r. length partitions.now ≤ vec_capacity r.1) }
+    ensures len { IfOk result (λ r. vec_len r.2 ≡ length picks.now) }
+    ensures shares { IfOk result (λ r. AreResumed partitions.now picks.now r.2.items) }
+    ensures total { OnOk result
+        (book.new.total ≡ book.old.total + all_books partitions.now (length picks.now)) }
+{
+    let room = Room::new(alloc, partitions.len())?;
+    let locks = room_for(alloc, partitions.len())?;
+    let shares = all_shares_of(alloc, book, events, faults, partitions, picks)?;
+    Ok((room, locks, shares))
+}
+
 /// The lock of a partition that is taken over. Its events are added to its part.
 fn lock_of<S: SpillStore + Drop, R: Naming>(
     book: &mut Book<OfPartitions<R>>,
@@ -191,13 +219,7 @@ impl<S: SpillStore + Drop, R: Naming> GlobalTable<S, R> {
             refusals,
             faults,
         } = parts;
-        let Ok(room) = Room::new(alloc, partitions.len()) else {
-            return Err((AllocError, partitions));
-        };
-        let Ok(locks) = room_for(alloc, partitions.len()) else {
-            return Err((AllocError, partitions));
-        };
-        let Ok(shares) = all_shares_of(
+        let Ok((room, locks, shares)) = memory_for(
             alloc,
             &mut books.workers,
             worker_events,

@@ -2,6 +2,7 @@
 
 use crate::{Skip, Stops, field_number, has_quote, piece_ends, skip_rows};
 use csv::ByteRecord;
+use std::alloc::{AllocError, Global};
 use std::test::Fail;
 
 /// Fields, and the numbers that they write.
@@ -24,15 +25,24 @@ const NUMBERS: [(&[u8], Option<i64>); 16] = [
     (b"1234567a", None),
 ];
 
+/// Whether a field behind other bytes is read as a number.
+fn is_read_as(
+    alloc: Global,
+    front: &[u8],
+    field: &[u8],
+    number: Option<i64>,
+) -> Result<bool, AllocError> {
+    let mut text = Vec::from_slice(alloc, front)?;
+    text.extend_from_slice(field)?;
+    Ok(field_number(&text, front.len(), text.len()) == number)
+}
+
 #[test]
 fn numbers_are_read_where_they_stand(rt: HostRuntime) -> Result<(), Fail> {
-    let alloc = rt.alloc();
-    for front in [b"".as_slice(), b"1234567,"] {
-        for (field, number) in NUMBERS {
-            let mut text = Vec::from_slice(alloc, front)?;
-            text.extend_from_slice(field)?;
-            assert_eq!(rt; field_number(&text, front.len(), text.len()), number);
-        }
+    for (field, number) in &NUMBERS {
+        let alone = is_read_as(rt.alloc(), b"", field, *number)?;
+        let behind = is_read_as(rt.alloc(), b"1234567,", field, *number)?;
+        assert!(rt; alone && behind, "{field:?}");
     }
     Ok(())
 }
@@ -47,17 +57,30 @@ const TEXTS: [(&[u8], &str, usize); 6] = [
     (b"a,b\n1", "OtherWidth(1)", 4),
 ];
 
+/// Whether rows of a text are gone over so far, up to a place.
+fn skips(
+    alloc: Global,
+    text: &[u8],
+    row: &mut ByteRecord,
+    field: &mut Vec<u8>,
+    how_far: &str,
+    at: usize,
+) -> Result<bool, AllocError> {
+    let mut stops = Stops::new(0);
+    let mut ends = [0; 2];
+    let skip = skip_rows(text, &mut stops, &mut ends, row, field, 4)?;
+    let told = format!(in alloc; "{skip:?}")?;
+    Ok(told.as_str() == how_far && stops.cursor() == at)
+}
+
 #[test]
 fn rows_of_one_width_are_gone_over(rt: HostRuntime) -> Result<(), Fail> {
     let alloc = rt.alloc();
     let mut row = ByteRecord::new(alloc);
     let mut field = Vec::new(alloc);
-    for (text, how_far, at) in TEXTS {
-        let mut stops = Stops::new(0);
-        let mut ends = [0; 2];
-        let skip = skip_rows(text, &mut stops, &mut ends, &mut row, &mut field, 4)?;
-        assert_eq!(rt; format!(in alloc; "{skip:?}")?.as_str(), how_far);
-        assert_eq!(rt; stops.cursor(), at);
+    for (text, how_far, at) in &TEXTS {
+        let is = skips(alloc, text, &mut row, &mut field, how_far, *at)?;
+        assert!(rt; is, "{text:?}");
     }
     Ok(())
 }

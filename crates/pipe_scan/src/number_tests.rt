@@ -1,6 +1,10 @@
 //! Rows of short numbers by example.
 
+ghost use Rattle.std.specs.Prelude.{◌≡◌, ◌≤◌, length, true};
+ghost use Rattle.std.specs.List.{list_all};
+
 use crate::number_rows::skip_number_rows;
+use std::process::Abort;
 use std::test::Fail;
 
 /// Rows of two fields before bytes that no row of numbers has, so many of them at most: how many are gone
@@ -40,16 +44,30 @@ fn rows_of_numbers_are_gone_over(rt: HostRuntime) -> Result<(), Fail> {
     Ok(())
 }
 
+/// Asks how many rows of one field, or of none, are gone over from a place on, and where that ends.
+fn check_from(
+    rt: &impl Abort,
+    text: &[u8],
+    at: usize,
+    numbers: &[bool],
+    most: usize,
+    want: (usize, usize),
+)
+    requires within { at ≤ length text.now }
+    requires known { list_all (λ b. b) numbers.now ≡ true }
+{
+    assert_eq!(rt; skip_number_rows(text, at, numbers, most), want);
+}
+
 #[test]
-fn rows_of_numbers_are_gone_over_from_a_place(rt: HostRuntime) -> Result<(), Fail> {
+fn rows_of_numbers_are_gone_over_from_a_place(rt: HostRuntime) {
     let text =
         b"k\n1\n22\n333\n-4\n55\n1\n22\n333\n-4\n55\n1\n22\n333\n-4\n55\n1\n22\n333\n-4\n55\n1\n22\n333\n-4\n55\n";
-    assert_eq!(rt; skip_number_rows(text, 2, &[true], 99), (21, 64));
-    assert_eq!(rt; skip_number_rows(text, 2, &[true], 7), (7, 22));
-    assert_eq!(rt; skip_number_rows(text, 2, &[], 99), (0, 2));
-    assert_eq!(rt; skip_number_rows(text, 0, &[true], 99), (0, 0));
-    assert_eq!(rt; skip_number_rows(text, 3, &[true], 99), (0, 3));
-    assert_eq!(rt; skip_number_rows(&text[..75], 11, &[true], 99), (21, 74));
-    assert_eq!(rt; skip_number_rows(&text[..74], 11, &[true], 99), (0, 11));
-    Ok(())
+    check_from(&rt, text, 2, &[true], 99, (21, 64));
+    check_from(&rt, text, 2, &[true], 7, (7, 22));
+    check_from(&rt, text, 2, &[], 99, (0, 2));
+    check_from(&rt, text, 0, &[true], 99, (0, 0));
+    check_from(&rt, text, 3, &[true], 99, (0, 3));
+    check_from(&rt, &text[..75], 11, &[true], 99, (21, 74));
+    check_from(&rt, &text[..74], 11, &[true], 99, (0, 11));
 }

@@ -2,6 +2,7 @@
 
 use crate::plain_row::skip_plain;
 use crate::{Stops, skip_plain_rows};
+use std::process::Abort;
 use std::test::Fail;
 
 /// Rows of a number and a text, how many of them are gone over, and where that ends.
@@ -28,21 +29,22 @@ fn count_of_one(text: &[u8]) -> usize {
     skip_plain_rows(text, &mut stops, &[true, false], 1)
 }
 
+/// Asks how many rows in front of a text are gone over, and where that ends.
+fn check_plain(rt: &impl Abort, text: &[u8], count: usize, at: usize) {
+    let mut stops = Stops::new(0);
+    assert_eq!(rt; skip_plain_rows(text, &mut stops, &[true, false], 4), count);
+    assert_eq!(rt; stops.cursor(), at);
+    assert!(rt; !skip_plain(text, &mut stops, &[true, false]));
+    assert_eq!(rt; stops.cursor(), at);
+    assert_eq!(rt; count_of_one(text), count.min(1));
+}
+
 #[test]
 fn plain_rows_are_gone_over(rt: HostRuntime) -> Result<(), Fail> {
-    let alloc = rt.alloc();
-    for (rows, count, at) in ROWS {
-        let mut text = Vec::from_slice(alloc, rows)?;
+    for (rows, count, at) in &ROWS {
+        let mut text = Vec::from_slice(rt.alloc(), rows)?;
         text.extend_from_slice(&OTHERS)?;
-        let mut stops = Stops::new(0);
-        assert_eq!(rt;
-            skip_plain_rows(&text, &mut stops, &[true, false], 4),
-            count
-        );
-        assert_eq!(rt; stops.cursor(), at);
-        assert!(rt; !skip_plain(&text, &mut stops, &[true, false]));
-        assert_eq!(rt; stops.cursor(), at);
-        assert_eq!(rt; count_of_one(&text), count.min(1));
+        check_plain(&rt, &text, *count, *at);
     }
     Ok(())
 }

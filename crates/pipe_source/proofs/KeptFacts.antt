@@ -1,5 +1,5 @@
 -- What a reader keeps of a text: its rows, its chunks, and what is left behind some of them.
-use Rattle.std.proofs.Common.{◌≡◌, ◌∙◌, ◌≤◌, ◌<◌, ◌+◌, ◌-◌, ◌*◌, ℕ, zero, suc, List, [], ◌∷◌, ◌++◌, length, map, take, drop, get_or, min, nat_lt, Bool, true, false, Option, Some, None, Result, Ok, Err, refl, sym, ap, arith, subst, lt_of_mul-lt-mul_right, zero-mul, add-mul, one-mul, mul-le-mul_left, append_assoc, rules}
+use Rattle.std.proofs.Common.{◌≡◌, ◌∙◌, ◌≤◌, ◌<◌, ◌+◌, ◌-◌, ◌*◌, ◌^◌, ℕ, zero, suc, List, [], ◌∷◌, ◌++◌, length, map, take, drop, get_or, min, nat_lt, Bool, true, false, Option, Some, None, Result, Ok, Err, refl, sym, ap, arith, subst, lt_of_mul-lt-mul_right, zero-mul, add-mul, one-mul, mul-le-mul_left, append_assoc, rules}
 use Rattle.std.specs.Result.{IfOk}
 use Rattle.pipe_csv.specs.declared.csv_error.CsvError.{CsvError}
 use Rattle.std.specs.List.{range_with_len}
@@ -199,6 +199,22 @@ few-chunks size left (suc n) text starts chunk false e p s h =
     let less : n * size < left = (s.each n (omega arith)).0 in
     let at_least : n * 1 ≤ n * size = mul-le-mul_left n (omega arith) in
     omega (arith, at_least)
+
+-- few rows and chunks stand before it
+pub rows-below : (what : Reading) (k : KeptText) → IsKept what k → k.at.rows ≤ 2 ^ 100
+rows-below what k kept = omega (arith, kept.files, kept.few_rows, what.names.ok.0, what.names.ok.1, what.names.small)
+
+pub chunks-below : (what : Reading) (k : KeptText) → IsKept what k → k.at.chunks ≤ 2 ^ 100
+chunks-below what k kept = omega (arith, kept.files, kept.few_chunks, what.names.ok.0, what.names.ok.1, what.names.small)
+
+-- the rows that are left of it are as many as it says
+pub no-rows : (what : Reading) (k : KeptText) → k.left ≡ 0 → rows_kept what k ≡ []
+no-rows what k e = rw e refl
+
+pub some-rows : (what : Reading) (k : KeptText) → IsKept what k → 0 < k.left → 0 < length (rows_kept what k)
+some-rows what k kept h =
+    let seen = rows-seen what.schema k.text.items (cursor_of k) k.left kept.rows kept.placed in
+    subst (λ (rows : List (List AnyValue)). 0 < length rows) (sym seen) (omega (arith, h, kept.placed.size))
 
 -- its rows behind some chunks
 placed-behind : (what : Reading) (n : ℕ) (old new : KeptText) → (k : IsKept what old) → IsAdvanced what.options.chunk_size n old new → AreRowsAt what.schema new.text.items (cursor_of new) new.left (drop (n * what.options.chunk_size) k.rows)

@@ -33,6 +33,9 @@ length-range first (suc n) = ap (λ k. suc k) (length-range (first + 1) n)
 pub length-chunks : (what : Reading) (k : KeptText) (n : ℕ) → length (chunks_at what k n) ≡ n
 length-chunks what k n = length-map (range_with_len 0 n) (chunk_at what k) ∙ length-range 0 n
 
+pub length-given : (what : Reading) (k : KeptText) (n : ℕ) (cs : List DataChunk) → cs ≡ chunks_at what k n → length cs ≡ n
+length-given what k n cs e = ap length e ∙ length-chunks what k n
+
 -- each of them has the given fields
 all-fit : (what : Reading) (k : KeptText) (ns : List ℕ) → All (λ c. FitsSchema (wanted_fields what.options what.schema what.wanted.items) c.frame) (map (chunk_at what k) ns)
 all-fit what k [] = All-nil (λ (c : DataChunk). FitsSchema (wanted_fields what.options what.schema what.wanted.items) c.frame)
@@ -223,6 +226,12 @@ place_past k = record { file = k.at.file; chunks = k.at.chunks + (length k.start
 -- so many chunks of a text are left
 pub within-all : (what : Reading) (k : KeptText) (n count : ℕ) → IsKept what k → n ≡ min (length k.starts.items - k.chunk) count → k.chunk + n ≤ length k.starts.items
 within-all what k n count kept e = omega (arith, kept.starts.within)
+
+pub within-left : (what : Reading) (k : KeptText) (left n count : ℕ) → IsKept what k → n ≡ min left count → left ≡ length k.starts.items - k.chunk → k.chunk + n ≤ length k.starts.items
+within-left what k left n count kept e l = omega (arith, kept.starts.within)
+
+pub some-left : (k : KeptText) (left n count : ℕ) → n ≡ min left count → left ≡ length k.starts.items - k.chunk → n ≡ min (length k.starts.items - k.chunk) count
+some-left k left n count e l = e ∙ ap (λ m. min m count) l
 
 -- it has few rows and chunks before it
 pub place-past : (what : Reading) (k : KeptText) → IsReading what → IsKept what k → IsPlace what (place_past k)

@@ -1,11 +1,14 @@
 //! Texts at the edges of what CSV is, each read by rounds of any size as it is by single calls.
 
 use crate::chunk_reader::ChunkReader;
-use crate::tests::{memory_files, plain, read_calls, read_rounds, reader_of};
-use pipe_columns::{AnyValue, DataType, Field, Schema, Text};
+use crate::read_options::CsvReadOptions;
+use crate::tests::{memory_files, plain, read_calls, read_rounds, reader_of, texts_of};
+use pipe_columns::{AnyValue, DataChunk, DataType, Field, Schema, Text};
 use pipe_io::MemoryFiles;
 use std::alloc::{AllocError, Global};
+use std::process::Abort;
 use std::test::Fail;
+use std::thread::Threads;
 
 /// The texts of files, and what they give in chunks of two rows of a number and a text.
 const TEXTS: [(&[&str], &str); 24] = [
@@ -65,22 +68,8 @@ const TEXTS: [(&[&str], &str); 24] = [
 /// The names of three files at most.
 const NAMES: [&str; 3] = ["a", "b", "c"];
 
-/// A reader of so many files of a number and a text.
-fn reader_of_texts(
-    alloc: Global,
-    count: usize,
-    limit: Option<usize>,
-) -> Result<Option<ChunkReader>, AllocError> {
-    let options = plain(2, limit);
-    if options.chunk_size == 0 {
-        return Ok(None);
-    }
-    let mut names = Vec::new(alloc);
-    for name in NAMES.iter().take(count) {
-        if names.push(Text::new(alloc, name)?).is_err() {
-            return Err(AllocError);
-        }
-    }
+/// The schema of a number and a text.
+fn number_and_text(alloc: Global) -> Result<Schema, AllocError> {
     let number = Field {
         name: Text::new(alloc, "n")?,
         dtype: DataType::Int64,
@@ -89,8 +78,18 @@ fn reader_of_texts(
         name: Text::new(alloc, "t")?,
         dtype: DataType::String,
     };
-    let schema = Schema::new(vec![in alloc; number, text]?);
-    Ok(Some(ChunkReader::new(alloc, names, schema, options)))
+    Ok(Schema::new(vec![in alloc; number, text]?))
+}
+
+/// A reader of so many files of a number and a text.
+fn reader_of_texts(alloc: Global, count: usize, limit: Option<usize>) -> Result<ChunkReader, Fail> {
+    let names = texts_of(alloc, &NAMES[..count.min(NAMES.len())])?;
+    let schema = number_and_text(alloc)?;
+    let options = plain(2, limit);
+    if options.chunk_size == 0 {
+        return Err("chunks of no row".into());
+    }
+    Ok(ChunkReader::new(alloc, names, schema, options))
 }
 
 /// Files of these texts.
@@ -104,21 +103,86 @@ fn files_of(alloc: Global, texts: &[&str]) -> Result<MemoryFiles, AllocError> {
     memory_files(alloc, &files, &[])
 }
 
+/// All that a reader of these texts gives by single calls.
+fn shown_of(alloc: Global, texts: &[&str], limit: Option<usize>) -> Result<String, Fail> {
+    let input = files_of(alloc, texts)?;
+    let reader = reader_of_texts(alloc, texts.len(), limit)?;
+    read_calls(alloc, reader, input)
+}
+
+/// All that it gives in rounds of so many chunks, read by two threads.
+fn shown_in_rounds<H: Threads + Sync>(
+    rt: &H,
+    alloc: Global,
+    texts: &[&str],
+    count: usize,
+) -> Result<String, Fail> {
+    let input = files_of(alloc, texts)?;
+    let reader = reader_of_texts(alloc, texts.len(), None)?;
+    read_rounds(rt, alloc, reader, input, count, 2)
+}
+
+/// What is shown is what is due.
+fn assert_shown(rt: &impl Abort, shown: &str, due: &str) {
+    assert_eq!(rt; shown, due);
+}
+
+/// Texts give what is due by single calls.
+fn assert_calls(
+    rt: &impl Abort,
+    alloc: Global,
+    texts: &[&str],
+    limit: Option<usize>,
+    due: &str,
+) -> Result<(), Fail> {
+    let shown = shown_of(alloc, texts, limit)?;
+    assert_shown(rt, shown.as_str(), due);
+    Ok(())
+}
+
+/// Texts give what is due by rounds of so many chunks.
+fn assert_rounds<H: Threads + Sync + Abort>(
+    rt: &H,
+    alloc: Global,
+    texts: &[&str],
+    count: usize,
+    due: &str,
+) -> Result<(), Fail> {
+    let shown = shown_in_rounds(rt, alloc, texts, count)?;
+    assert_shown(rt, shown.as_str(), due);
+    Ok(())
+}
+
+/// Texts give what is due, by single calls and by rounds of one chunk to three.
+fn assert_read_alike<H: Threads + Sync + Abort>(
+    rt: &H,
+    alloc: Global,
+    texts: &[&str],
+    due: &str,
+) -> Result<(), Fail> {
+    assert_calls(rt, alloc, texts, None, due)?;
+    for count in 1..4 {
+        assert_rounds(rt, alloc, texts, count, due)?;
+    }
+    Ok(())
+}
+
+/// The same of the texts of a table.
+fn assert_all_read_alike<H: Threads + Sync + Abort>(
+    rt: &H,
+    alloc: Global,
+    table: &[(&[&str], &str)],
+) -> Result<(), Fail> {
+    for row in table {
+        assert_read_alike(rt, alloc, row.0, row.1)?;
+    }
+    Ok(())
+}
+
 #[test]
 fn texts_are_read_alike_by_calls_and_by_rounds(rt: HostRuntime) -> Result<(), Fail> {
     let alloc = rt.alloc();
-    for (texts, want) in TEXTS {
-        let reader = reader_of_texts(alloc, texts.len(), None)?.ok_or("no reader")?;
-        let shown = read_calls(alloc, reader, files_of(alloc, texts)?)?;
-        assert_eq!(rt; shown.as_str(), want);
-        for count in 1..4 {
-            let reader = reader_of_texts(alloc, texts.len(), None)?.ok_or("no reader")?;
-            let input = files_of(alloc, texts)?;
-            let shown = read_rounds(&rt, alloc, reader, input, count, 2)?;
-            assert_eq!(rt; shown.as_str(), want);
-        }
-    }
-    Ok(())
+    assert_all_read_alike(&rt, alloc, &TEXTS)
 }
 
 /// Texts, how many rows are wanted, and what they give: nothing behind these is looked at.
@@ -141,10 +205,8 @@ const LIMITED: [(&[&str], usize, &str); 5] = [
 #[test]
 fn nothing_behind_the_limit_is_looked_at(rt: HostRuntime) -> Result<(), Fail> {
     let alloc = rt.alloc();
-    for (texts, limit, want) in LIMITED {
-        let reader = reader_of_texts(alloc, texts.len(), Some(limit))?.ok_or("no reader")?;
-        let shown = read_calls(alloc, reader, files_of(alloc, texts)?)?;
-        assert_eq!(rt; shown.as_str(), want);
+    for case in &LIMITED {
+        assert_calls(&rt, alloc, case.0, Some(case.1), case.2)?;
     }
     Ok(())
 }
@@ -156,15 +218,28 @@ const NUMBERED: [(&str, &str); 3] = [
     ("k,v\n1,2\n3,4\n", "TooLarge"),
 ];
 
+/// Chunks of two rows, which are numbered from the last number of 32 bits on.
+fn numbered_from_the_last(alloc: Global) -> Result<CsvReadOptions, AllocError> {
+    let name = Text::new(alloc, "i")?;
+    let mut options = plain(2, None);
+    options.row_index = Some((name, 4294967295));
+    Ok(options)
+}
+
+/// All that a reader gives of a text whose rows are so numbered.
+fn shown_from_the_last(alloc: Global, text: &str) -> Result<String, Fail> {
+    let options = numbered_from_the_last(alloc)?;
+    let reader = reader_of(alloc, &["a"], options)?;
+    let input = files_of(alloc, &[text])?;
+    read_calls(alloc, reader, input)
+}
+
 #[test]
 fn rows_have_numbers_of_32_bits(rt: HostRuntime) -> Result<(), Fail> {
     let alloc = rt.alloc();
     for (text, want) in NUMBERED {
-        let mut options = plain(2, None);
-        options.row_index = Some((Text::new(alloc, "i")?, 4294967295));
-        let reader = reader_of(alloc, &["a"], options)?.ok_or("no reader")?;
-        let shown = read_calls(alloc, reader, files_of(alloc, &[text])?)?;
-        assert_eq!(rt; shown.as_str(), want);
+        let shown = shown_from_the_last(alloc, text)?;
+        assert_shown(&rt, shown.as_str(), want);
     }
     Ok(())
 }
@@ -190,15 +265,16 @@ fn long_row(alloc: Global, count: usize) -> Result<Vec<u8>, AllocError> {
     Ok(text)
 }
 
-#[test]
-fn fields_may_have_a_megabyte(rt: HostRuntime) -> Result<(), Fail> {
-    let alloc = rt.alloc();
-    let file = (Text::new(alloc, "a")?, long_row(alloc, 1 << 20)?);
-    let mut input = MemoryFiles::new(vec![in alloc; file]?, Vec::new(alloc));
-    let mut reader = reader_of_texts(alloc, 1, None)?.ok_or("no reader")?;
-    let Ok(Some(chunk)) = reader.next_chunk(alloc, &mut input) else {
-        return Err("no chunk".into());
-    };
+/// A reader's input with one file, which has a long row.
+fn file_of_a_long_row(alloc: Global, count: usize) -> Result<MemoryFiles, AllocError> {
+    let name = Text::new(alloc, "a")?;
+    let file = (name, long_row(alloc, count)?);
+    let files = vec![in alloc; file]?;
+    Ok(MemoryFiles::new(files, Vec::new(alloc)))
+}
+
+/// How many bytes the text of a chunk has, of which the one row has the number 7.
+fn text_bytes(chunk: &DataChunk) -> Result<usize, Fail> {
     let [number, text] = chunk.frame.columns() else {
         return Err("other columns".into());
     };
@@ -208,6 +284,31 @@ fn fields_may_have_a_megabyte(rt: HostRuntime) -> Result<(), Fail> {
     let [AnyValue::Text(text)] = text.values() else {
         return Err("another text".into());
     };
-    assert!(rt; text.as_bytes().len() == 1 << 20);
+    Ok(text.as_bytes().len())
+}
+
+/// How many bytes the text of the next chunk has.
+fn next_text_bytes(
+    alloc: Global,
+    reader: &mut ChunkReader,
+    input: &mut MemoryFiles,
+) -> Result<usize, Fail> {
+    match reader.next_chunk(alloc, input) {
+        Ok(Some(chunk)) => text_bytes(&chunk),
+        _ => Err("no chunk".into()),
+    }
+}
+
+/// How many bytes the text of a long row has, where it is read.
+fn bytes_of_a_long_row(alloc: Global, count: usize) -> Result<usize, Fail> {
+    let mut input = file_of_a_long_row(alloc, count)?;
+    let mut reader = reader_of_texts(alloc, 1, None)?;
+    next_text_bytes(alloc, &mut reader, &mut input)
+}
+
+#[test]
+fn fields_may_have_a_megabyte(rt: HostRuntime) -> Result<(), Fail> {
+    let bytes = bytes_of_a_long_row(rt.alloc(), 1 << 20)?;
+    assert!(rt; bytes == 1 << 20);
     Ok(())
 }

@@ -1,10 +1,14 @@
 //! Reads that want memory: `rt try --test --fail-alloc N` refuses the allocation of number N. A
 //! call that is refused is made again, and no row is lost; then the test tells that it was refused.
 
+use crate::chunk_reader::ChunkReader;
 use crate::tests::{TWO_FILES, memory_files, numbered, reader_of};
 use pipe_columns::{AnyValue, DataChunk};
 use pipe_csv::CsvError;
+use pipe_io::MemoryFiles;
+use std::alloc::Global;
 use std::test::Fail;
+use std::thread::Threads;
 
 /// The number, the key, the value and the file's name of each row of both files that is wanted.
 const ROWS: [(i128, i128, i128, &str); 3] = [
@@ -54,35 +58,123 @@ fn has_rows(chunk: &DataChunk, before: usize) -> bool {
     true
 }
 
-/// What a test ends with, once so many rows came.
-fn judge(rows: usize, wanted_memory: bool) -> Result<(), Fail> {
-    if rows != ROWS.len() {
+/// What calls gave so far: how many rows came, and whether one wanted memory.
+#[derive(Clone, Copy, Drop)]
+struct SoFar {
+    rows: usize,
+    refused: bool,
+}
+
+/// Before any call.
+const NOTHING: SoFar = SoFar {
+    rows: 0,
+    refused: false,
+};
+
+/// What a test ends with, once all rows came.
+fn judge(so_far: SoFar) -> Result<(), Fail> {
+    if so_far.rows != ROWS.len() {
         return Err("other rows".into());
     }
-    if wanted_memory {
+    if so_far.refused {
         return Err("the reading wants memory".into());
     }
     Ok(())
+}
+
+/// A reader of both files, whose rows are numbered and under their file's name.
+fn reader_of_two_files(alloc: Global) -> Result<ChunkReader, Fail> {
+    let options = numbered(alloc)?;
+    reader_of(alloc, &["a.csv", "b.csv"], options)
+}
+
+/// Adds the rows of a chunk, which are the next ones.
+fn add_rows(so_far: &mut SoFar, chunk: &DataChunk) -> Result<(), Fail> {
+    if !has_rows(chunk, so_far.rows) {
+        return Err("rows of another chunk".into());
+    }
+    so_far.rows = so_far.rows.saturating_add(chunk.frame.height());
+    Ok(())
+}
+
+/// Adds what the next call gives; whether more may come.
+fn add_call(
+    alloc: Global,
+    reader: &mut ChunkReader,
+    input: &mut MemoryFiles,
+    so_far: &mut SoFar,
+) -> Result<bool, Fail> {
+    match reader.next_chunk(alloc, input) {
+        Ok(Some(chunk)) => {
+            add_rows(so_far, &chunk)?;
+            Ok(true)
+        }
+        Ok(None) => Ok(false),
+        Err(CsvError::Memory) => {
+            so_far.refused = true;
+            Ok(true)
+        }
+        Err(_) => Err("another answer".into()),
+    }
+}
+
+/// Makes calls until no chunk is left, and judges what came.
+fn judge_calls(
+    alloc: Global,
+    reader: &mut ChunkReader,
+    input: &mut MemoryFiles,
+) -> Result<(), Fail> {
+    let mut so_far = NOTHING;
+    for _ in 0..9 {
+        if !add_call(alloc, reader, input, &mut so_far)? {
+            return judge(so_far);
+        }
+    }
+    Err("no end".into())
 }
 
 #[test]
 fn memory_for_one_chunk_at_a_call(rt: HostRuntime) -> Result<(), Fail> {
     let alloc = rt.alloc();
     let mut input = memory_files(alloc, &TWO_FILES, &[])?;
-    let Some(mut reader) = reader_of(alloc, &["a.csv", "b.csv"], numbered(alloc)?)? else {
-        return Err("no reader".into());
-    };
-    let mut rows: usize = 0;
-    let mut refused = false;
-    for _ in 0..9 {
-        match reader.next_chunk(alloc, &mut input) {
-            Ok(Some(chunk)) => {
-                assert!(rt; has_rows(&chunk, rows));
-                rows = rows.saturating_add(chunk.frame.height());
+    let mut reader = reader_of_two_files(alloc)?;
+    judge_calls(alloc, &mut reader, &mut input)
+}
+
+/// Adds what the next round of three chunks gives; whether more may come.
+fn add_round<H: Threads + Sync>(
+    rt: &H,
+    alloc: Global,
+    reader: &mut ChunkReader,
+    input: &mut MemoryFiles,
+    so_far: &mut SoFar,
+) -> Result<bool, Fail> {
+    match reader.get_round(rt, alloc, input, 3, 2) {
+        Ok(chunks) => {
+            for chunk in &chunks {
+                add_rows(so_far, chunk)?;
             }
-            Ok(None) => return judge(rows, refused),
-            Err(CsvError::Memory) => refused = true,
-            Err(_) => return Err("another answer".into()),
+            Ok(chunks.len() >= 3)
+        }
+        Err(CsvError::Memory) => {
+            so_far.refused = true;
+            Ok(true)
+        }
+        Err(_) => Err("another answer".into()),
+    }
+}
+
+/// Makes rounds until no chunk is left, and judges what came.
+fn judge_rounds<H: Threads + Sync>(
+    rt: &H,
+    alloc: Global,
+    reader: &mut ChunkReader,
+    input: &mut MemoryFiles,
+) -> Result<(), Fail> {
+    let mut so_far = NOTHING;
+    for _ in 0..9 {
+        if !add_round(rt, alloc, reader, input, &mut so_far)? {
+            return judge(so_far);
         }
     }
     Err("no end".into())
@@ -92,25 +184,6 @@ fn memory_for_one_chunk_at_a_call(rt: HostRuntime) -> Result<(), Fail> {
 fn memory_for_rounds(rt: HostRuntime) -> Result<(), Fail> {
     let alloc = rt.alloc();
     let mut input = memory_files(alloc, &TWO_FILES, &[])?;
-    let Some(mut reader) = reader_of(alloc, &["a.csv", "b.csv"], numbered(alloc)?)? else {
-        return Err("no reader".into());
-    };
-    let mut rows: usize = 0;
-    let mut refused = false;
-    for _ in 0..9 {
-        match reader.get_round(&rt, alloc, &mut input, 3, 2) {
-            Ok(chunks) => {
-                for chunk in &chunks {
-                    assert!(rt; has_rows(chunk, rows));
-                    rows = rows.saturating_add(chunk.frame.height());
-                }
-                if chunks.len() < 3 {
-                    return judge(rows, refused);
-                }
-            }
-            Err(CsvError::Memory) => refused = true,
-            Err(_) => return Err("another answer".into()),
-        }
-    }
-    Err("no end".into())
+    let mut reader = reader_of_two_files(alloc)?;
+    judge_rounds(&rt, alloc, &mut reader, &mut input)
 }

@@ -6,7 +6,7 @@ use pipe_columns::{AnyValue, DataChunk};
 use pipe_io::{InputFiles, RealFiles};
 use std::alloc::{AllocError, Global};
 use std::fmt::Write;
-use std::fs;
+use std::fs::{self, File, Files};
 use std::test::Fail;
 use std::thread::Threads;
 
@@ -38,15 +38,23 @@ fn rows_in_order(chunk: &DataChunk, first: usize) -> usize {
     count
 }
 
+/// How many rows of chunks, behind so many, come in order, with these.
+fn count_behind(chunks: &[DataChunk], before: usize) -> usize {
+    let mut count = before;
+    for chunk in chunks {
+        count = count.wrapping_add(rows_in_order(chunk, count));
+    }
+    count
+}
+
 /// How many rows come in order, read in rounds of three chunks by so many threads.
 fn count_in_order<I: InputFiles, H: Threads + Sync>(
     rt: &H,
     alloc: Global,
     input: &mut I,
-    reader: ChunkReader,
+    reader: &mut ChunkReader,
     threads: usize,
 ) -> Result<usize, Fail> {
-    let mut reader = reader;
     let mut count: usize = 0;
     if threads == 0 {
         return Ok(count);
@@ -55,9 +63,7 @@ fn count_in_order<I: InputFiles, H: Threads + Sync>(
         let Ok(chunks) = reader.get_round(rt, alloc, input, 3, threads) else {
             return Err("no round".into());
         };
-        for chunk in &chunks {
-            count = count.wrapping_add(rows_in_order(chunk, count));
-        }
+        count = count_behind(&chunks, count);
         if chunks.len() < 3 {
             return Ok(count);
         }
@@ -66,18 +72,31 @@ fn count_in_order<I: InputFiles, H: Threads + Sync>(
     Ok(count)
 }
 
+/// Writes the file; how many bytes it has.
+fn write_rows<H: Files>(rt: &H, alloc: Global) -> Result<usize, Fail> {
+    let text = text_of_rows(alloc)?;
+    fs::write(rt, "large.csv", text.as_str())?;
+    Ok(text.as_str().len())
+}
+
+/// How many rows of the file come in order, read by so many threads.
+fn rows_by_threads<H: Files<File = File> + Threads + Sync>(
+    rt: &H,
+    alloc: Global,
+    threads: usize,
+) -> Result<usize, Fail> {
+    let mut reader = reader_of(alloc, &["large.csv"], plain(7000, None))?;
+    let mut input = RealFiles::new(rt, &b""[..]);
+    count_in_order(rt, alloc, &mut input, &mut reader, threads)
+}
+
 #[test]
 fn large_files_are_read_by_any_number_of_threads(rt: HostRuntime) -> Result<(), Fail> {
     let alloc = rt.alloc();
-    let text = text_of_rows(alloc)?;
-    assert!(rt; text.as_str().len() > 1 << 20);
-    fs::write(&rt, "large.csv", text.as_str())?;
+    let bytes = write_rows(&rt, alloc)?;
+    assert!(rt; bytes > 1 << 20);
     for threads in 1..6 {
-        let Some(reader) = reader_of(alloc, &["large.csv"], plain(7000, None))? else {
-            return Err("no reader".into());
-        };
-        let mut input = RealFiles::new(&rt, &b""[..]);
-        let count = count_in_order(&rt, alloc, &mut input, reader, threads)?;
+        let count = rows_by_threads(&rt, alloc, threads)?;
         assert!(rt; count == ROWS as usize, "{threads} {count}");
     }
     Ok(())

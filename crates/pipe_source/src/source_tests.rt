@@ -2,8 +2,10 @@
 
 use crate::csv_source::CsvSource;
 use crate::read_options::CsvReadOptions;
-use crate::tests::{TWO_FILES, key_and_value, memory_files, numbered, plain, show_chunk, texts_of};
-use pipe_columns::{DataChunk, Source, SourceResult};
+use crate::tests::{
+    TWO_FILES, key_and_value, memory_files, numbered, plain, show_chunks, texts_of,
+};
+use pipe_columns::{Source, SourceResult};
 use pipe_csv::CsvError;
 use pipe_io::InputFiles;
 use std::alloc::{AllocError, Global};
@@ -17,58 +19,87 @@ const THREE_ROWS: &str = "[0 i 0 1 k 1 2 v 5 6 p a.csv a.csv][1 i 2 k 1 v 7 p b.
 /// Their values in chunks of one, and which files these are.
 const FOUR_VALUES: &str = "[0 v 5][1 v 6][2 v 7][3 v 9]";
 
-/// Adds what some chunks show.
-fn show_chunks(shown: &mut String, chunks: &[DataChunk]) -> Result<(), AllocError> {
-    for chunk in chunks {
-        show_chunk(shown, chunk)?;
+/// Shows what the next call of a source gives, and at its end its name; whether more may come. An
+/// input that failed is asked again.
+fn show_next<I: InputFiles>(
+    source: &mut CsvSource<'_, I>,
+    shown: &mut String,
+) -> Result<bool, AllocError> {
+    match source.get_batches() {
+        Ok(SourceResult::GotMoreData(chunks)) => {
+            show_chunks(shown, &chunks)?;
+            Ok(true)
+        }
+        Ok(SourceResult::Finished) => {
+            write!(shown, "{}", source.fmt())?;
+            Ok(false)
+        }
+        Err(CsvError::Input) => Ok(true),
+        Err(CsvError::Memory) => Err(AllocError),
+        Err(error) => {
+            write!(shown, "{error:?}")?;
+            Ok(false)
+        }
     }
-    Ok(())
 }
 
-/// All that a source gives by single calls, and its name; an input that failed is asked again.
-fn by_calls<I: InputFiles>(alloc: Global, source: CsvSource<'_, I>) -> Result<String, AllocError> {
-    let mut source = source;
+/// All that a source gives by single calls, and its name.
+fn by_calls<I: InputFiles>(alloc: Global, source: &mut CsvSource<'_, I>) -> Result<String, Fail> {
     let mut shown = String::new(alloc);
     for _ in 0..100 {
-        match source.get_batches() {
-            Ok(SourceResult::GotMoreData(chunks)) => show_chunks(&mut shown, &chunks)?,
-            Ok(SourceResult::Finished) => {
-                write!(shown, "{}", source.fmt())?;
-                return Ok(shown);
-            }
-            Err(CsvError::Input) => {}
-            Err(CsvError::Memory) => return Err(AllocError),
-            Err(error) => {
-                write!(shown, "{error:?}")?;
-                return Ok(shown);
-            }
+        if !show_next(source, &mut shown)? {
+            break;
         }
     }
     Ok(shown)
+}
+
+/// Shows the next round of so many chunks; whether more may come. An input that failed is asked
+/// again.
+fn show_round<I: InputFiles, H: Threads + Sync>(
+    rt: &H,
+    source: &mut CsvSource<'_, I>,
+    count: usize,
+    shown: &mut String,
+) -> Result<bool, AllocError> {
+    match source.get_round(rt, count, 2) {
+        Ok(chunks) => {
+            show_chunks(shown, &chunks)?;
+            Ok(chunks.len() >= count)
+        }
+        Err(CsvError::Input) => Ok(true),
+        Err(_) => Err(AllocError),
+    }
 }
 
 /// All that a source gives in rounds of so many chunks.
 fn by_rounds<I: InputFiles, H: Threads + Sync>(
     rt: &H,
     alloc: Global,
-    source: CsvSource<'_, I>,
+    source: &mut CsvSource<'_, I>,
     count: usize,
-) -> Result<String, AllocError> {
-    let mut source = source;
+) -> Result<String, Fail> {
     let mut shown = String::new(alloc);
     for _ in 0..100 {
-        match source.get_round(rt, count, 2) {
-            Ok(chunks) => {
-                show_chunks(&mut shown, &chunks)?;
-                if chunks.len() < count {
-                    return Ok(shown);
-                }
-            }
-            Err(CsvError::Input) => {}
-            Err(_) => return Err(AllocError),
+        if !show_round(rt, source, count, &mut shown)? {
+            break;
         }
     }
     Ok(shown)
+}
+
+/// A source over two files of an input.
+fn source_of<I: InputFiles>(
+    alloc: Global,
+    input: &mut I,
+    options: CsvReadOptions,
+) -> Result<CsvSource<'_, I>, Fail> {
+    if options.chunk_size == 0 {
+        return Err("no chunk".into());
+    }
+    let names = texts_of(alloc, &["a.csv", "b.csv"])?;
+    let schema = key_and_value(alloc)?;
+    Ok(CsvSource::new(alloc, input, names, schema, options))
 }
 
 /// All that a source over two files gives by single calls, where some input calls fail.
@@ -78,14 +109,26 @@ fn shown_by_calls(
     failing: &[u64],
     options: CsvReadOptions,
 ) -> Result<String, Fail> {
-    if options.chunk_size == 0 {
+    let mut input = memory_files(alloc, files, failing)?;
+    let mut source = source_of(alloc, &mut input, options)?;
+    by_calls(alloc, &mut source)
+}
+
+/// A source over two files of an input, in chunks of one row, of which some columns are wanted.
+fn source_of_columns<'a, I: InputFiles>(
+    alloc: Global,
+    input: &'a mut I,
+    wanted: &[bool],
+) -> Result<CsvSource<'a, I>, Fail> {
+    let schema = key_and_value(alloc)?;
+    let options = plain(1, None);
+    if options.chunk_size == 0 || wanted.len() > schema.fields().len() {
         return Err("no chunk".into());
     }
-    let mut input = memory_files(alloc, files, failing)?;
     let names = texts_of(alloc, &["a.csv", "b.csv"])?;
-    let schema = key_and_value(alloc)?;
-    let source = CsvSource::new(alloc, &mut input, names, schema, options);
-    Ok(by_calls(alloc, source)?)
+    let wanted = Vec::from_slice(alloc, wanted)?;
+    let source = CsvSource::of_columns(alloc, input, names, schema, options, wanted)?;
+    Ok(source)
 }
 
 /// The same of some columns, in rounds of so many chunks.
@@ -93,19 +136,12 @@ fn shown_by_rounds<H: Threads + Sync>(
     rt: &H,
     alloc: Global,
     failing: &[u64],
-    options: CsvReadOptions,
     wanted: &[bool],
     count: usize,
 ) -> Result<String, Fail> {
-    let schema = key_and_value(alloc)?;
-    if options.chunk_size == 0 || wanted.len() > schema.fields().len() {
-        return Err("no chunk".into());
-    }
     let mut input = memory_files(alloc, &TWO_FILES, failing)?;
-    let names = texts_of(alloc, &["a.csv", "b.csv"])?;
-    let wanted = Vec::from_slice(alloc, wanted)?;
-    let source = CsvSource::of_columns(alloc, &mut input, names, schema, options, wanted)?;
-    Ok(by_rounds(rt, alloc, source, count)?)
+    let mut source = source_of_columns(alloc, &mut input, wanted)?;
+    by_rounds(rt, alloc, &mut source, count)
 }
 
 #[test]
@@ -123,7 +159,7 @@ fn rounds_give_the_values_of_two_files(rt: HostRuntime) -> Result<(), Fail> {
     let alloc = rt.alloc();
     for count in 1..6 {
         for failing in 0..8 {
-            let shown = shown_by_rounds(&rt, alloc, &[failing], plain(1, None), &[false], count)?;
+            let shown = shown_by_rounds(&rt, alloc, &[failing], &[false], count)?;
             assert!(rt; shown.as_str() == FOUR_VALUES, "{count} {failing}");
         }
     }

@@ -1,5 +1,7 @@
 //! What a reader gives of files in memory, whichever input call fails, one chunk at a call or some.
 
+ghost use Rattle.std.specs.Prelude.{◌<◌};
+
 use crate::chunk_reader::ChunkReader;
 use crate::read_options::CsvReadOptions;
 use pipe_columns::{AnyValue, DataChunk, DataType, Field, Schema, Text};
@@ -64,31 +66,26 @@ pub(crate) fn reader_of(
     alloc: Global,
     names: &[&str],
     options: CsvReadOptions,
-) -> Result<Option<ChunkReader>, AllocError> {
+) -> Result<ChunkReader, Fail> {
     if options.chunk_size == 0 {
-        return Ok(None);
+        return Err("chunks of no row".into());
     }
     let texts = texts_of(alloc, names)?;
     let schema = key_and_value(alloc)?;
-    Ok(Some(ChunkReader::new(alloc, texts, schema, options)))
+    Ok(ChunkReader::new(alloc, texts, schema, options))
 }
 
-/// A reader of a file of a key and a value, of which some are wanted.
-fn reader_of_columns(
-    alloc: Global,
-    options: CsvReadOptions,
-    wanted: &[bool],
-) -> Result<Option<ChunkReader>, AllocError> {
-    let schema = key_and_value(alloc)?;
-    if options.chunk_size == 0 || wanted.len() > schema.fields().len() {
-        return Ok(None);
-    }
+/// A reader of a file of a key and a value, in chunks of two rows, of which some columns are wanted.
+fn reader_of_columns(alloc: Global, wanted: &[bool]) -> Result<ChunkReader, Fail> {
     let names = texts_of(alloc, &["a"])?;
-    let wanted = Vec::from_slice(alloc, wanted)?;
-    match ChunkReader::of_columns(alloc, names, schema, options, wanted) {
-        Ok(reader) => Ok(Some(reader)),
-        Err(error) => Err(error),
+    let schema = key_and_value(alloc)?;
+    let options = plain(2, None);
+    if options.chunk_size == 0 || wanted.len() > schema.fields().len() {
+        return Err("other columns".into());
     }
+    let wanted = Vec::from_slice(alloc, wanted)?;
+    let reader = ChunkReader::of_columns(alloc, names, schema, options, wanted)?;
+    Ok(reader)
 }
 
 /// The chunks of so many rows, without columns more.
@@ -128,28 +125,53 @@ pub(crate) fn show_chunk(shown: &mut String, chunk: &DataChunk) -> Result<(), Al
     write!(shown, "]")
 }
 
+/// Shows the next chunk or the refusal at which the reading ends; whether more may come. An input
+/// that failed is asked again.
+fn show_next(
+    alloc: Global,
+    reader: &mut ChunkReader,
+    input: &mut MemoryFiles,
+    shown: &mut String,
+) -> Result<bool, AllocError> {
+    match reader.next_chunk(alloc, input) {
+        Ok(Some(chunk)) => {
+            show_chunk(shown, &chunk)?;
+            Ok(true)
+        }
+        Ok(None) => Ok(false),
+        Err(pipe_csv::CsvError::Input) => Ok(true),
+        Err(pipe_csv::CsvError::Memory) => Err(AllocError),
+        Err(error) => {
+            write!(shown, "{error:?}")?;
+            Ok(false)
+        }
+    }
+}
+
+/// All that calls give, one after another.
+fn shown_by_calls(
+    alloc: Global,
+    reader: &mut ChunkReader,
+    input: &mut MemoryFiles,
+) -> Result<String, Fail> {
+    let mut shown = String::new(alloc);
+    for _ in 0..100 {
+        if !show_next(alloc, reader, input, &mut shown)? {
+            break;
+        }
+    }
+    Ok(shown)
+}
+
 /// All that a reader gives; an input that failed is asked again.
 pub(crate) fn read_calls(
     alloc: Global,
     reader: ChunkReader,
     input: MemoryFiles,
-) -> Result<String, AllocError> {
-    let mut shown = String::new(alloc);
+) -> Result<String, Fail> {
     let mut reader = reader;
     let mut input = input;
-    for _ in 0..100 {
-        match reader.next_chunk(alloc, &mut input) {
-            Ok(Some(chunk)) => show_chunk(&mut shown, &chunk)?,
-            Ok(None) => return Ok(shown),
-            Err(pipe_csv::CsvError::Input) => {}
-            Err(pipe_csv::CsvError::Memory) => return Err(AllocError),
-            Err(error) => {
-                write!(shown, "{error:?}")?;
-                return Ok(shown);
-            }
-        }
-    }
-    Ok(shown)
+    shown_by_calls(alloc, &mut reader, &mut input)
 }
 
 /// All that a reader gives of files of a key and a value.
@@ -159,11 +181,70 @@ fn read_all(
     names: &[&str],
     options: CsvReadOptions,
     failing: &[u64],
-) -> Result<String, AllocError> {
-    match reader_of(alloc, names, options)? {
-        Some(reader) => read_calls(alloc, reader, memory_files(alloc, files, failing)?),
-        None => Ok(String::new(alloc)),
+) -> Result<String, Fail> {
+    let reader = reader_of(alloc, names, options)?;
+    let input = memory_files(alloc, files, failing)?;
+    read_calls(alloc, reader, input)
+}
+
+/// Adds what some chunks show.
+pub(crate) fn show_chunks(shown: &mut String, chunks: &[DataChunk]) -> Result<(), AllocError> {
+    for chunk in chunks {
+        show_chunk(shown, chunk)?;
     }
+    Ok(())
+}
+
+/// Shows the next round of so many chunks, whose memory the next one takes, or the refusal at which
+/// the reading ends; whether more may come. An input that failed is asked again.
+fn show_round<H: Threads + Sync>(
+    rt: &H,
+    alloc: Global,
+    reader: &mut ChunkReader,
+    input: &mut MemoryFiles,
+    count: usize,
+    threads: usize,
+    shown: &mut String,
+) -> Result<bool, AllocError>
+    requires { 0 < threads }
+{
+    match reader.get_round(rt, alloc, input, count, threads) {
+        Ok(chunks) => {
+            show_chunks(shown, &chunks)?;
+            let is_whole = chunks.len() >= count;
+            if is_whole {
+                reader.take_back(chunks);
+            }
+            Ok(is_whole)
+        }
+        Err(pipe_csv::CsvError::Input) => Ok(true),
+        Err(pipe_csv::CsvError::Memory) => Err(AllocError),
+        Err(error) => {
+            write!(shown, "{error:?}")?;
+            Ok(false)
+        }
+    }
+}
+
+/// All that rounds of so many chunks give, one after another.
+fn shown_by_rounds<H: Threads + Sync>(
+    rt: &H,
+    alloc: Global,
+    reader: &mut ChunkReader,
+    input: &mut MemoryFiles,
+    count: usize,
+    threads: usize,
+) -> Result<String, Fail> {
+    let mut shown = String::new(alloc);
+    if threads == 0 {
+        return Ok(shown);
+    }
+    for _ in 0..100 {
+        if !show_round(rt, alloc, reader, input, count, threads, &mut shown)? {
+            break;
+        }
+    }
+    Ok(shown)
 }
 
 /// All that a reader gives in rounds of so many chunks, each in the memory of the one before; an input
@@ -175,33 +256,10 @@ pub(crate) fn read_rounds<H: Threads + Sync>(
     input: MemoryFiles,
     count: usize,
     threads: usize,
-) -> Result<String, AllocError> {
-    let mut shown = String::new(alloc);
+) -> Result<String, Fail> {
     let mut reader = reader;
     let mut input = input;
-    if threads == 0 {
-        return Ok(shown);
-    }
-    for _ in 0..100 {
-        match reader.get_round(rt, alloc, &mut input, count, threads) {
-            Ok(chunks) => {
-                for chunk in &chunks {
-                    show_chunk(&mut shown, chunk)?;
-                }
-                if chunks.len() < count {
-                    return Ok(shown);
-                }
-                reader.take_back(chunks);
-            }
-            Err(pipe_csv::CsvError::Input) => {}
-            Err(pipe_csv::CsvError::Memory) => return Err(AllocError),
-            Err(error) => {
-                write!(shown, "{error:?}")?;
-                return Ok(shown);
-            }
-        }
-    }
-    Ok(shown)
+    shown_by_rounds(rt, alloc, &mut reader, &mut input, count, threads)
 }
 
 /// The rounds of two files in chunks of one row, numbered and under their file's name.
@@ -211,14 +269,11 @@ fn two_files_in_rounds<H: Threads + Sync>(
     failing: &[u64],
     count: usize,
     threads: usize,
-) -> Result<String, AllocError> {
+) -> Result<String, Fail> {
     let mut options = numbered(alloc)?;
     options.chunk_size = 1;
     options.n_rows = None;
-    let names = ["a.csv", "b.csv"];
-    let Some(reader) = reader_of(alloc, &names, options)? else {
-        return Ok(String::new(alloc));
-    };
+    let reader = reader_of(alloc, &["a.csv", "b.csv"], options)?;
     let input = memory_files(alloc, &TWO_FILES, failing)?;
     read_rounds(rt, alloc, reader, input, count, threads)
 }
@@ -227,6 +282,19 @@ fn two_files_in_rounds<H: Threads + Sync>(
 const FOUR_CHUNKS: &str =
     "[0 i 0 k 1 v 5 p a.csv][1 i 1 k 2 v 6 p a.csv][2 i 2 k 1 v 7 p b.csv][3 i 3 k 9 v 9 p b.csv]";
 
+/// Rounds of both files give the chunks of one row.
+fn assert_four_chunks<H: Threads + Sync + Abort>(
+    rt: &H,
+    alloc: Global,
+    failing: &[u64],
+    count: usize,
+    threads: usize,
+) -> Result<(), Fail> {
+    let shown = two_files_in_rounds(rt, alloc, failing, count, threads)?;
+    assert!(rt; shown.as_str() == FOUR_CHUNKS);
+    Ok(())
+}
+
 /// Rounds of any size, read in any number of threads, give what single calls do; each input call in
 /// turn fails, and is made again.
 #[test]
@@ -234,13 +302,11 @@ fn rounds_are_calls(rt: HostRuntime) -> Result<(), Fail> {
     let alloc = rt.alloc();
     for count in 1..6 {
         for threads in 1..4 {
-            let shown = two_files_in_rounds(&rt, alloc, &[], count, threads)?;
-            assert!(rt; shown.as_str() == FOUR_CHUNKS);
+            assert_four_chunks(&rt, alloc, &[], count, threads)?;
         }
     }
     for call in 0..8 {
-        let shown = two_files_in_rounds(&rt, alloc, &[call], 3, 2)?;
-        assert!(rt; shown.as_str() == FOUR_CHUNKS);
+        assert_four_chunks(&rt, alloc, &[call], 3, 2)?;
     }
     Ok(())
 }
@@ -258,16 +324,19 @@ const STOPS: [(&str, &str); 3] = [
     ("k\n", "[0 k 1 v 5][1 k 2 v 6]Header { file: 2 }"),
 ];
 
+/// The rounds of two chunks of two files, of which the second has a text.
+fn rounds_to<H: Threads + Sync>(rt: &H, alloc: Global, second: &str) -> Result<String, Fail> {
+    let files = [("a", "k,v\n1,5\n2,6\n"), ("b", second)];
+    let reader = reader_of(alloc, &["a", "b"], plain(1, None))?;
+    let input = memory_files(alloc, &files, &[])?;
+    read_rounds(rt, alloc, reader, input, 2, 2)
+}
+
 #[test]
 fn rounds_up_to_a_stop(rt: HostRuntime) -> Result<(), Fail> {
     let alloc = rt.alloc();
     for stop in STOPS {
-        let files = [("a", "k,v\n1,5\n2,6\n"), ("b", stop.0)];
-        let Some(reader) = reader_of(alloc, &["a", "b"], plain(1, None))? else {
-            return Ok(());
-        };
-        let input = memory_files(alloc, &files, &[])?;
-        let shown = read_rounds(&rt, alloc, reader, input, 2, 2)?;
+        let shown = rounds_to(&rt, alloc, stop.0)?;
         assert!(rt; shown.as_str() == stop.1);
     }
     Ok(())
@@ -287,18 +356,41 @@ const WANTED: [(&[bool], &str, &str); 6] = [
     (&[], "k,v\n1,5\n", "[0 k 1 v 5]"),
 ];
 
+/// The wanted columns of a text.
+fn wanted_of<H: Threads + Sync>(
+    rt: &H,
+    alloc: Global,
+    wanted: &[bool],
+    text: &str,
+) -> Result<String, Fail> {
+    let reader = reader_of_columns(alloc, wanted)?;
+    let input = memory_files(alloc, &[("a", text)], &[])?;
+    read_rounds(rt, alloc, reader, input, 2, 2)
+}
+
 /// Fields that aren't wanted are looked at, and no value of them is given.
 #[test]
 fn wanted_columns(rt: HostRuntime) -> Result<(), Fail> {
     let alloc = rt.alloc();
     for case in WANTED {
-        let Some(reader) = reader_of_columns(alloc, plain(2, None), case.0)? else {
-            return Ok(());
-        };
-        let input = memory_files(alloc, &[("a", case.1)], &[])?;
-        let shown = read_rounds(&rt, alloc, reader, input, 2, 2)?;
+        let shown = wanted_of(&rt, alloc, case.0, case.1)?;
         assert!(rt; shown.as_str() == case.2);
     }
+    Ok(())
+}
+
+/// A reader of files of a key and a value gives what is due.
+fn assert_reads(
+    rt: &impl Abort,
+    alloc: Global,
+    files: &[(&str, &str)],
+    names: &[&str],
+    options: CsvReadOptions,
+    failing: &[u64],
+    due: &str,
+) -> Result<(), Fail> {
+    let shown = read_all(alloc, files, names, options, failing)?;
+    assert!(rt; shown.as_str() == due);
     Ok(())
 }
 
@@ -306,9 +398,8 @@ fn wanted_columns(rt: HostRuntime) -> Result<(), Fail> {
 fn three_rows_of_two_files(rt: HostRuntime) -> Result<(), Fail> {
     let alloc = rt.alloc();
     let names = ["a.csv", "b.csv", "c.csv"];
-    let shown = read_all(alloc, &TWO_FILES, &names, numbered(alloc)?, &[])?;
-    assert!(rt; shown.as_str() == THREE_ROWS);
-    Ok(())
+    let options = numbered(alloc)?;
+    assert_reads(&rt, alloc, &TWO_FILES, &names, options, &[], THREE_ROWS)
 }
 
 /// Each input call in turn fails, and is made again.
@@ -317,8 +408,8 @@ fn no_row_is_lost(rt: HostRuntime) -> Result<(), Fail> {
     let alloc = rt.alloc();
     for call in 0..8 {
         let names = ["a.csv", "b.csv"];
-        let shown = read_all(alloc, &TWO_FILES, &names, numbered(alloc)?, &[call])?;
-        assert!(rt; shown.as_str() == THREE_ROWS);
+        let options = numbered(alloc)?;
+        assert_reads(&rt, alloc, &TWO_FILES, &names, options, &[call], THREE_ROWS)?;
     }
     Ok(())
 }
@@ -347,30 +438,43 @@ const TEXTS: [(&str, &str); 12] = [
 
 #[test]
 fn texts_of_one_file(rt: HostRuntime) -> Result<(), Fail> {
-    for text in TEXTS {
+    let alloc = rt.alloc();
+    for text in &TEXTS {
         let files = [("a", text.0)];
-        let shown = read_all(rt.alloc(), &files, &["a"], plain(2, None), &[])?;
-        assert!(rt; shown.as_str() == text.1);
+        assert_reads(&rt, alloc, &files, &["a"], plain(2, None), &[], text.1)?;
     }
     Ok(())
 }
+
+/// Three files, of which the first has a row that doesn't read, and the last has none.
+const FILES: [(&str, &str); 3] = [
+    ("a", "k,v\n1,5\n2,x\n"),
+    ("b", "k,v\n3,4\n"),
+    ("c", "k,v\n"),
+];
+
+/// Names of them and of one that isn't there, how many rows are wanted, and what they give.
+const NAMED: [(&[&str], Option<usize>, &str); 4] = [
+    (
+        &["b", "c", "b", "a"],
+        Some(3),
+        "[0 k 3 v 4][1 k 3 v 4][2 k 1 v 5]",
+    ),
+    (
+        &["c", "b", "a", "b"],
+        None,
+        "[0 k 3 v 4]Field { file: 3, row: 2, column: 2 }",
+    ),
+    (&["b", "d"], None, "[0 k 3 v 4]Missing { file: 2 }"),
+    (&["b", "d"], Some(1), "[0 k 3 v 4]"),
+];
 
 /// Rows past the limit and files past it are not looked at; others are refused where they come.
 #[test]
 fn files_up_to_a_stop(rt: HostRuntime) -> Result<(), Fail> {
     let alloc = rt.alloc();
-    let files = [
-        ("a", "k,v\n1,5\n2,x\n"),
-        ("b", "k,v\n3,4\n"),
-        ("c", "k,v\n"),
-    ];
-    let shown = read_all(alloc, &files, &["b", "c", "b", "a"], plain(9, Some(3)), &[])?;
-    assert!(rt; shown.as_str() == "[0 k 3 v 4][1 k 3 v 4][2 k 1 v 5]");
-    let shown = read_all(alloc, &files, &["c", "b", "a", "b"], plain(9, None), &[])?;
-    assert!(rt; shown.as_str() == "[0 k 3 v 4]Field { file: 3, row: 2, column: 2 }");
-    let shown = read_all(alloc, &files, &["b", "d"], plain(9, None), &[])?;
-    assert!(rt; shown.as_str() == "[0 k 3 v 4]Missing { file: 2 }");
-    let shown = read_all(alloc, &files, &["b", "d"], plain(9, Some(1)), &[])?;
-    assert!(rt; shown.as_str() == "[0 k 3 v 4]");
+    for case in &NAMED {
+        assert_reads(&rt, alloc, &FILES, case.0, plain(9, case.1), &[], case.2)?;
+    }
     Ok(())
 }

@@ -1,8 +1,8 @@
 -- A frame is read row by row.
-use Rattle.std.proofs.Common.{◌≡◌, ◌≢◌, ◌++◌, ◌+◌, ◌/◌, ◌^◌, ◌<◌, ℕ, List, [], ◌∷◌, sym, ◌∙◌, ap, length, drop, append_assoc, length-append, arith}
+use Rattle.std.proofs.Common.{◌≡◌, ◌≢◌, ◌++◌, ◌+◌, ◌/◌, ◌^◌, ◌<◌, ℕ, List, [], ◌∷◌, refl, sym, ◌∙◌, ap, length, drop, append_assoc, length-append, arith}
 use Rattle.std.specs.Int.{bytes_high_first}
 use Rattle.std.proofs.lemmas.List.{append-nil}
-use Rattle.std.proofs.lemmas.List.Elements.{All-push}
+use Rattle.std.proofs.lemmas.List.Elements.{All-nil, All-push}
 use Rattle.pipe_columns.specs.declared.data_type.DataType.{DataType}
 use Rattle.pipe_spill.specs.FrameBytes.{IsFrameOfNone, frame_bytes, row_bytes, rows_bytes}
 use Rattle.pipe_spill.specs.Reading.{BeginsNoRow}
@@ -16,6 +16,10 @@ pub record AreReadTo (key_types types : List DataType) (rows : List SpillRow) (r
   pub are : AreRows key_types types rows
   pub bytes : rows_bytes types rows ++ rest ≡ all
   pub counted : length rows ≡ i
+
+-- before the first row all bytes are left
+pub none_read : (key_types types : List DataType) (all : List ℕ) → AreReadTo key_types types [] all all 0
+none_read key_types types all = record { are = All-nil (IsRow key_types types); bytes = refl; counted = refl }
 
 -- one more row is read
 pub one_read : (key_types types : List DataType) (rows more : List SpillRow) (r : SpillRow) (rest after all : List ℕ) (i : ℕ) → AreReadTo key_types types rows rest all i

@@ -1,10 +1,51 @@
 //! The codes of the worked rows, of the edges of each type, and bytes that are no code.
 
+ghost use Rattle.pipe_spill.specs.KeyTypes.{AreOfTypes};
+
 use crate::{DecodeError, decode_key, encode_key, encode_key_into, fold, partition_of};
 use pipe_columns::{AnyValue, DataType, Text};
-use std::alloc::Global;
+use std::alloc::{AllocError, Global};
 use std::process::Abort;
 use std::test::Fail;
+
+/// Whether values have this code.
+fn have_code(
+    alloc: Global,
+    values: &[AnyValue],
+    types: &[DataType],
+    code: &[u8],
+) -> Result<bool, AllocError>
+    requires { AreOfTypes types.now values.now }
+{
+    let key = encode_key(alloc, values, types)?;
+    Ok(key.as_slice() == code)
+}
+
+/// Whether a code is read as these values.
+fn are_read(
+    alloc: Global,
+    code: &[u8],
+    types: &[DataType],
+    values: &[AnyValue],
+) -> Result<bool, DecodeError> {
+    let read = decode_key(alloc, code, types)?;
+    Ok(read.as_slice() == values)
+}
+
+/// One value has this code, and the code is read as the value.
+fn check_both_ways(
+    rt: &impl Abort,
+    alloc: Global,
+    values: &[AnyValue; 1],
+    dtype: DataType,
+    code: &[u8],
+) -> Result<(), Fail> {
+    assert!(rt; values[0].fits(dtype));
+    let types = [dtype];
+    assert!(rt; have_code(alloc, values, &types, code)?, "{values:?}");
+    assert!(rt; are_read(alloc, code, &types, values)?, "{values:?}");
+    Ok(())
+}
 
 /// A value has these bytes, and the bytes are read as the value.
 fn goes_both_ways(
@@ -14,14 +55,7 @@ fn goes_both_ways(
     dtype: DataType,
     want: &[u8],
 ) -> Result<(), Fail> {
-    assert!(rt; value.fits(dtype));
-    let values = [value];
-    let types = [dtype];
-    let key = encode_key(alloc, &values, &types)?;
-    assert!(rt; key.as_slice() == want, "{values:?}");
-    let read = decode_key(alloc, want, &types)?;
-    assert!(rt; read.as_slice() == values.as_slice(), "{values:?}");
-    Ok(())
+    check_both_ways(rt, alloc, &[value], dtype, want)
 }
 
 /// The codes of the least, the middle and the greatest number of 128 bits. Those of a narrower type
@@ -114,39 +148,58 @@ fn nulls(rt: HostRuntime) -> Result<(), Fail> {
     Ok(())
 }
 
+/// A text has this code.
+fn text_goes(rt: &impl Abort, alloc: Global, text: &str, code: &[u8]) -> Result<(), Fail> {
+    let text = AnyValue::Text(Text::new(alloc, text)?);
+    goes_both_ways(rt, alloc, text, DataType::String, code)
+}
+
+/// Texts and their codes.
+const TEXTS: [(&str, &[u8]); 6] = [
+    ("", b"\x01\x00\x00"),
+    ("a", b"\x01a\x00\x00"),
+    ("\0", b"\x01\x00\x01\x00\x00"),
+    ("\0\0", b"\x01\x00\x01\x00\x01\x00\x00"),
+    ("a\0b", b"\x01a\x00\x01b\x00\x00"),
+    ("\u{e9}\u{10348}", b"\x01\xc3\xa9\xf0\x90\x8d\x88\x00\x00"),
+];
+
 #[test]
 fn truths_and_texts(rt: HostRuntime) -> Result<(), Fail> {
     let alloc = rt.alloc();
-    for (truth, want) in [(false, b"\x01\x00"), (true, b"\x01\x01")] {
-        let truth = AnyValue::Boolean(truth);
-        goes_both_ways(&rt, alloc, truth, DataType::Boolean, want)?;
+    for (truth, want) in &[(false, b"\x01\x00"), (true, b"\x01\x01")] {
+        let truth = AnyValue::Boolean(*truth);
+        goes_both_ways(&rt, alloc, truth, DataType::Boolean, *want)?;
     }
-    let texts: [(&str, &[u8]); 6] = [
-        ("", b"\x01\x00\x00"),
-        ("a", b"\x01a\x00\x00"),
-        ("\0", b"\x01\x00\x01\x00\x00"),
-        ("\0\0", b"\x01\x00\x01\x00\x01\x00\x00"),
-        ("a\0b", b"\x01a\x00\x01b\x00\x00"),
-        ("\u{e9}\u{10348}", b"\x01\xc3\xa9\xf0\x90\x8d\x88\x00\x00"),
-    ];
-    for (text, want) in texts {
-        let text = AnyValue::Text(Text::new(alloc, text)?);
-        goes_both_ways(&rt, alloc, text, DataType::String, want)?;
+    for (text, want) in &TEXTS {
+        text_goes(&rt, alloc, text, want)?;
     }
     Ok(())
 }
 
+/// Whether a code is written into a buffer in the place of what stood there.
+fn replaces(
+    alloc: Global,
+    values: &[AnyValue],
+    types: &[DataType],
+    code: &[u8],
+) -> Result<bool, AllocError>
+    requires { AreOfTypes types.now values.now }
+{
+    let mut key = Vec::from_slice(alloc, b"what stood there")?;
+    encode_key_into(&mut key, values, types)?;
+    Ok(key.as_slice() == code)
+}
+
 #[test]
 fn tuples(rt: HostRuntime) -> Result<(), Fail> {
-    let values = [AnyValue::Null, AnyValue::Int(258)];
+    let alloc = rt.alloc();
     let types = [DataType::Int64, DataType::Int16];
-    let mut key = Vec::from_slice(rt.alloc(), b"what stood there")?;
-    encode_key_into(&mut key, &values, &types)?;
-    assert!(rt; key.as_slice() == b"\x00\x01\x81\x02".as_slice());
-    let read = decode_key(rt.alloc(), &key, &types)?;
-    assert!(rt; read.as_slice() == values.as_slice());
-    let none = decode_key(rt.alloc(), b"", &[])?;
-    assert!(rt; none.as_slice().is_empty());
+    let code = b"\x00\x01\x81\x02";
+    assert!(rt; are_read(alloc, b"", &[], &[])?);
+    let values = [AnyValue::Null, AnyValue::Int(258)];
+    assert!(rt; replaces(alloc, &values, &types, code)?);
+    assert!(rt; are_read(alloc, code, &types, &values)?);
     Ok(())
 }
 
@@ -163,32 +216,38 @@ fn partitions(rt: HostRuntime) {
     assert!(rt; fold(b"") == 0);
 }
 
+/// Whether bytes are read as no key of the types.
+fn are_no_key(alloc: Global, bytes: &[u8], types: &[DataType]) -> bool {
+    let read = decode_key(alloc, bytes, types);
+    matches!(read, Err(DecodeError::NotAKey))
+}
+
+/// Bytes that are no key of a type.
+const NO_KEYS: [(&[u8], DataType); 18] = [
+    (b"", DataType::Int8),
+    (b"\x02", DataType::Boolean),
+    (b"\x02\x80", DataType::Int8),
+    (b"\x00\x00", DataType::Int8),
+    (b"\x01", DataType::Int8),
+    (b"\x01\x80\x00", DataType::Int8),
+    (b"\x01\x80", DataType::Int16),
+    (b"\x01\x80\x00\x00\x00\x00\x00\x00", DataType::Int64),
+    (b"\x01\x80\x00\x00\x00\x00\x00\x00\x00", DataType::Date),
+    (b"\x01", DataType::Boolean),
+    (b"\x01\x02", DataType::Boolean),
+    (b"\x01\x01\x00", DataType::Boolean),
+    (b"\x01", DataType::String),
+    (b"\x01a", DataType::String),
+    (b"\x01a\x00", DataType::String),
+    (b"\x01\x00\x02\x00\x00", DataType::String),
+    (b"\x01a\x00\x00\x00", DataType::String),
+    (b"\x01\xff\x00\x00", DataType::String),
+];
+
 #[test]
 fn no_keys(rt: HostRuntime) {
-    let cases: [(&[u8], DataType); 18] = [
-        (b"", DataType::Int8),
-        (b"\x02", DataType::Boolean),
-        (b"\x02\x80", DataType::Int8),
-        (b"\x00\x00", DataType::Int8),
-        (b"\x01", DataType::Int8),
-        (b"\x01\x80\x00", DataType::Int8),
-        (b"\x01\x80", DataType::Int16),
-        (b"\x01\x80\x00\x00\x00\x00\x00\x00", DataType::Int64),
-        (b"\x01\x80\x00\x00\x00\x00\x00\x00\x00", DataType::Date),
-        (b"\x01", DataType::Boolean),
-        (b"\x01\x02", DataType::Boolean),
-        (b"\x01\x01\x00", DataType::Boolean),
-        (b"\x01", DataType::String),
-        (b"\x01a", DataType::String),
-        (b"\x01a\x00", DataType::String),
-        (b"\x01\x00\x02\x00\x00", DataType::String),
-        (b"\x01a\x00\x00\x00", DataType::String),
-        (b"\x01\xff\x00\x00", DataType::String),
-    ];
-    for (bytes, dtype) in cases {
-        let read = decode_key(rt.alloc(), bytes, &[dtype]);
-        assert!(rt; matches!(read, Err(DecodeError::NotAKey)), "{bytes:?}");
+    for (bytes, dtype) in &NO_KEYS {
+        assert!(rt; are_no_key(rt.alloc(), bytes, &[*dtype]), "{bytes:?}");
     }
-    let read = decode_key(rt.alloc(), b"\x00", &[]);
-    assert!(rt; matches!(read, Err(DecodeError::NotAKey)));
+    assert!(rt; are_no_key(rt.alloc(), b"\x00", &[]));
 }

@@ -1,11 +1,15 @@
 //! What stores answer to two puts and the gets of what they hold, in memory and in files.
 
+ghost use Rattle.std.specs.Prelude.{◌≡◌, IfOk};
+ghost use Rattle.pipe_spill.specs.FileStore.{held_of};
+
 use crate::file_store::FileStore;
 use crate::memory_store::MemoryStore;
 use crate::store::SpillStore;
 use pipe_columns::Text;
 use std::alloc::{AllocError, Global};
 use std::fs;
+use std::process::Abort;
 use std::test::Fail;
 
 /// The answer to a put, as a line.
@@ -36,40 +40,52 @@ fn get_line<S: SpillStore>(
     format!(in alloc; "get {answer:?} {text}\n")
 }
 
+/// Puts a line behind others.
+fn add(lines: &mut String, line: String) -> Result<(), AllocError> {
+    lines.push_str(line.as_str())
+}
+
 /// Puts two frames and gets each that is held. It writes down the answers, a line each.
 fn put_and_get<S: SpillStore>(alloc: Global, store: &mut S) -> Result<String, AllocError> {
     let mut lines = String::new(alloc);
     for frame in ["one", "second"] {
-        lines.push_str(put_line(alloc, store, frame)?.as_str())?;
+        add(&mut lines, put_line(alloc, store, frame)?)?;
     }
     for number in 0..store.held() {
-        lines.push_str(get_line(alloc, store, number)?.as_str())?;
+        add(&mut lines, get_line(alloc, store, number)?)?;
     }
     Ok(lines)
 }
 
+/// The answers of a store in memory of which one call fails.
+fn failing_lines(alloc: Global, failing: u64) -> Result<String, AllocError> {
+    let mut store = MemoryStore::new(alloc, Vec::from_slice(alloc, &[failing])?);
+    put_and_get(alloc, &mut store)
+}
+
+/// Numbers of calls that fail, and what the store answers then.
+const FAILING: [(u64, &str); 5] = [
+    (
+        9,
+        "put Ok(0)\nput Ok(1)\nget Ok(()) one\nget Ok(()) second\n",
+    ),
+    (0, "put Err(Failed)\nput Ok(0)\nget Ok(()) second\n"),
+    (1, "put Ok(0)\nput Err(Failed)\nget Ok(()) one\n"),
+    (
+        2,
+        "put Ok(0)\nput Ok(1)\nget Err(Failed) \nget Ok(()) second\n",
+    ),
+    (
+        3,
+        "put Ok(0)\nput Ok(1)\nget Ok(()) one\nget Err(Failed) \n",
+    ),
+];
+
 #[test]
 fn listed_calls_of_a_store_fail(rt: HostRuntime) -> Result<(), Fail> {
-    let alloc = rt.alloc();
-    for (failing, want) in [
-        (
-            9,
-            "put Ok(0)\nput Ok(1)\nget Ok(()) one\nget Ok(()) second\n",
-        ),
-        (0, "put Err(Failed)\nput Ok(0)\nget Ok(()) second\n"),
-        (1, "put Ok(0)\nput Err(Failed)\nget Ok(()) one\n"),
-        (
-            2,
-            "put Ok(0)\nput Ok(1)\nget Err(Failed) \nget Ok(()) second\n",
-        ),
-        (
-            3,
-            "put Ok(0)\nput Ok(1)\nget Ok(()) one\nget Err(Failed) \n",
-        ),
-    ] {
-        let mut store = MemoryStore::new(alloc, Vec::from_slice(alloc, &[failing])?);
-        let lines = put_and_get(alloc, &mut store)?;
-        assert!(rt; lines.as_str() == want, "call {failing} fails: {lines}");
+    for (failing, want) in &FAILING {
+        let lines = failing_lines(rt.alloc(), *failing)?;
+        assert!(rt; lines.as_str() == *want, "call {failing} fails: {lines}");
     }
     Ok(())
 }
@@ -88,12 +104,29 @@ fn frames_of_a_store_are_lent(rt: HostRuntime) -> Result<(), Fail> {
 /// Takes a store that threads may share behind a lock.
 fn share<S: Send + Sync>(_store: &S) {}
 
-/// The answers of a store in a file of a folder.
-fn file_lines(rt: HostRuntime, dir: &str) -> Result<String, AllocError> {
+/// The store of a partition in a folder.
+fn file_store(
+    rt: HostRuntime,
+    dir: &str,
+    partition: usize,
+) -> Result<FileStore<HostRuntime>, AllocError>
+    ensures { IfOk result (λ s. held_of s.frames ≡ 0) }
+{
     let dir = Text::new(rt.alloc(), dir)?;
-    let mut store = FileStore::new(rt, rt.alloc(), &dir, 3)?;
+    FileStore::new(rt, rt.alloc(), &dir, partition)
+}
+
+/// Whether a store in a file of a folder answers these lines.
+fn answers(rt: HostRuntime, dir: &str, want: &str) -> Result<bool, AllocError> {
+    let mut store = file_store(rt, dir, 3)?;
     share(&store);
-    put_and_get(rt.alloc(), &mut store)
+    let lines = put_and_get(rt.alloc(), &mut store)?;
+    Ok(lines.as_str() == want)
+}
+
+/// Asserts what a file holds.
+fn check_text(rt: &impl Abort, text: String, want: &str) {
+    assert!(rt; text.as_str() == want, "{text}");
 }
 
 #[test]
@@ -101,9 +134,9 @@ fn frames_in_a_file_are_read_back(rt: HostRuntime) -> Result<(), Fail> {
     let both = "put Ok(0)\nput Ok(1)\nget Ok(()) one\nget Ok(()) second\n";
     fs::create_dir(&rt, "spills")?;
     fs::write(&rt, "spills/partition-3.spill", "of a former run")?;
-    assert!(rt; file_lines(rt, "spills")?.as_str() == both);
+    assert!(rt; answers(rt, "spills", both)?);
     let text = fs::read_to_string(&rt, "spills/partition-3.spill")?;
-    assert!(rt; text.as_str() == "onesecond", "{text}");
+    check_text(&rt, text, "onesecond");
     fs::remove_dir_all(&rt, "spills")?;
     Ok(())
 }
@@ -111,22 +144,28 @@ fn frames_in_a_file_are_read_back(rt: HostRuntime) -> Result<(), Fail> {
 #[test]
 fn folders_that_are_absent(rt: HostRuntime) -> Result<(), Fail> {
     let refused = "put Err(Failed)\nput Err(Failed)\n";
-    for name in ["absent", ""] {
-        assert!(rt; file_lines(rt, name)?.as_str() == refused, "in {name:?}");
+    for name in &["absent", ""] {
+        assert!(rt; answers(rt, name, refused)?, "in {name:?}");
     }
-    for path in ["/partition-3.spill", "partition-3.spill"] {
+    for path in &["/partition-3.spill", "partition-3.spill"] {
         assert!(rt; fs::metadata(&rt, path).is_err(), "{path}");
     }
     Ok(())
 }
 
-#[test]
-fn a_file_that_was_taken_away(rt: HostRuntime) -> Result<(), Fail> {
-    let alloc = rt.alloc();
-    let mut store = FileStore::new(rt, alloc, &Text::new(alloc, ".")?, 7)?;
+/// A store of one frame whose file was taken away.
+fn without_file(rt: HostRuntime) -> Result<FileStore<HostRuntime>, Fail> {
+    let mut store = file_store(rt, ".", 7)?;
     store.put(b"frame")?;
     fs::remove_file(&rt, "./partition-7.spill")?;
+    Ok(store)
+}
+
+#[test]
+fn a_file_that_was_taken_away(rt: HostRuntime) -> Result<(), Fail> {
     let refused = "put Err(Failed)\nput Err(Failed)\nget Err(Failed) \n";
-    assert!(rt; put_and_get(alloc, &mut store)?.as_str() == refused);
+    let mut store = without_file(rt)?;
+    let lines = put_and_get(rt.alloc(), &mut store)?;
+    assert!(rt; lines.as_str() == refused);
     Ok(())
 }

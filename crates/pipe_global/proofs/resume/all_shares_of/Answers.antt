@@ -1,6 +1,6 @@
 use Rattle.std.proofs.Common.{rules, ◌≡◌, ◌∙◌, ◌+◌, ◌∷◌, ◌++◌, [], List, length, slice_index_or, sum, arith, ap, sym, subst}
 use Rattle.pipe_global.specs.Partition.{PartitionSeen}
-use Rattle.pipe_global.specs.Resuming.{AreResumed, books_of, resumed_shares}
+use Rattle.pipe_global.specs.Resuming.{all_books, AreResumed, books_of, resumed_shares}
 use Rattle.pipe_global.specs.Shares.{SharesSeen}
 use Rattle.pipe_global.proofs.ResumeFacts.{books-more, resumed-push}
 use Rattle.pipe_global.proofs.resume.all_shares_of.Goals as goal
@@ -24,3 +24,8 @@ loop-count-preserved g c =
       omega (arith, total, c.loop-count.invariant.5, books-more ps i),
       subst (λ (l : List SharesSeen). AreResumed ps c.args.picks.now l) (sym items) (resumed-push ps c.args.picks.now old x i count c.loop-count.invariant.6 own),
     )
+
+pub returns-clause-total : goal.returns-clause-total
+returns-clause-total g c =
+    let all : c.loop-count.count-index ≡ length c.args.picks.now = omega arith in
+    c.loop-count.invariant.5 ∙ ap (λ n. c.args.book.now.total + all_books c.args.partitions.now n) all

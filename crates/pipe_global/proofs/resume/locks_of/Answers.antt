@@ -1,4 +1,4 @@
-use Rattle.std.proofs.Common.{rules, ◌≡◌, ◌∙◌, ◌+◌, ◌<◌, ◌∷◌, List, length, slice_index_or, vec_len, arith, ap, sym, subst}
+use Rattle.std.proofs.Common.{rules, ◌≡◌, ◌∙◌, ◌+◌, ◌<◌, [], ◌∷◌, List, length, slice_index_or, vec_len, refl, arith, ap, sym, subst}
 use Rattle.std.specs.Vec.Iter.{into_iter_items}
 use Rattle.std.proofs.lemmas.List.Sums.{sum_by-cons}
 use Rattle.pipe_global.specs.Closed.{all_events}
@@ -64,3 +64,35 @@ loop-partition-preserved g c =
           subst (λ m. IsTakenOver r m (slice_index_or new k d)) {x = n + (k + 1)} {y = vec_len c.push_reserved.new.self + k} (omega (arith, len))
           (rest-each (λ j s. IsTakenOver r (n + j) s) old one new items c.loop-partition.invariant.9 k d lt),
     )
+
+-- a partition is left, so a part of each ledger is
+pub split_off-event_part-requires-clause-has_parts : goal.split_off-event_part-requires-clause-has_parts
+split_off-event_part-requires-clause-has_parts g c =
+    let items : into_iter_items c.loop-partition.partition-iterator ≡ c.in-Some.partition ∷ into_iter_items c.next.new.self = search rules in
+    omega (arith, ap (λ (l : List PartitionSeen). length l) items, c.loop-partition.invariant.2)
+
+pub split_off-fault_part-requires-clause-has_parts : goal.split_off-fault_part-requires-clause-has_parts
+split_off-fault_part-requires-clause-has_parts g c =
+    let items : into_iter_items c.loop-partition.partition-iterator ≡ c.in-Some.partition ∷ into_iter_items c.next.new.self = search rules in
+    omega (arith, ap (λ (l : List PartitionSeen). length l) items, c.loop-partition.invariant.4)
+
+pub loop-partition-smaller : goal.loop-partition-smaller
+loop-partition-smaller g c =
+    let items : into_iter_items c.loop-partition.partition-iterator ≡ c.in-Some.partition ∷ into_iter_items c.next.new.self = search rules in
+    omega (arith, ap (λ (l : List PartitionSeen). length l) items)
+
+pub returns-clause-len : goal.returns-clause-len
+returns-clause-len g c =
+    let it = c.loop-partition.partition-iterator in
+    let none : length (into_iter_items it) ≡ 0 = sym it.rest.ok.0 ∙ c.in-None.ensures.steps.0 in
+    omega (arith, none, c.loop-partition.invariant.6)
+
+none-left : (xs : List PartitionSeen) → length xs ≡ 0 → all_events xs ≡ 0
+none-left [] e = refl
+none-left (x ∷ xs) e = absurd (omega (arith, e))
+
+pub returns-clause-total : goal.returns-clause-total
+returns-clause-total g c =
+    let it = c.loop-partition.partition-iterator in
+    let none : length (into_iter_items it) ≡ 0 = sym it.rest.ok.0 ∙ c.in-None.ensures.steps.0 in
+    omega (arith, none-left (into_iter_items it) none, c.loop-partition.invariant.8)

@@ -1,4 +1,4 @@
-use Rattle.std.proofs.Common.{◌∙◌, sym, subst}
+use Rattle.std.proofs.Common.{◌∙◌, ◌≤◌, sym, subst, vec_capacity}
 use Rattle.std.specs.List.{All}
 use Rattle.pipe_aggs.specs.QueryTrees.{query_tree}
 use Rattle.pipe_model.specs.Query.{QueryTree}
@@ -15,3 +15,13 @@ invariant_of-table g c = (c.locks_of-partitions.ensures ∙ c.requires.count, c.
 
 pub returns-clause-unused : goal.returns-clause-unused
 returns-clause-unused g c = subst (λ n. AreUnused n c.in-Ok.shares.items) (c.len-partitions.ensures ∙ c.requires.count) c.in-Ok.ensures.unused
+
+pub locks_of-partitions-requires-clause-places : goal.locks_of-partitions-requires-clause-places
+locks_of-partitions-requires-clause-places g c = c.in-Ok-places_of.ensures.len ∙ c.len-partitions.ensures
+
+pub locks_of-partitions-requires-clause-room : goal.locks_of-partitions-requires-clause-room
+locks_of-partitions-requires-clause-room g c =
+    (c.in-Ok-room_for.ensures.none, subst (λ n. n ≤ vec_capacity c.in-Ok-room_for.locks) c.len-partitions.ensures c.in-Ok-room_for.ensures.room)
+
+pub returns-clause-len : goal.returns-clause-len
+returns-clause-len g c = c.in-Ok.ensures.len ∙ sym c.requires.numbers.0

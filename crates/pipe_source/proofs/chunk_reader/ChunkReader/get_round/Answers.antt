@@ -1,33 +1,33 @@
-use Rattle.std.proofs.Common.{◌≡◌, ◌∙◌, ◌-◌, length, min, sym, rules, subst, arith, ap, Some, None}
+use Rattle.std.proofs.Common.{◌≡◌, ◌-◌, length, sym, subst, arith, Some, None}
 use Rattle.pipe_source.specs.Kept.{IsPlace}
 use Rattle.pipe_source.specs.ReadOn.{HasReadOn}
 use Rattle.pipe_source.specs.declared.source_place.SourcePlace.{SourcePlace}
-use Rattle.pipe_source.proofs.KeptFacts.{kept-behind}
-use Rattle.pipe_source.proofs.RoundFacts.{chunks-fit, length-chunks, place-past, place_past, round-fits, round-given, round-none, round-stops, told-first, within-all}
+use Rattle.pipe_source.proofs.KeptFacts.{chunks-below, kept-behind, rows-below}
+use Rattle.pipe_source.proofs.RoundFacts.{chunks-fit, length-given, place-past, place_past, round-fits, round-given, round-none, round-stops, some-left, told-first, within-all, within-left}
 use Rattle.pipe_source.proofs.chunk_reader.ChunkReader.get_round.Goals as goal
 
 pub invariant_of-self-then-some-count : goal.invariant_of-self-then-some-count
 invariant_of-self-then-some-count g c =
     let what = c.self.inside.what in
     let text = c.self.inside.text in
-    let some : c.min-some.result ≡ min (length text.starts.items - text.chunk) c.args.count = search rules in
+    let some = some-left text c.chunks_left.result c.min-some.result c.args.count c.min-some.ensures c.chunks_left.ensures in
     (c.self.invariant.0, kept-behind what c.min-some.result text c.advance.new.self c.self.invariant.0 c.self.invariant.1 c.advance.ensures (within-all what text c.min-some.result c.args.count c.self.invariant.1 some))
 
 pub returns-then-some-count-clause-given : goal.returns-then-some-count-clause-given
 returns-then-some-count-clause-given g c =
     let what = c.self.inside.what in
     let text = c.self.inside.text in
-    let some : c.min-some.result ≡ min (length text.starts.items - text.chunk) c.args.count = search rules in
+    let some = some-left text c.chunks_left.result c.min-some.result c.args.count c.min-some.ensures c.chunks_left.ensures in
     rw (← c.self.view_is) (told-first (g.I.InputFiles.told c.args.input.now) what c.min-some.result text c.advance.new.self c.in-Ok.chunks.items c.self.invariant.0 c.self.invariant.1 c.advance.ensures (within-all what text c.min-some.result c.args.count c.self.invariant.1 some) c.in-Ok.ensures)
 
 pub returns-then-some-count-clause-few : goal.returns-then-some-count-clause-few
 returns-then-some-count-clause-few g c =
-    let many = ap length c.in-Ok.ensures ∙ length-chunks c.self.inside.what c.self.inside.text c.min-some.result in
+    let many = length-given c.self.inside.what c.self.inside.text c.min-some.result c.in-Ok.chunks.items c.in-Ok.ensures in
     omega (arith, many, c.if-some-count.true)
 
 pub returns-then-some-count-clause-over : goal.returns-then-some-count-clause-over
 returns-then-some-count-clause-over g c = λ fewer.
-    let many = ap length c.in-Ok.ensures ∙ length-chunks c.self.inside.what c.self.inside.text c.min-some.result in
+    let many = length-given c.self.inside.what c.self.inside.text c.min-some.result c.in-Ok.chunks.items c.in-Ok.ensures in
     absurd (omega (arith, many, fewer, c.if-some-count.true))
 
 pub returns-then-some-count-clause-fit : goal.returns-then-some-count-clause-fit
@@ -41,15 +41,15 @@ read_on-requires-clause-place g c =
 pub read_on-requires-clause-few : goal.read_on-requires-clause-few
 read_on-requires-clause-few g c =
     let text = c.self.inside.text in
-    let some : c.min-some.result ≡ min (length text.starts.items - text.chunk) c.args.count = search rules in
-    let many = ap length c.in-Ok.ensures ∙ length-chunks c.self.inside.what text c.min-some.result in
+    let some = some-left text c.chunks_left.result c.min-some.result c.args.count c.min-some.ensures c.chunks_left.ensures in
+    let many = length-given c.self.inside.what text c.min-some.result c.in-Ok.chunks.items c.in-Ok.ensures in
     omega (arith, many, some)
 
 pub invariant_of-self-in-Ok-None : goal.invariant_of-self-in-Ok-None
 invariant_of-self-in-Ok-None g c =
     let what = c.self.inside.what in
     let text = c.self.inside.text in
-    let some : c.min-some.result ≡ min (length text.starts.items - text.chunk) c.args.count = search rules in
+    let some = some-left text c.chunks_left.result c.min-some.result c.args.count c.min-some.ensures c.chunks_left.ensures in
     (c.self.invariant.0, kept-behind what c.min-some.result text c.advance-in-Ok-None.new.self c.self.invariant.0 c.self.invariant.1 c.advance-in-Ok-None.ensures (within-all what text c.min-some.result c.args.count c.self.invariant.1 some))
 
 pub returns-in-Ok-Some-clause-given : goal.returns-in-Ok-Some-clause-given
@@ -57,7 +57,7 @@ returns-in-Ok-Some-clause-given g c =
     let what = c.self.inside.what in
     let text = c.self.inside.text in
     let told = g.I.InputFiles.told c.args.input.now in
-    let some : c.min-some.result ≡ min (length text.starts.items - text.chunk) c.args.count = search rules in
+    let some = some-left text c.chunks_left.result c.min-some.result c.args.count c.min-some.ensures c.chunks_left.ensures in
     let all : c.min-some.result ≡ length text.starts.items - text.chunk = omega (arith, some, c.if-some-count.false) in
     let read = rw c.in-Ok-Some.field-0-is at c.in-Ok-Some.ensures.read in
     let on : HasReadOn what told (place_past text) c.in-Ok.chunks.items c.read_on.new.chunks.items (Some c.in-Ok-Some.text) = subst (λ (p : SourcePlace). HasReadOn what told p c.in-Ok.chunks.items c.read_on.new.chunks.items (Some c.in-Ok-Some.text)) c.place_behind-last.ensures read in
@@ -76,7 +76,7 @@ returns-in-Ok-None-clause-given g c =
     let what = c.self.inside.what in
     let text = c.self.inside.text in
     let told = g.I.InputFiles.told c.args.input.now in
-    let some : c.min-some.result ≡ min (length text.starts.items - text.chunk) c.args.count = search rules in
+    let some = some-left text c.chunks_left.result c.min-some.result c.args.count c.min-some.ensures c.chunks_left.ensures in
     let all : c.min-some.result ≡ length text.starts.items - text.chunk = omega (arith, some, c.if-some-count.false) in
     let read = rw c.in-Ok-None.field-0-is at c.in-Ok-None.ensures.read in
     let on : HasReadOn what told (place_past text) c.in-Ok.chunks.items c.read_on.new.chunks.items None = subst (λ (p : SourcePlace). HasReadOn what told p c.in-Ok.chunks.items c.read_on.new.chunks.items None) c.place_behind-last.ensures read in
@@ -95,8 +95,35 @@ returns-in-Err-clause-stopped g c =
     let what = c.self.inside.what in
     let text = c.self.inside.text in
     let told = g.I.InputFiles.told c.args.input.now in
-    let some : c.min-some.result ≡ min (length text.starts.items - text.chunk) c.args.count = search rules in
+    let some = some-left text c.chunks_left.result c.min-some.result c.args.count c.min-some.ensures c.chunks_left.ensures in
     let all : c.min-some.result ≡ length text.starts.items - text.chunk = omega (arith, some, c.if-some-count.false) in
-    let many = ap length c.in-Ok.ensures ∙ length-chunks what text c.min-some.result in
+    let many = length-given what text c.min-some.result c.in-Ok.chunks.items c.in-Ok.ensures in
     let stopped = rw c.place_behind-last.ensures at c.in-Err.ensures.stopped in
     rw (← c.self.view_is) (round-stops told what text c.min-some.result c.args.count c.in-Ok.chunks.items _ c.self.invariant.0 c.self.invariant.1 all c.in-Ok.ensures (omega (arith, many, some, c.if-some-count.false)) stopped)
+
+pub advance-requires-clause-within : goal.advance-requires-clause-within
+advance-requires-clause-within g c = within-left c.self.inside.what c.self.inside.text c.chunks_left.result c.min-some.result c.args.count c.self.invariant.1 c.min-some.ensures c.chunks_left.ensures
+
+pub advance-requires-clause-few_rows : goal.advance-requires-clause-few_rows
+advance-requires-clause-few_rows g c = rows-below c.self.inside.what c.self.inside.text c.self.invariant.1
+
+pub advance-requires-clause-few_chunks : goal.advance-requires-clause-few_chunks
+advance-requires-clause-few_chunks g c = chunks-below c.self.inside.what c.self.inside.text c.self.invariant.1
+
+pub place_behind-last-requires-clause-few_rows : goal.place_behind-last-requires-clause-few_rows
+place_behind-last-requires-clause-few_rows g c = rows-below c.self.inside.what c.self.inside.text c.self.invariant.1
+
+pub place_behind-last-requires-clause-few_chunks : goal.place_behind-last-requires-clause-few_chunks
+place_behind-last-requires-clause-few_chunks g c = chunks-below c.self.inside.what c.self.inside.text c.self.invariant.1
+
+pub advance-requires-in-Ok-None-clause-within : goal.advance-requires-in-Ok-None-clause-within
+advance-requires-in-Ok-None-clause-within g c = within-left c.self.inside.what c.self.inside.text c.chunks_left.result c.min-some.result c.args.count c.self.invariant.1 c.min-some.ensures c.chunks_left.ensures
+
+pub advance-requires-in-Ok-None-clause-few_rows : goal.advance-requires-in-Ok-None-clause-few_rows
+advance-requires-in-Ok-None-clause-few_rows g c = rows-below c.self.inside.what c.self.inside.text c.self.invariant.1
+
+pub advance-requires-in-Ok-None-clause-few_chunks : goal.advance-requires-in-Ok-None-clause-few_chunks
+advance-requires-in-Ok-None-clause-few_chunks g c = chunks-below c.self.inside.what c.self.inside.text c.self.invariant.1
+
+pub chunks_of-requires-clause-some : goal.chunks_of-requires-clause-some
+chunks_of-requires-clause-some g c = λ κs bounds. within-left c.self.inside.what c.self.inside.text c.chunks_left.result c.min-some.result c.args.count c.self.invariant.1 c.min-some.ensures c.chunks_left.ensures

@@ -1,9 +1,18 @@
 use Rattle.std.proofs.Common.{◌<◌, length, subst, sym}
 use Rattle.pipe_source.specs.Kept.{name_kept, piece_at, place_at, rows_kept}
 use Rattle.pipe_source.specs.Reader.{ReaderState}
-use Rattle.pipe_source.proofs.KeptFacts.{chunk-more, chunks-given, kept-behind}
+use Rattle.pipe_source.proofs.KeptFacts.{chunk-more, chunks-below, chunks-given, kept-behind, rows-below}
 use Rattle.pipe_source.proofs.ReaderFacts.{given-fits}
 use Rattle.pipe_source.proofs.chunk_reader.ChunkReader.take_chunk.Goals as goal
+
+pub advance-requires-clause-within : goal.advance-requires-clause-within
+advance-requires-clause-within c = chunk-more c.self.inside.what c.self.inside.text c.self.invariant.1 (subst (λ (s : ReaderState). 0 < length s.rows) (sym c.self.view_is) c.requires)
+
+pub advance-requires-clause-few_rows : goal.advance-requires-clause-few_rows
+advance-requires-clause-few_rows c = rows-below c.self.inside.what c.self.inside.text c.self.invariant.1
+
+pub advance-requires-clause-few_chunks : goal.advance-requires-clause-few_chunks
+advance-requires-clause-few_chunks c = chunks-below c.self.inside.what c.self.inside.text c.self.invariant.1
 
 pub invariant_of-self : goal.invariant_of-self
 invariant_of-self c =

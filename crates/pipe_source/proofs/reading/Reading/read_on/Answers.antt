@@ -1,11 +1,32 @@
-use Rattle.std.proofs.Common.{◌<◌, length, rules, subst, Option}
+use Rattle.std.proofs.Common.{◌≡◌, ◌≤◌, ◌<◌, List, Option, arith, length, refl, rules, subst, sym}
 use Rattle.std.specs.Option.{IfSome}
+use Rattle.pipe_columns.specs.declared.data_chunk.DataChunk.{DataChunk}
 use Rattle.pipe_io.specs.Files.{Files}
+use Rattle.pipe_source.specs.CsvChunks.{no_more}
 use Rattle.pipe_source.specs.Kept.{state_behind}
 use Rattle.pipe_source.specs.Reader.{StopsAt, left_of}
 use Rattle.pipe_source.specs.ReadOn.{HasReadNext}
-use Rattle.pipe_source.proofs.RoundFacts.{read-more, stops-behind}
+use Rattle.pipe_source.proofs.RoundFacts.{none-ahead, read-more, read-none, stands-first, stops-behind}
 use Rattle.pipe_source.proofs.reading.Reading.read_on.Goals as goal
+
+pub files-init : goal.files-init
+files-init g c =
+    let what = c.args.self.now in
+    let told = g.I.InputFiles.told c.args.input.now in
+    record {
+      told = refl;
+      later = omega arith;
+      read = read-none what told c.args.first c.args.chunks.now.items;
+      few = c.requires.few;
+      place = c.requires.place;
+      next = λ fewer. stands-first what told c.args.first;
+    }
+
+pub files-smaller : goal.files-smaller
+files-smaller g c =
+    let fewer : length c.files.chunks.items < c.args.count = search rules in
+    let found = rw c.in-Ok-Some.field-0-is at c.in-Ok-Some.ensures.read in
+    omega (arith, fewer, found.some)
 
 pub files-preserved : goal.files-preserved
 files-preserved g c =
@@ -30,3 +51,17 @@ returns-in-Err-clause-stopped g c =
     let fewer : length c.files.chunks.items < c.args.count = search rules in
     stops-behind c.args.self.now told c.args.first c.files.last c.args.chunks.now.items c.files.chunks.items c.args.count c.files.ahead _ inv.read (inv.next fewer) fewer
     (subst (λ (t : Option Files). IfSome t (λ files. StopsAt c.in-Err.error (left_of files (state_behind c.args.self.now c.files.last)))) inv.told c.in-Err.ensures.stopped)
+
+pub returns-in-Ok-None-clause-few : goal.returns-in-Ok-None-clause-few
+returns-in-Ok-None-clause-few g c =
+    let read = rw c.in-Ok-None.field-0-is at c.in-Ok-None.ensures.read in
+    subst (λ (chunks : List DataChunk). length chunks ≤ c.args.count) (sym read.0) c.files.invariant.few
+
+pub returns-in-Ok-None-clause-over : goal.returns-in-Ok-None-clause-over
+returns-in-Ok-None-clause-over g c =
+    let inv = c.files.invariant in
+    let told = g.I.InputFiles.told c.args.input.now in
+    let fewer : length c.files.chunks.items < c.args.count = search rules in
+    let read = rw c.in-Ok-None.field-0-is at c.in-Ok-None.ensures.read in
+    λ _. none-ahead c.args.self.now told c.args.first c.files.last c.files.ahead (inv.next fewer)
+    (subst (λ (t : Option Files). IfSome t (λ files. left_of files (state_behind c.args.self.now c.files.last) ≡ no_more)) inv.told read.1)
