@@ -8,22 +8,12 @@ mod finish;
 mod group_by_run;
 mod kind;
 mod positions;
-#[cfg(test)]
-mod refusal_tests;
-#[cfg(test)]
-mod row_tests;
-#[cfg(test)]
-mod test_runs;
-#[cfg(test)]
-mod thread_tests;
 mod typed_begin;
 mod typed_feed;
 mod typed_finish;
 mod typed_job;
 mod typed_round;
 mod typed_run;
-#[cfg(test)]
-mod typed_tests;
 mod typed_whole;
 mod whole_run;
 

@@ -27,6 +27,7 @@ mod slices;
 mod states;
 mod types;
 mod unfinished;
+mod worked;
 
 pub use answer_laws::{what_groups_give, what_placed_groups_give, what_placed_rows_give};
 pub use eval::Eval;
@@ -36,8 +37,3 @@ pub use part_laws::{how_placed_rows_join, what_a_partition_gives};
 pub use placed_groups::PlacedGroups;
 pub use places::Places;
 pub use row_code::{encode_row, own_values};
-
-#[cfg(test)]
-mod slice_tests;
-#[cfg(test)]
-mod tests;

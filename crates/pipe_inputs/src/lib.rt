@@ -11,6 +11,3 @@ mod value_lists;
 
 pub use chunk_rows::ChunkRows;
 pub use conditions::are_chunks;
-
-#[cfg(test)]
-mod tests;

@@ -7,6 +7,3 @@ mod unsigned;
 mod worked;
 
 pub use native::NumericNative;
-
-#[cfg(test)]
-mod tests;

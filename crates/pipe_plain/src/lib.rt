@@ -12,6 +12,3 @@ mod table;
 pub use pipe_inputs::are_chunks;
 pub use plain::plain_answer;
 pub use table::PlainGroups;
-
-#[cfg(test)]
-mod tests;

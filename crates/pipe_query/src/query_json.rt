@@ -194,6 +194,3 @@ pub fn query_of(alloc: Global, json: &Value) -> Result<Option<Query>, AllocError
         maintain_order,
     }))
 }
-
-#[cfg(test)]
-mod tests;

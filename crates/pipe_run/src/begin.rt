@@ -138,20 +138,14 @@ impl<'a, S: SpillStore + Drop + Send> GenericRun<'a, S> {
         ensures back { IfErr result (λ e. e.1.items ≡ stores.items) }
     {
         let _query = query.query();
-        let Ok(former) = marks_of(alloc, &stores) else {
+        let Ok(begun) = begun_of(alloc, query, limits, actions, &stores) else {
             return Err((AllocError, stores));
         };
         let Ok(room) = room_for(alloc, stores.len()) else {
             return Err((AllocError, stores));
         };
-        let Ok(rested) = unused_workers(alloc, &query, limits) else {
+        let Ok(rested) = unused_workers(alloc, &begun.query, limits) else {
             return Err((AllocError, stores));
-        };
-        let begun = Begun {
-            query,
-            limits: copy_of(limits),
-            actions,
-            former,
         };
         match opened(rt, alloc, &begun, stores) {
             Ok(closed) => Ok(GenericRun {
@@ -165,6 +159,35 @@ impl<'a, S: SpillStore + Drop + Send> GenericRun<'a, S> {
             Err(refusal) => Err(refusal),
         }
     }
+}
+
+/// How a run with such limits and actions is begun over stores.
+fn begun_of<'a, S: SpillStore + Drop>(
+    alloc: Global,
+    query: CheckedQuery<'a>,
+    limits: &Limits,
+    actions: Vec<Vec<SpillAction>>,
+    stores: &[S],
+) -> Result<Begun<'a, S>, AllocError>
+    ensures { IfOk result (λ b. b ≡ record {
+      query = query.entry;
+      limits = limits.now;
+      actions = map (λ v. v.items) actions.items;
+      stores = map (λ s. record {
+        held = S.held s;
+        told = S.told s;
+        faults = S.faults s;
+        sure = S.sure s;
+      }) stores.now;
+    }) }
+{
+    let former = marks_of(alloc, stores)?;
+    Ok(Begun {
+        query,
+        limits: copy_of(limits),
+        actions,
+        former,
+    })
 }
 
 /// Room for so many stores.

@@ -1,11 +1,14 @@
 //! The end of a run that was fed.
 
 ghost use Rattle.std.specs.Prelude.{◌≡◌, ◌≤◌, IfErr, IfOk, false, map, vec_capacity, vec_len};
+ghost use Rattle.pipe_model.specs.Rows.{total_height};
 ghost use Rattle.pipe_run.specs.Answered.{HaveWholeFrames, IsAnswered};
+ghost use Rattle.pipe_run.specs.Fed.{IsFedRun};
 ghost use Rattle.pipe_run.specs.Finish.{IsFinishCause};
 ghost use Rattle.pipe_run.specs.Setting.{run_of};
 
 use crate::answer::answer_of_run;
+use crate::begun::Begun;
 use crate::error::PipeError;
 use crate::output::GroupByOutput;
 use crate::parts::{Parts, parts_of};
@@ -13,9 +16,12 @@ use crate::round::Ended;
 use crate::round_of::round;
 use crate::run::GenericRun;
 use crate::stores::stores_of;
-use pipe_global::{Gate, Journal, Journals};
+use pipe_columns::DataChunk;
+use pipe_global::{ClosedPartition, Gate, Journal, Journals};
 use pipe_spill::SpillStore;
+use pipe_workers::PausedWorker;
 use std::alloc::{AllocError, Global};
+use std::snapshot::Snapshot;
 use std::sync::Wait;
 use std::thread::Threads;
 
@@ -27,6 +33,80 @@ fn journal_room(alloc: Global, count: usize) -> Result<Vec<Journal>, AllocError>
     let mut room = Vec::new(alloc);
     room.reserve(count)?;
     Ok(room)
+}
+
+/// Ends a run that was begun so, with room for its journals and its stores.
+fn finish_with<S: SpillStore + Drop + Send, G: Gate + Sync, H: Threads + Wait + Sync>(
+    rt: &H,
+    alloc: Global,
+    gate: &G,
+    begun: &Begun<'_, S>,
+    chunks: &[Snapshot<DataChunk>],
+    closed: Vec<ClosedPartition<S>>,
+    rested: Vec<PausedWorker>,
+    journals: Vec<Journal>,
+    room: Vec<S>,
+) -> (Result<GroupByOutput, PipeError>, Vec<S>)
+    requires fed { IsFedRun begun.now (map (λ c. c.value) chunks.now) closed.items rested.items
+        (total_height (map (λ c. c.value) chunks.now)) }
+    requires journals { (vec_len journals ≡ 0) × (vec_len closed ≤ vec_capacity journals) }
+    requires room { (vec_len room ≡ 0) × (vec_len closed ≤ vec_capacity room) }
+    ensures answered { IfOk result.0 (λ out. IsAnswered
+        (run_of begun.now false (map (λ c. c.value) chunks.now)) out (map (λ s. record {
+          held = S.held s;
+          told = S.told s;
+          faults = S.faults s;
+          sure = S.sure s;
+        }) result.1.items)) }
+    ensures cause { IfErr result.0 (λ e. IsFinishCause (record {
+      setting = begun.now;
+      chunks = map (λ c. c.value) chunks.now;
+      journals = map (λ c. c.journal) closed.items;
+      stores = map (λ c. c.store) closed.items;
+    }) (map (λ s. record {
+      held = S.held s;
+      told = S.told s;
+      faults = S.faults s;
+      sure = S.sure s;
+    }) result.1.items) e) }
+    ensures back { IfErr result.0 (λ _. HaveWholeFrames
+        (run_of begun.now false (map (λ c. c.value) chunks.now)) (map (λ s. record {
+          held = S.held s;
+          told = S.told s;
+          faults = S.faults s;
+          sure = S.sure s;
+        }) result.1.items)) }
+{
+    let Ended { closed, rested } = match round(
+        rt,
+        alloc,
+        gate,
+        begun,
+        false,
+        chunks,
+        &[],
+        closed,
+        rested,
+    ) {
+        Ok(ended) => ended,
+        Err((stop, closed)) => return (Err(stop.error()), stores_of(closed, room)),
+    };
+    let (groups, closed) = answer_of_run(rt, alloc, begun, chunks, closed, rested);
+    let frame = match groups {
+        Ok(frame) => frame,
+        Err(error) => return (Err(PipeError::of_groups(error)), stores_of(closed, room)),
+    };
+    let Parts {
+        journals,
+        stores,
+        arrived,
+    } = parts_of(closed, journals, room);
+    let output = GroupByOutput {
+        frame,
+        journals: Journals::new(journals),
+        overflow: arrived,
+    };
+    (Ok(output), stores)
 }
 
 impl<'a, S: SpillStore + Drop + Send> GenericRun<'a, S> {
@@ -70,35 +150,8 @@ impl<'a, S: SpillStore + Drop + Send> GenericRun<'a, S> {
         let Ok(journals) = journal_room(alloc, closed.len()) else {
             return (Err(PipeError::Memory), stores_of(closed, room));
         };
-        let Ended { closed, rested } = match round(
-            rt,
-            alloc,
-            gate,
-            &begun,
-            false,
-            &chunks,
-            &[],
-            closed,
-            rested,
-        ) {
-            Ok(ended) => ended,
-            Err((stop, closed)) => return (Err(stop.error()), stores_of(closed, room)),
-        };
-        let (groups, closed) = answer_of_run(rt, alloc, &begun, &chunks, closed, rested);
-        let frame = match groups {
-            Ok(frame) => frame,
-            Err(error) => return (Err(PipeError::of_groups(error)), stores_of(closed, room)),
-        };
-        let Parts {
-            journals,
-            stores,
-            arrived,
-        } = parts_of(closed, journals, room);
-        let output = GroupByOutput {
-            frame,
-            journals: Journals::new(journals),
-            overflow: arrived,
-        };
-        (Ok(output), stores)
+        finish_with(
+            rt, alloc, gate, &begun, &chunks, closed, rested, journals, room,
+        )
     }
 }

@@ -16,28 +16,16 @@ mod group_source;
 mod kept_table;
 mod laws;
 mod limits;
-#[cfg(test)]
-mod merge_tests;
 mod opening;
 mod output;
 mod parts;
-#[cfg(test)]
-mod refusal_tests;
 mod round;
 mod round_of;
-#[cfg(test)]
-mod row_tests;
 mod run;
-#[cfg(test)]
-mod run_tests;
 mod side_by_side;
-#[cfg(test)]
-mod spill_tests;
 mod stacking;
 mod stores;
 mod tasks;
-#[cfg(test)]
-mod test_runs;
 mod whole_run;
 
 pub use begin::checked_query;

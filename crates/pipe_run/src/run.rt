@@ -3,6 +3,7 @@
 ghost use Rattle.std.specs.Prelude.{◌≡◌, ◌+◌, ◌<◌, ◌≤◌, ◌++◌, ℕ, IfErr, IfOk, OnOk, length, map, true, vec_capacity, vec_len};
 ghost use Rattle.pipe_plan.specs.Journals.{IsWhole, journal_of};
 ghost use Rattle.pipe_run.specs.Answered.{HaveReplayedFrames, HaveWholeFrames};
+ghost use Rattle.pipe_run.specs.Fed.{IsFedRun};
 ghost use Rattle.pipe_run.specs.Feeding.{chunks_reached, IsBadChunks, IsFeedCause, NoneFell};
 ghost use Rattle.pipe_run.specs.Refusals.{CanFeed};
 ghost use Rattle.pipe_run.specs.Setting.{run_of};
@@ -55,6 +56,66 @@ impl<'a, S: SpillStore + Drop> Model for GenericRun<'a, S> {
         × (vec_len r.room ≡ 0) × (vec_len r.closed ≤ vec_capacity r.room) };
 }
 
+/// What a feed leaves, and how many rows the run has then.
+#[derive(Drop)]
+struct Fed<S: SpillStore + Drop> {
+    closed: Vec<ClosedPartition<S>>,
+    rested: Vec<PausedWorker>,
+    rows: u64,
+}
+
+/// Feeds further chunks to a run that was begun so and took those of the marks, and says how many rows
+/// there are then. A refusal hands the partitions back.
+fn fed_round<S: SpillStore + Drop + Send, G: Gate + Sync, H: Threads + Wait + Sync>(
+    rt: &H,
+    alloc: Global,
+    gate: &G,
+    begun: &Begun<'_, S>,
+    taken: &[Snapshot<DataChunk>],
+    rows: u64,
+    chunks: &[DataChunk],
+    closed: Vec<ClosedPartition<S>>,
+    rested: Vec<PausedWorker>,
+) -> Result<Fed<S>, (PipeError, Vec<ClosedPartition<S>>)>
+    requires { IsFedRun begun.now (map (λ c. c.value) taken.now) closed.items rested.items rows }
+    ensures run { IfOk result (λ r. IsFedRun begun.now (map (λ c. c.value) taken.now ++ chunks.now)
+        r.closed.items r.rested.items r.rows) }
+    ensures counted { IfOk result (λ r. NoneFell (map (λ c. c.store) closed.items)
+        (map (λ c. c.store) r.closed.items)) }
+    ensures cause { IfErr result (λ e. IsFeedCause (record {
+      setting = begun.now;
+      chunks = map (λ c. c.value) taken.now;
+      journals = map (λ c. c.journal) closed.items;
+      stores = map (λ c. c.store) closed.items;
+    }) chunks.now (map (λ c. c.store) e.1.items) e.0) }
+    ensures untouched { IfErr result (λ e. IsBadChunks e.0
+        → map (λ c. c.store) e.1.items ≡ map (λ c. c.store) closed.items) }
+    ensures back { IfErr result (λ e. HaveWholeFrames
+        (run_of begun.now true (chunks_reached (record {
+          setting = begun.now;
+          chunks = map (λ c. c.value) taken.now;
+          journals = map (λ c. c.journal) closed.items;
+          stores = map (λ c. c.store) closed.items;
+        }) chunks.now e.0)) (map (λ c. c.store) e.1.items)) }
+    ensures count { IfErr result (λ e. vec_len e.1 ≡ vec_len closed) }
+{
+    let all = match checked_rows(&begun.query, taken, rows, chunks) {
+        Ok(all) => all,
+        Err(error) => return Err((error, closed)),
+    };
+    let Ended { closed, rested } = match round(
+        rt, alloc, gate, begun, true, taken, chunks, closed, rested,
+    ) {
+        Ok(ended) => ended,
+        Err((stop, closed)) => return Err((stop.error(), closed)),
+    };
+    Ok(Fed {
+        closed,
+        rested,
+        rows: all,
+    })
+}
+
 impl<'a, S: SpillStore + Drop + Send> GenericRun<'a, S> {
     /// Feeds further chunks as `feed` does, and hands them back, so that their memory can be used again.
     pub fn feed_lent<G: Gate + Sync, H: Threads + Wait + Sync>(
@@ -98,19 +159,19 @@ impl<'a, S: SpillStore + Drop + Send> GenericRun<'a, S> {
             rows,
             room,
         } = self;
-        let all = match checked_rows(&begun.query, &taken, rows, &chunks) {
-            Ok(all) => all,
-            Err(error) => return Err((error, stores_of(closed, room))),
-        };
         let marks = match with_room(taken, chunks.len()) {
             Ok(marks) => marks,
             Err(AllocError) => return Err((PipeError::Memory, stores_of(closed, room))),
         };
-        let Ended { closed, rested } = match round(
-            rt, alloc, gate, &begun, true, &marks, &chunks, closed, rested,
+        let Fed {
+            closed,
+            rested,
+            rows,
+        } = match fed_round(
+            rt, alloc, gate, &begun, &marks, rows, &chunks, closed, rested,
         ) {
-            Ok(ended) => ended,
-            Err((stop, closed)) => return Err((stop.error(), stores_of(closed, room))),
+            Ok(fed) => fed,
+            Err((error, closed)) => return Err((error, stores_of(closed, room))),
         };
         let marks = with_marks(marks, &chunks);
         let run = GenericRun {
@@ -118,7 +179,7 @@ impl<'a, S: SpillStore + Drop + Send> GenericRun<'a, S> {
             closed,
             rested,
             chunks: marks,
-            rows: all,
+            rows,
             room,
         };
         Ok((run, chunks))

@@ -15,7 +15,7 @@ ghost use Rattle.pipe_run.specs.Stacking.{all_frames};
 use crate::by_place::frame_by_place;
 use crate::cut::cut_by_partition;
 use crate::stacking::put_below;
-use crate::tasks::{finish_each, taken_apart, tasks_of};
+use crate::tasks::{FinishRoom, finish_each, finish_room, taken_apart, tasks_of};
 use pipe_aggs::CheckedQuery;
 use pipe_columns::DataFrame;
 use pipe_global::{BatchError, ClosedPartition};
@@ -52,18 +52,17 @@ fn finish_all<S: SpillStore + Drop + Send, H: Threads + Sync>(
         (unasked query.now result.1.items local None) e) }
 {
     let count = closed.len();
-    let Ok(tasks) = Vec::with_capacity(alloc, count) else {
-        return (Err(BatchError::Memory), closed);
-    };
-    let Ok(back) = Vec::with_capacity(alloc, count) else {
-        return (Err(BatchError::Memory), closed);
-    };
-    let Ok(placed) = Vec::with_capacity(alloc, count) else {
-        return (Err(BatchError::Memory), closed);
-    };
     let Ok(locals) = cut_by_partition(alloc, query, count, local) else {
         return (Err(BatchError::Memory), closed);
     };
+    let Ok(room) = finish_room(alloc, count) else {
+        return (Err(BatchError::Memory), closed);
+    };
+    let FinishRoom {
+        tasks,
+        back,
+        placed,
+    } = room;
     let mut tasks = tasks_of(closed, locals, tasks);
     finish_each(rt, alloc, threads, tasks.as_mut_slice());
     taken_apart(tasks, back, placed)

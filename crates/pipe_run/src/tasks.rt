@@ -9,7 +9,7 @@ use pipe_groups::PlacedGroups;
 use pipe_spill::SpillStore;
 use pipe_tables::AggHashTable;
 use pipe_threads::for_each_beside;
-use std::alloc::Global;
+use std::alloc::{AllocError, Global};
 use std::thread::Threads;
 
 /// A closed partition, the local groups of its keys, and what it gave. Before it is finished that is a want
@@ -34,6 +34,33 @@ impl<S: SpillStore + Drop> FinishTask<S> {
         } = self;
         (partition, given)
     }
+}
+
+/// Room for the tasks of partitions, and for what comes back of them.
+#[derive(Drop)]
+pub(crate) struct FinishRoom<S: SpillStore + Drop> {
+    pub(crate) tasks: Vec<FinishTask<S>>,
+    pub(crate) back: Vec<ClosedPartition<S>>,
+    pub(crate) placed: Vec<PlacedGroups>,
+}
+
+/// Room for so many partitions.
+pub(crate) fn finish_room<S: SpillStore + Drop>(
+    alloc: Global,
+    count: usize,
+) -> Result<FinishRoom<S>, AllocError>
+    ensures tasks { IfOk result (λ r. (vec_len r.tasks ≡ 0) × (count ≤ vec_capacity r.tasks)) }
+    ensures back { IfOk result (λ r. (vec_len r.back ≡ 0) × (count ≤ vec_capacity r.back)) }
+    ensures placed { IfOk result (λ r. (vec_len r.placed ≡ 0) × (count ≤ vec_capacity r.placed)) }
+{
+    let tasks = Vec::with_capacity(alloc, count)?;
+    let back = Vec::with_capacity(alloc, count)?;
+    let placed = Vec::with_capacity(alloc, count)?;
+    Ok(FinishRoom {
+        tasks,
+        back,
+        placed,
+    })
 }
 
 /// Partitions with the local groups of each, in order. There is room for them.

@@ -26,8 +26,3 @@ pub use min_max::{Direction, MinMaxAgg};
 pub use null::NullAgg;
 pub use pipe_native::NumericNative;
 pub use sum::SumAgg;
-
-#[cfg(test)]
-mod lent_tests;
-#[cfg(test)]
-mod tests;

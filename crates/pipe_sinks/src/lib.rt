@@ -30,8 +30,3 @@ pub use slices::{compute_slices, default_slices};
 pub use sole_key::{
     KeyNumber, NumberKey, PrimitiveGroupbySink, SoleKey, StringGroupbySink, TextKey, has_sole_key,
 };
-
-#[cfg(test)]
-mod sink_tests;
-#[cfg(test)]
-mod slice_tests;

@@ -45,8 +45,8 @@ abbrev pub TookFew : Table → Table → ℕ → Type 0
 TookFew old now n = (now.shape ≡ old.shape)
     × ((more : ℕ) → HoldFewer old.shape old.groups (more + n) → HoldFewer now.shape now.groups more)
 
-pub took-next : (old now new : Table) (n : ℕ) → TookFew old now n → TookFew now new 1 → TookFew old new (n + 1)
-took-next old now new n a b = (b.0 ∙ a.0, λ more h. b.1 more (a.1 (more + 1) (fewer old.shape old.groups (more + (n + 1)) (more + 1 + n) (omega arith) h)))
+pub took-more : (old now new : Table) (n m : ℕ) → TookFew old now n → TookFew now new m → TookFew old new (n + m)
+took-more old now new n m a b = (b.0 ∙ a.0, λ more h. b.1 more (a.1 (more + m) (fewer old.shape old.groups (more + (n + m)) (more + m + n) (omega arith) h)))
 
 pub took-at_most : (old now : Table) (n m : ℕ) → n ≤ m → TookFew old now n → TookFew old now m
 took-at_most old now n m le a = (a.0, λ more h. a.1 more (fewer old.shape old.groups (more + m) (more + n) (omega (arith, le)) h))

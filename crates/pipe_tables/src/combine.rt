@@ -7,7 +7,7 @@ ghost use Rattle.pipe_tables.specs.Tables.{groups_in, HasGroups, HoldFewTogether
 use crate::hash_table::AggHashTable;
 use crate::merge::take_all;
 use crate::merge_part::take_part;
-use crate::part_size::size_of_part;
+use crate::part_size::make_room_for_part;
 use crate::parts::parts_for;
 use std::alloc::AllocError;
 
@@ -57,8 +57,7 @@ impl AggHashTable {
         ensures other_err { OnErr result (HasGroups other.old other.new other.old.groups) }
     {
         let parts = parts_for(other.parts.take(), &other.keyed, partitions)?;
-        let size = size_of_part(&other.keyed, &parts, partition)?;
-        self.keyed.make_room(size.groups, size.key_bytes)?;
+        make_room_for_part(&mut self.keyed, &other.keyed, &parts, partition)?;
         self.parts = None;
         take_part(&mut self.keyed, &mut other.keyed, &parts, partition);
         other.parts = Some(parts);

@@ -38,22 +38,3 @@ pub use pipe_plan::SpillAction;
 pub use query_groups::QueryGroups;
 pub use spill_partitions::SpillPartitions;
 pub use thread_local::ThreadLocalTable;
-
-#[cfg(test)]
-mod key_tests;
-#[cfg(test)]
-mod local_tests;
-#[cfg(test)]
-mod memory_tests;
-#[cfg(test)]
-mod placed_tests;
-#[cfg(test)]
-mod slice_tests;
-#[cfg(test)]
-mod step_tests;
-#[cfg(test)]
-mod table_tests;
-#[cfg(test)]
-mod test_rows;
-#[cfg(test)]
-mod two_tables;

@@ -62,6 +62,3 @@ impl OocState {
         }
     }
 }
-
-#[cfg(test)]
-mod tests;

@@ -1,7 +1,7 @@
 //! How much the groups of a partition hold.
 
-ghost use Rattle.std.specs.Prelude.{◌≡◌, ◌+◌, IfOk, length, Some};
-ghost use Rattle.pipe_groups.specs.Groups.{count_held, held_bytes};
+ghost use Rattle.std.specs.Prelude.{◌≡◌, ◌+◌, IfOk, OnOk, length, Some};
+ghost use Rattle.pipe_groups.specs.Groups.{Covers, count_held, HasGroups, held_bytes};
 ghost use Rattle.pipe_tables.specs.Parts.{ArePartsOf};
 ghost use Rattle.pipe_tables.specs.Tables.{groups_in};
 
@@ -32,7 +32,7 @@ impl PartSize {
 }
 
 /// The size of a partition of groups. It looks at the groups of this partition alone.
-pub(crate) fn size_of_part(
+fn size_of_part(
     keyed: &KeyedGroups,
     parts: &Parts,
     partition: usize,
@@ -55,4 +55,21 @@ pub(crate) fn size_of_part(
         at = parts.chains.before(index);
     }
     Ok(size)
+}
+
+/// Makes room for the groups of a partition of others.
+pub(crate) fn make_room_for_part(
+    own: &mut KeyedGroups,
+    other: &KeyedGroups,
+    parts: &Parts,
+    partition: usize,
+) -> Result<(), AllocError>
+    requires { ArePartsOf other.now.groups (Some parts.now) }
+    ensures groups { HasGroups own.old own.new own.old.groups }
+    ensures ok { OnOk result (Covers own.new
+        (count_held (groups_in parts.now.partitions partition other.now.groups))
+        (held_bytes (groups_in parts.now.partitions partition other.now.groups))) }
+{
+    let size = size_of_part(other, parts, partition)?;
+    own.make_room(size.groups, size.key_bytes)
 }

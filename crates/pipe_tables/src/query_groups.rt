@@ -11,6 +11,7 @@ ghost use Rattle.pipe_spill.specs.declared.spill_row.SpillRow.{SpillRow};
 ghost use Rattle.pipe_groups.specs.Holds.{HoldFewer, Holds};
 ghost use Rattle.pipe_groups.specs.Shape.{shape_of};
 ghost use Rattle.pipe_tables.specs.Tables.{KeepsShape};
+ghost use Rattle.pipe_tables.specs.Taken.{HasTaken};
 
 use crate::hash_table::AggHashTable;
 use crate::insert_end::LentEnd;
@@ -58,6 +59,51 @@ fn add_chunk(
         }
     }
     Ok(())
+}
+
+/// Puts the rows of the next chunk into a table that has taken chunks, of which marks are at hand, and
+/// marks it too.
+fn take_chunk(
+    alloc: Global,
+    table: &mut AggHashTable,
+    key: &mut Vec<u8>,
+    taken: &mut Vec<Snapshot<DataChunk>>,
+    query: &CheckedQuery<'_>,
+    chunk: &DataChunk,
+) -> Result<(), AllocError>
+    requires before { HasTaken (query_tree query.now) (map (λ s. s.value) taken.old.items) table.old }
+    requires fits { FitsSchema query.now.schema chunk.now.frame }
+    requires few { total_height (map (λ s. s.value) taken.old.items) + chunk.now.frame.height
+        < 2 ^ 32 }
+    requires number { length taken.old.items + 1 < 2 ^ 32 }
+    ensures after { OnOk result (HasTaken (query_tree query.now)
+        (map (λ s. s.value) taken.new.items) table.new) }
+    ensures taken { OnOk result (map (λ s. s.value) taken.new.items
+        ≡ map (λ s. s.value) taken.old.items ++ chunk.now ∷ []) }
+{
+    let index = taken.len() as u32;
+    add_chunk(alloc, table, key, query, index, chunk)?;
+    taken.push(Snapshot::of(chunk))?;
+    Ok(())
+}
+
+/// The answer of a query by a table that has taken chunks, of which marks are at hand.
+fn answer_of(
+    alloc: Global,
+    query: &CheckedQuery<'_>,
+    table: &mut AggHashTable,
+    taken: &[Snapshot<DataChunk>],
+) -> Result<DataFrame, AllocError>
+    requires { HasTaken (query_tree query.now) (map (λ s. s.value) taken.now) table.old }
+    ensures { IfOk result (λ f. f
+        ≡ answer (map (λ s. s.value) taken.now) (query_tree query.now) 1) }
+{
+    let mut slice = query.slice();
+    if query.query().maintain_order {
+        let placed = table.finalize_placed()?;
+        return placed.in_order_of_rows(alloc, &mut slice);
+    }
+    table.finalize(&mut slice)
 }
 
 /// The groups of a query over chunks that come one by one. Contracts see the query and the chunks
@@ -111,9 +157,7 @@ impl<'a> QueryGroups<'a> {
             mut key,
             mut taken,
         } = self;
-        let index = taken.len() as u32;
-        add_chunk(alloc, &mut table, &mut key, query, index, chunk)?;
-        taken.push(Snapshot::of(chunk))?;
+        take_chunk(alloc, &mut table, &mut key, &mut taken, query, chunk)?;
         Ok(QueryGroups {
             query,
             table,
@@ -130,13 +174,9 @@ impl<'a> QueryGroups<'a> {
         let QueryGroups {
             query,
             mut table,
+            taken,
             ..
         } = self;
-        let mut slice = query.slice();
-        if query.query().maintain_order {
-            let placed = table.finalize_placed()?;
-            return placed.in_order_of_rows(alloc, &mut slice);
-        }
-        table.finalize(&mut slice)
+        answer_of(alloc, query, &mut table, &taken)
     }
 }

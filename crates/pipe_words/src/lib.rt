@@ -11,6 +11,3 @@ mod words;
 
 pub use plan::{Format, Plan};
 pub use words::read_words;
-
-#[cfg(test)]
-mod tests;

@@ -10,4 +10,3 @@ pub mod RowEnds
 pub mod Answering
 pub mod Sinking
 pub mod Runs
-pub mod TestedTurns

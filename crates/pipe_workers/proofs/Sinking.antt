@@ -2,7 +2,7 @@
 use Rattle.std.proofs.Common.{◌≡◌, ◌≢◌, ◌∙◌, ◌+◌, ◌*◌, ◌/◌, ◌%◌, ◌<◌, ◌^◌, ℕ, Bool, suc, true, false, List, [], ◌∷◌, ◌++◌, length, get_or, Some, slice_get, refl, sym, ap, subst, arith, length-append}
 use Rattle.std.specs.List.{slice_index_or}
 use Rattle.std.proofs.lemmas.Bool.{eq-eqb, ne_eqb}
-use Rattle.std.proofs.lemmas.Option.{slice_get_read}
+use Rattle.std.proofs.lemmas.Option.{slice_get_read, slice_get_within}
 use Rattle.pipe_columns.specs.declared.data_chunk.DataChunk.{DataChunk}
 use Rattle.pipe_plan.specs.declared.event.SpillAction.{SpillAction}
 use Rattle.pipe_plan.specs.declared.event.SpillAction.TheVariants as action
@@ -43,6 +43,12 @@ module _ (r : Run) (t : Local) (h : SharesSeen) (j : ℕ) (closed stopped : Bool
   -- it comes to the turn
   pub sink-begins : IsAtTurn r h.worker (v + j * m) chunk t h
   sink-begins = subst (λ n. IsAtTurn r h.worker n chunk t h) (sym place) (record { at = at-own; turn = own; after = ready-own.after })
+
+  -- its position has a number
+  pub sink-place : TakesTurns r → v + j * m < 2 ^ 32
+  sink-place takes =
+      let within : next_position r y < length r.chunks = slice_get_within r.chunks (next_position r y) chunk at-own in
+      omega (arith, place, within, takes.chunks.number)
 
   -- its turns have numbers
   pub sink-few : TakesTurns r → j + 1 < 2 ^ 64

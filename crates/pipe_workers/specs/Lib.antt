@@ -2,4 +2,3 @@ pub mod Workers
 pub mod Turns
 pub mod Steps
 pub mod Rounds
-pub mod TestedRuns

@@ -10,16 +10,10 @@ mod laws;
 mod paused;
 mod pick;
 mod round;
-#[cfg(test)]
-mod round_tests;
 mod rows;
 mod shared;
 mod sink;
 mod stop;
-#[cfg(test)]
-mod test_runs;
-#[cfg(test)]
-mod thread_tests;
 mod turn;
 mod work;
 

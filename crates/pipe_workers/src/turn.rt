@@ -1,9 +1,12 @@
 //! A turn.
 
-ghost use Rattle.std.specs.Prelude.{◌≡◌, ◌+◌, length, IfErr, OnErr, OnOk};
+ghost use Rattle.std.specs.Prelude.{◌≡◌, ◌+◌, All, length, IfErr, OnErr, OnOk};
+ghost use Rattle.pipe_aggs.specs.QueryTrees.{query_tree};
+ghost use Rattle.pipe_model.specs.Output.{key_types};
 ghost use Rattle.pipe_plan.specs.Plan.{action_at};
 ghost use Rattle.pipe_plan.specs.Progress.{rows_before};
-ghost use Rattle.pipe_workers.specs.Steps.{IsAtTurn, IsInTurn};
+ghost use Rattle.pipe_spill.specs.KeyTypes.{AreOfTypes};
+ghost use Rattle.pipe_workers.specs.Steps.{AreRowsOfTurn, IsAtTurn, IsInTurn};
 ghost use Rattle.pipe_workers.specs.Turns.{AreSharesAtStop, IsAfterTurns};
 ghost use Rattle.pipe_workers.specs.declared.stop.WorkerStop.TheVariants as stop;
 
@@ -19,6 +22,33 @@ use pipe_spill::SpillStore;
 use pipe_tables::ThreadLocalTable;
 use std::alloc::AllocError;
 use std::sync::Wait;
+
+/// Takes the rows of a turn, in order.
+fn take_all<S: SpillStore + Drop, R: Naming, G: Gate, H: Wait>(
+    rt: &H,
+    shared: &Shared<'_, S, R, G>,
+    table: &mut ThreadLocalTable,
+    shares: &mut Shares<R>,
+    key: &mut Vec<u8>,
+    turn: &TurnRows<'_>,
+) -> Result<(), AllocError>
+    requires typed { All (λ r. AreOfTypes (key_types (query_tree shared.now)) r.key)
+        turn.now.rows }
+    requires turn { AreRowsOfTurn R.run shares.old.worker turn.now.position turn.now.rows }
+    requires begun { IsInTurn R.run shares.old.worker turn.now.position
+        (rows_before R.run shares.old.worker turn.now.position) table.old shares.old }
+    ensures ok { OnOk result (IsInTurn R.run shares.old.worker turn.now.position
+        (rows_before R.run shares.old.worker (turn.now.position + 1)) table.new shares.new) }
+    ensures err { OnErr result
+        (AreSharesAtStop R.run shares.old.worker stop.Memory shares.new) }
+{
+    let types = shared.query().key_types();
+    for row in 0..turn.rows.len() {
+        table.look_ahead(types, &turn.rows, row);
+        take_row(rt, shared, table, shares, key, turn, row)?;
+    }
+    Ok(())
+}
 
 /// Takes the rows of the chunk at a position, in order.
 fn take_rows<S: SpillStore + Drop, R: Naming, G: Gate, H: Wait>(
@@ -39,11 +69,7 @@ fn take_rows<S: SpillStore + Drop, R: Naming, G: Gate, H: Wait>(
     let query = shared.query();
     let rows = ChunkRows::new(shared.alloc, query, position as u32, chunk)?;
     let turn = TurnRows { position, rows };
-    for row in 0..turn.rows.len() {
-        table.look_ahead(query.key_types(), &turn.rows, row);
-        take_row(rt, shared, table, shares, key, &turn, row)?;
-    }
-    Ok(())
+    take_all(rt, shared, table, shares, key, &turn)
 }
 
 /// Takes the chunk at a position, and then, where it has rows, the turn's action.

@@ -6,8 +6,6 @@ pub mod laws;
 mod made;
 mod query;
 mod round;
-#[cfg(test)]
-mod tests;
 mod worked;
 
 pub use made::Made;

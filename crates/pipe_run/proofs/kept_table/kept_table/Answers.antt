@@ -2,8 +2,6 @@ use Rattle.std.proofs.Common.{rules, ◌≡◌, ◌∙◌, ◌∷◌, ◌+◌, f
 use Rattle.std.specs.Vec.Iter.{into_iter_items, into_iter_len}
 use Rattle.pipe_plan.specs.Run.{Run}
 use Rattle.pipe_workers.specs.declared.paused.PausedWorker.{PausedWorker}
-use Rattle.pipe_groups.specs.Groups.{AreJoined}
-use Rattle.pipe_tables.specs.Tables.{HoldFewTogether, Table}
 use Rattle.pipe_run.specs.Setting.{run_of}
 use Rattle.pipe_run.proofs.KeptTables.{holds-all, holds-first, holds-next, HoldsFirst, none-left, next-few, next-shape}
 use Rattle.pipe_run.proofs.kept_table.kept_table.Goals as goal
@@ -13,24 +11,23 @@ workers-init g c =
     let r : Run = run_of c.args.begun.now false (map (λ m. m.value) c.args.chunks.now) in
     let items : c.args.rests.items ≡ c.in-Some.first ∷ into_iter_items c.next.new.self = search rules in
     let one : into_iter_len c.next.new.self + 1 ≡ into_iter_len c.into_iter-waiting.result = c.in-Some.ensures.cases.1 in (
-      holds-first r c.args.rests.items c.requires.kept c.in-Some.first (into_iter_items c.next.new.self) c.into_inner_map-kept.result items c.into_inner_map-kept.ensures,
+      holds-first r c.args.rests.items c.requires.kept c.in-Some.first (into_iter_items c.next.new.self) c.map_of-kept.result items c.map_of-kept.ensures,
       omega (arith, one, c.into_iter-waiting.ensures.len, c.args.rests.ok.0, ap (λ (l : List PausedWorker). length l) items),
     )
 
-pub combine-requires-clause-shape : goal.combine-requires-clause-shape
-combine-requires-clause-shape g c =
+pub combine_next-requires-clause-shape : goal.combine_next-requires-clause-shape
+combine_next-requires-clause-shape g c =
     let r : Run = run_of c.args.begun.now false (map (λ m. m.value) c.args.chunks.now) in
     let items : into_iter_items c.workers.waiting ≡ c.in-Some-next.rest ∷ into_iter_items c.next-in-workers.new.self = search rules in
     let h = subst (λ (l : List PausedWorker). HoldsFirst r c.args.rests.items l c.workers.kept) items c.workers.invariant.0 in
-    ap (λ (t : Table). t.shape) c.into_inner_map.ensures ∙ next-shape r c.args.rests.items c.requires.kept c.workers.kept c.in-Some-next.rest (into_iter_items c.next-in-workers.new.self) h
+    next-shape r c.args.rests.items c.requires.kept c.workers.kept c.in-Some-next.rest (into_iter_items c.next-in-workers.new.self) h
 
-pub combine-requires-clause-few : goal.combine-requires-clause-few
-combine-requires-clause-few g c =
+pub combine_next-requires-clause-few : goal.combine_next-requires-clause-few
+combine_next-requires-clause-few g c =
     let r : Run = run_of c.args.begun.now false (map (λ m. m.value) c.args.chunks.now) in
     let items : into_iter_items c.workers.waiting ≡ c.in-Some-next.rest ∷ into_iter_items c.next-in-workers.new.self = search rules in
     let h = subst (λ (l : List PausedWorker). HoldsFirst r c.args.rests.items l c.workers.kept) items c.workers.invariant.0 in
-    subst (HoldFewTogether c.workers.kept) (sym c.into_inner_map.ensures)
-    (next-few r c.args.rests.items c.requires.kept c.workers.kept c.in-Some-next.rest (into_iter_items c.next-in-workers.new.self) h c.requires.run)
+    next-few r c.args.rests.items c.requires.kept c.workers.kept c.in-Some-next.rest (into_iter_items c.next-in-workers.new.self) h c.requires.run
 
 pub workers-preserved : goal.workers-preserved
 workers-preserved g c =
@@ -38,8 +35,7 @@ workers-preserved g c =
     let items : into_iter_items c.workers.waiting ≡ c.in-Some-next.rest ∷ into_iter_items c.next-in-workers.new.self = search rules in
     let h = subst (λ (l : List PausedWorker). HoldsFirst r c.args.rests.items l c.workers.kept) items c.workers.invariant.0 in
     let one : into_iter_len c.next-in-workers.new.self + 1 ≡ into_iter_len c.workers.waiting = c.in-Some-next.ensures.cases.1 in (
-      holds-next r c.args.rests.items c.requires.kept c.workers.kept c.in-Some-next.rest (into_iter_items c.next-in-workers.new.self) h c.combine.new.self c.in_ok-combine.ensures.shape
-          (subst (λ (t : Table). AreJoined c.workers.kept.shape.prototypes c.workers.kept.groups t.groups c.combine.new.self.groups) c.into_inner_map.ensures c.in_ok-combine.ensures.joined),
+      holds-next r c.args.rests.items c.requires.kept c.workers.kept c.in-Some-next.rest (into_iter_items c.next-in-workers.new.self) h c.combine_next.new.kept c.in_ok-combine_next.ensures.shape c.in_ok-combine_next.ensures.joined,
       omega (arith, one, c.workers.invariant.1, ap (λ (l : List PausedWorker). length l) items),
     )
 

@@ -1,10 +1,11 @@
-use Rattle.std.proofs.Common.{rules, ◌≡◌, ◌∙◌, ◌&&◌, ◌∷◌, List, arith, ap, length, map, subst, sym}
+use Rattle.std.proofs.Common.{rules, ◌≡◌, ◌∙◌, ◌&&◌, ◌∷◌, ◌++◌, [], List, arith, ap, length, map, subst, sym}
 use Rattle.std.specs.List.{All, list_all}
-use Rattle.std.proofs.lemmas.List.Elements.{All-push}
+use Rattle.std.proofs.lemmas.List.Elements.{All-nil, All-push}
 use Rattle.std.specs.Vec.Iter.{into_iter_items}
 use Rattle.pipe_global.specs.Shares.{SharesSeen}
 use Rattle.pipe_workers.specs.Rounds.{JobSeen}
 use Rattle.pipe_run.specs.Rounds.{has_gone_on, rest_of, shares_of}
+use Rattle.pipe_run.proofs.KeptTables.{none-left}
 use Rattle.pipe_run.proofs.Lists.{built-more, passed-more}
 use Rattle.pipe_run.proofs.round.gather.Goals as goal
 
@@ -12,7 +13,7 @@ pub loop-job-preserved : goal.loop-job-preserved
 loop-job-preserved g c =
     let old : List JobSeen = into_iter_items c.loop-job.job-iterator in
     let new : List JobSeen = into_iter_items c.next.new.self in
-    let items : old ≡ c.in-Some.job ∷ new = search rules in
+    let items : old ≡ c.in-Some.job ∷ new = c.in-Some.ensures.steps.0 in
     let shares_are : c.pause-paused.result.1 ≡ shares_of c.in-Some.job = search rules in
     let rest_is : c.pause-paused.result.0 ≡ rest_of c.in-Some.job = search rules in
     let on : c.is_none-all.result ≡ has_gone_on c.in-Some.job = search rules in
@@ -29,3 +30,32 @@ loop-job-preserved g c =
       subst (All (λ (x : SharesSeen). length x.events ≡ g.R.Naming.run.limits.partitions)) (sym c.push_reserved.ensures.items)
           (All-push (λ (x : SharesSeen). length x.events ≡ g.R.Naming.run.limits.partitions) c.loop-job.shares.items c.pause-paused.result.1 c.loop-job.invariant.9 c.worker-worker.ensures.shares),
     )
+
+pub loop-job-init : goal.loop-job-init
+loop-job-init g c =
+    let iter : List JobSeen = into_iter_items c.into_iter-job-iterator.result in
+    let gives : iter ≡ c.args.jobs.items = c.into_iter-job-iterator.ensures.into_iter_gives.0 in
+    let size = ap (λ (l : List JobSeen). length l) gives in
+    let no_shares : c.args.rooms.shares.items ≡ [] = none-left c.args.rooms.shares.items (sym c.args.rooms.shares.ok.0 ∙ c.requires.shares.0) in
+    let no_rested : c.args.rooms.rested.items ≡ [] = none-left c.args.rooms.rested.items (sym c.args.rooms.rested.ok.0 ∙ c.requires.rested.0) in
+    let counted = λ (x : SharesSeen). length x.events ≡ g.R.Naming.run.limits.partitions in (
+      tt,
+      tt,
+      omega (arith, c.requires.shares, size, c.args.jobs.ok.0),
+      omega (arith, c.requires.rested, size, c.args.jobs.ok.0),
+      c.requires.shares.1,
+      c.requires.rested.1,
+      ap (λ l. l ++ map shares_of iter) no_shares ∙ ap (map shares_of) gives,
+      ap (λ l. l ++ map rest_of iter) no_rested ∙ ap (map rest_of) gives,
+      ap (list_all has_gone_on) gives,
+      subst (All counted) (sym no_shares) (All-nil counted),
+    )
+
+pub push_reserved-requires : goal.push_reserved-requires
+push_reserved-requires g c = omega (arith, ap (λ (l : List JobSeen). length l) c.in-Some.ensures.steps.0, c.loop-job.invariant.2, c.loop-job.invariant.4)
+
+pub push_reserved-requires-in-loop-job : goal.push_reserved-requires-in-loop-job
+push_reserved-requires-in-loop-job g c = omega (arith, ap (λ (l : List JobSeen). length l) c.in-Some.ensures.steps.0, c.loop-job.invariant.3, c.loop-job.invariant.5)
+
+pub loop-job-smaller : goal.loop-job-smaller
+loop-job-smaller g c = omega (arith, ap (λ (l : List JobSeen). length l) c.in-Some.ensures.steps.0, c.next.new.self.rest.ok.0, c.loop-job.job-iterator.rest.ok.0)

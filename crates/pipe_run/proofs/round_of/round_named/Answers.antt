@@ -1,5 +1,6 @@
-use Rattle.std.proofs.Common.{rules, ◌≡◌, ◌∙◌, ℕ, List, length, map, sym, ap, subst}
+use Rattle.std.proofs.Common.{◌≡◌, ◌∙◌, ℕ, List, arith, length, map, sym, ap, subst}
 use Rattle.std.proofs.lemmas.List.{length-map}
+use Rattle.pipe_aggs.specs.QueryTrees.{query_tree}
 use Rattle.pipe_plan.specs.declared.event.SpillAction.{SpillAction}
 use Rattle.pipe_plan.specs.Run.{Run}
 use Rattle.pipe_global.specs.Partition.{IsRunnable, PartitionSeen}
@@ -44,7 +45,7 @@ drive-requires-clause-round g c = λ κs lives.
 pub drive-requires-clause-ready : goal.drive-requires-clause-ready
 drive-requires-clause-ready g c = λ κs lives.
     let first : length (map (λ s. s.value) c.args.taken.now) ≡ c.new-round.result.first = length-map c.args.taken.now (λ s. s.value) ∙ sym (ap (λ (x : RoundSeen). x.first) c.new-round.ensures) in
-    let long : length c.in-Ok-resume.shares.items ≡ g.R.Naming.run.limits.workers = search rules in
+    let long : length c.in-Ok-resume.shares.items ≡ g.R.Naming.run.limits.workers = omega (arith, c.in-Ok-resume.shares.ok.0, c.in-Ok-resume.ensures.len) in
     let count : length c.in-Ok-resume.shares.items ≡ c.args.begun.now.limits.workers = long ∙ ap (λ (r : Run). r.limits.workers) c.requires.run in
     let resumed : AreResumed c.args.closed.items (map (λ (x : PausedWorker). x.picks) c.args.rested.items) c.in-Ok-resume.shares.items =
     subst (λ (ps : List ℕ). AreResumed c.args.closed.items ps c.in-Ok-resume.shares.items) (c.deref-2.ensures.value ∙ c.in-Ok-picks_of.ensures ∙ ap (λ (l : List PausedWorker). map (λ x. x.picks) l) c.deref.ensures.value) c.in-Ok-resume.ensures.shares in
@@ -55,3 +56,40 @@ drive-requires-clause-ready g c = λ κs lives.
 pub returns-in-Err-clause-back : goal.returns-in-Err-clause-back
 returns-in-Err-clause-back g c =
     subst (λ (l : List PartitionSeen). AllStand g.R.Naming.run l) (sym c.in-Err.ensures.back) (subst (λ (r : Run). AllStand r c.args.closed.items) (sym c.requires.run) (take-stand c.args.begun.now c.args.is_open (map (λ s. s.value) c.args.taken.now) c.args.chunks.now c.args.closed.items c.args.rested.items c.requires.fed))
+
+pub resume-requires-clause-partitions : goal.resume-requires-clause-partitions
+resume-requires-clause-partitions g c = (c.requires.partitions.0, c.requires.partitions.1 ∙ sym (ap (λ (r : Run). r.limits.partitions) c.requires.run))
+
+pub resume-requires-clause-workers : goal.resume-requires-clause-workers
+resume-requires-clause-workers g c = (c.requires.workers.0, c.requires.workers.1 ∙ sym (ap (λ (r : Run). r.limits.workers) c.requires.run))
+
+pub resume-requires-clause-refusals : goal.resume-requires-clause-refusals
+resume-requires-clause-refusals g c = (c.requires.refusals.0, c.requires.refusals.1 ∙ sym (ap (λ (r : Run). r.limits.partitions) c.requires.run))
+
+pub resume-requires-clause-faults : goal.resume-requires-clause-faults
+resume-requires-clause-faults g c = (c.requires.faults.0, c.requires.faults.1 ∙ sym (ap (λ (r : Run). r.limits.workers) c.requires.run))
+
+pub resume-requires-clause-query : goal.resume-requires-clause-query
+resume-requires-clause-query g c = ap (λ (r : Run). r.query) c.requires.run ∙ sym (ap (λ (v : Setting). query_tree v.query) c.begun.view_is)
+
+pub resume-requires-clause-count : goal.resume-requires-clause-count
+resume-requires-clause-count g c = omega (arith, c.args.closed.ok.0, c.requires.fed.partitions.count, ap (λ (r : Run). r.limits.partitions) c.requires.run)
+
+pub resume-requires-clause-numbers : goal.resume-requires-clause-numbers
+resume-requires-clause-numbers g c =
+    let picks : c.deref-2.result.now ≡ map (λ (x : PausedWorker). x.picks) c.args.rested.items = c.deref-2.ensures.value ∙ c.in-Ok-picks_of.ensures ∙ ap (λ (l : List PausedWorker). map (λ x. x.picks) l) c.deref.ensures.value in (
+      ap (λ (r : Run). r.limits.workers) c.requires.run ∙ sym c.requires.fed.workers.count ∙ sym (length-map c.args.rested.items (λ (x : PausedWorker). x.picks)) ∙ sym (ap (λ (l : List ℕ). length l) picks),
+      ap (λ (r : Run). r.limits.payload_limit) c.requires.run ∙ sym (ap (λ (v : Setting). v.limits.payload_limit) c.begun.view_is),
+    )
+
+pub drive-requires-clause-query : goal.drive-requires-clause-query
+drive-requires-clause-query g c = λ κs lives. ap (λ (r : Run). r.query) c.requires.run ∙ sym (ap (λ (v : Setting). query_tree v.query) c.begun.view_is)
+
+pub drive-requires-clause-limits : goal.drive-requires-clause-limits
+drive-requires-clause-limits g c = λ κs lives. ap (λ (r : Run). r.limits) c.requires.run ∙ sym (ap (λ (v : Setting). v.limits) c.begun.view_is)
+
+pub drive-requires-clause-shares : goal.drive-requires-clause-shares
+drive-requires-clause-shares g c = λ κs lives. c.in-Ok-resume.ensures.len
+
+pub drive-requires-clause-rested : goal.drive-requires-clause-rested
+drive-requires-clause-rested g c = λ κs lives. omega (arith, c.args.rested.ok.0, c.requires.fed.workers.count, ap (λ (r : Run). r.limits.workers) c.requires.run)

@@ -19,17 +19,17 @@ pub finish_each-requires-clause-can : goal.finish_each-requires-clause-can
 finish_each-requires-clause-can g c κs within p d lt =
     let s = unasked c.args.query.now c.args.closed.items c.args.local None in
     let count : c.len-count.result ≡ length c.args.closed.items = search rules in
-    let cut = subst (λ n. (p : ℕ) (d : Table) → p < n → IsPartOf n p c.args.local (slice_index_or c.in-Ok-cut_by_partition.locals.items p d)) count c.in-Ok-cut_by_partition.ensures.parts in
+    let cut = subst (λ n. (p : ℕ) (d : Table) → p < n → IsPartOf n p c.args.local (slice_index_or c.in-Ok.locals.items p d)) count c.in-Ok.ensures.parts in
     let old : List (FinishTask g.row.S.Denot) = c.as_mut_slice.result.now in
     let lent : old ≡ c.tasks_of-tasks.result.items = c.as_mut_slice.ensures.value in
-    tasks-finish (λ t. t.partition) (λ t. t.local) (λ t. t.given) s c.requires.source refl c.in-Ok-cut_by_partition.locals.items old old
+    tasks-finish (λ t. t.partition) (λ t. t.local) (λ t. t.given) s c.requires.source refl c.in-Ok.locals.items old old
     (ap (λ l. map (λ t. t.partition) l) lent ∙ c.tasks_of-tasks.ensures.partitions) (ap (λ l. map (λ t. t.local) l) lent ∙ c.tasks_of-tasks.ensures.locals) cut p d lt
 
 pub returns-clause-count : goal.returns-clause-count
 returns-clause-count g c =
     let s = unasked c.args.query.now c.args.closed.items c.args.local None in
     let count : c.len-count.result ≡ length c.args.closed.items = search rules in
-    let cut = subst (λ n. (p : ℕ) (d : Table) → p < n → IsPartOf n p c.args.local (slice_index_or c.in-Ok-cut_by_partition.locals.items p d)) count c.in-Ok-cut_by_partition.ensures.parts in
+    let cut = subst (λ n. (p : ℕ) (d : Table) → p < n → IsPartOf n p c.args.local (slice_index_or c.in-Ok.locals.items p d)) count c.in-Ok.ensures.parts in
     let old : List (FinishTask g.row.S.Denot) = c.as_mut_slice.result.now in
     let new : List (FinishTask g.row.S.Denot) = c.finish_each.new.tasks in
     let lent : old ≡ c.tasks_of-tasks.result.items = c.as_mut_slice.ensures.value in
@@ -38,13 +38,13 @@ returns-clause-count g c =
     let locals = ap (λ l. map (λ t. t.local) l) lent ∙ c.tasks_of-tasks.ensures.locals in
     let after = c.taken_apart.ensures.partitions ∙ ap (λ l. map (λ t. t.partition) l) back in
     IfOk-weaker c.taken_apart.result.0 (λ v. map Ok v.items ≡ map (λ t. t.given) _) (λ v. length v.items ≡ length c.args.closed.items)
-    (λ v all. tasks-count (λ t. t.partition) (λ t. t.local) (λ t. t.given) s c.requires.source refl c.in-Ok-cut_by_partition.locals.items old new partitions locals cut c.finish_each.ensures.count c.finish_each.ensures.each c.taken_apart.result.1.items after v.items (all ∙ ap (λ l. map (λ t. t.given) l) back)) c.taken_apart.ensures.placed
+    (λ v all. tasks-count (λ t. t.partition) (λ t. t.local) (λ t. t.given) s c.requires.source refl c.in-Ok.locals.items old new partitions locals cut c.finish_each.ensures.count c.finish_each.ensures.each c.taken_apart.result.1.items after v.items (all ∙ ap (λ l. map (λ t. t.given) l) back)) c.taken_apart.ensures.placed
 
 pub returns-clause-frames : goal.returns-clause-frames
 returns-clause-frames g c =
     let s = unasked c.args.query.now c.args.closed.items c.args.local None in
     let count : c.len-count.result ≡ length c.args.closed.items = search rules in
-    let cut = subst (λ n. (p : ℕ) (d : Table) → p < n → IsPartOf n p c.args.local (slice_index_or c.in-Ok-cut_by_partition.locals.items p d)) count c.in-Ok-cut_by_partition.ensures.parts in
+    let cut = subst (λ n. (p : ℕ) (d : Table) → p < n → IsPartOf n p c.args.local (slice_index_or c.in-Ok.locals.items p d)) count c.in-Ok.ensures.parts in
     let old : List (FinishTask g.row.S.Denot) = c.as_mut_slice.result.now in
     let new : List (FinishTask g.row.S.Denot) = c.finish_each.new.tasks in
     let lent : old ≡ c.tasks_of-tasks.result.items = c.as_mut_slice.ensures.value in
@@ -53,13 +53,13 @@ returns-clause-frames g c =
     let locals = ap (λ l. map (λ t. t.local) l) lent ∙ c.tasks_of-tasks.ensures.locals in
     let after = c.taken_apart.ensures.partitions ∙ ap (λ l. map (λ t. t.partition) l) back in
     IfOk-weaker c.taken_apart.result.0 (λ v. map Ok v.items ≡ map (λ t. t.given) _) (λ v. All (IsPlacedFrame (query_tree c.args.query.now)) v.items)
-    (λ v all. tasks-frames (λ t. t.partition) (λ t. t.local) (λ t. t.given) s c.requires.source refl c.in-Ok-cut_by_partition.locals.items old new partitions locals cut c.finish_each.ensures.count c.finish_each.ensures.each c.taken_apart.result.1.items after v.items (all ∙ ap (λ l. map (λ t. t.given) l) back)) c.taken_apart.ensures.placed
+    (λ v all. tasks-frames (λ t. t.partition) (λ t. t.local) (λ t. t.given) s c.requires.source refl c.in-Ok.locals.items old new partitions locals cut c.finish_each.ensures.count c.finish_each.ensures.each c.taken_apart.result.1.items after v.items (all ∙ ap (λ l. map (λ t. t.given) l) back)) c.taken_apart.ensures.placed
 
 pub returns-clause-placed : goal.returns-clause-placed
 returns-clause-placed g c =
     let s = unasked c.args.query.now c.args.closed.items c.args.local None in
     let count : c.len-count.result ≡ length c.args.closed.items = search rules in
-    let cut = subst (λ n. (p : ℕ) (d : Table) → p < n → IsPartOf n p c.args.local (slice_index_or c.in-Ok-cut_by_partition.locals.items p d)) count c.in-Ok-cut_by_partition.ensures.parts in
+    let cut = subst (λ n. (p : ℕ) (d : Table) → p < n → IsPartOf n p c.args.local (slice_index_or c.in-Ok.locals.items p d)) count c.in-Ok.ensures.parts in
     let old : List (FinishTask g.row.S.Denot) = c.as_mut_slice.result.now in
     let new : List (FinishTask g.row.S.Denot) = c.finish_each.new.tasks in
     let lent : old ≡ c.tasks_of-tasks.result.items = c.as_mut_slice.ensures.value in
@@ -68,13 +68,13 @@ returns-clause-placed g c =
     let locals = ap (λ l. map (λ t. t.local) l) lent ∙ c.tasks_of-tasks.ensures.locals in
     let after = c.taken_apart.ensures.partitions ∙ ap (λ l. map (λ t. t.partition) l) back in
     IfOk-weaker c.taken_apart.result.0 (λ v. map Ok v.items ≡ map (λ t. t.given) _) (λ v. (rs : List Row) → HasRows rs s → ArePlacedParts (query_tree c.args.query.now) rs (length c.args.closed.items) v.items)
-    (λ v all. tasks-placed (λ t. t.partition) (λ t. t.local) (λ t. t.given) s c.requires.source refl c.in-Ok-cut_by_partition.locals.items old new partitions locals cut c.finish_each.ensures.count c.finish_each.ensures.each c.taken_apart.result.1.items after v.items (all ∙ ap (λ l. map (λ t. t.given) l) back)) c.taken_apart.ensures.placed
+    (λ v all. tasks-placed (λ t. t.partition) (λ t. t.local) (λ t. t.given) s c.requires.source refl c.in-Ok.locals.items old new partitions locals cut c.finish_each.ensures.count c.finish_each.ensures.each c.taken_apart.result.1.items after v.items (all ∙ ap (λ l. map (λ t. t.given) l) back)) c.taken_apart.ensures.placed
 
 pub returns-clause-kept : goal.returns-clause-kept
 returns-clause-kept g c =
     let s = unasked c.args.query.now c.args.closed.items c.args.local None in
     let count : c.len-count.result ≡ length c.args.closed.items = search rules in
-    let cut = subst (λ n. (p : ℕ) (d : Table) → p < n → IsPartOf n p c.args.local (slice_index_or c.in-Ok-cut_by_partition.locals.items p d)) count c.in-Ok-cut_by_partition.ensures.parts in
+    let cut = subst (λ n. (p : ℕ) (d : Table) → p < n → IsPartOf n p c.args.local (slice_index_or c.in-Ok.locals.items p d)) count c.in-Ok.ensures.parts in
     let old : List (FinishTask g.row.S.Denot) = c.as_mut_slice.result.now in
     let new : List (FinishTask g.row.S.Denot) = c.finish_each.new.tasks in
     let lent : old ≡ c.tasks_of-tasks.result.items = c.as_mut_slice.ensures.value in
@@ -82,13 +82,13 @@ returns-clause-kept g c =
     let partitions = ap (λ l. map (λ t. t.partition) l) lent ∙ c.tasks_of-tasks.ensures.partitions in
     let locals = ap (λ l. map (λ t. t.local) l) lent ∙ c.tasks_of-tasks.ensures.locals in
     let after = c.taken_apart.ensures.partitions ∙ ap (λ l. map (λ t. t.partition) l) back in
-    tasks-kept (λ t. t.partition) (λ t. t.local) (λ t. t.given) s c.requires.source refl c.in-Ok-cut_by_partition.locals.items old new partitions locals cut c.finish_each.ensures.count c.finish_each.ensures.each c.taken_apart.result.1.items after
+    tasks-kept (λ t. t.partition) (λ t. t.local) (λ t. t.given) s c.requires.source refl c.in-Ok.locals.items old new partitions locals cut c.finish_each.ensures.count c.finish_each.ensures.each c.taken_apart.result.1.items after
 
 pub returns-clause-cause : goal.returns-clause-cause
 returns-clause-cause g c =
     let s = unasked c.args.query.now c.args.closed.items c.args.local None in
     let count : c.len-count.result ≡ length c.args.closed.items = search rules in
-    let cut = subst (λ n. (p : ℕ) (d : Table) → p < n → IsPartOf n p c.args.local (slice_index_or c.in-Ok-cut_by_partition.locals.items p d)) count c.in-Ok-cut_by_partition.ensures.parts in
+    let cut = subst (λ n. (p : ℕ) (d : Table) → p < n → IsPartOf n p c.args.local (slice_index_or c.in-Ok.locals.items p d)) count c.in-Ok.ensures.parts in
     let old : List (FinishTask g.row.S.Denot) = c.as_mut_slice.result.now in
     let new : List (FinishTask g.row.S.Denot) = c.finish_each.new.tasks in
     let lent : old ≡ c.tasks_of-tasks.result.items = c.as_mut_slice.ensures.value in
@@ -97,4 +97,4 @@ returns-clause-cause g c =
     let locals = ap (λ l. map (λ t. t.local) l) lent ∙ c.tasks_of-tasks.ensures.locals in
     let after = c.taken_apart.ensures.partitions ∙ ap (λ l. map (λ t. t.partition) l) back in
     IfErr-weaker c.taken_apart.result.0 (λ e. IsFirstRefusal (map (λ t. t.given) _) e) (λ e. IsGiveCause s (record s { partitions = c.taken_apart.result.1.items }) e)
-    (λ e there. tasks-cause (λ t. t.partition) (λ t. t.local) (λ t. t.given) s c.requires.source refl c.in-Ok-cut_by_partition.locals.items old new partitions locals cut c.finish_each.ensures.count c.finish_each.ensures.each c.taken_apart.result.1.items after e (subst (λ l. Contains (map (λ t. t.given) l) (Err e)) back (first-given (map (λ t. t.given) _) e there))) c.taken_apart.ensures.refused
+    (λ e there. tasks-cause (λ t. t.partition) (λ t. t.local) (λ t. t.given) s c.requires.source refl c.in-Ok.locals.items old new partitions locals cut c.finish_each.ensures.count c.finish_each.ensures.each c.taken_apart.result.1.items after e (subst (λ l. Contains (map (λ t. t.given) l) (Err e)) back (first-given (map (λ t. t.given) _) e there))) c.taken_apart.ensures.refused

@@ -1,10 +1,10 @@
-use Rattle.std.proofs.Common.{◌∙◌, ◌<◌, sym, subst, length, slice_index_or, slice_set, ◌+◌, ◌++◌, List}
+use Rattle.std.proofs.Common.{◌∙◌, ◌<◌, arith, sym, subst, length, slice_index_or, slice_set, ◌+◌, ◌++◌, List}
 use Rattle.std.proofs.lemmas.List.{get_or_default}
 use Rattle.pipe_aggs.specs.QueryTrees.{query_tree}
 use Rattle.pipe_model.specs.Partitions.{groups_in}
 use Rattle.pipe_groups.specs.QueryRows.{ArePlacedRows}
 use Rattle.pipe_spill.specs.declared.spill_row.SpillRow.{SpillRow}
-use Rattle.pipe_global.specs.Finishing.{GivesOwnPlaced, GivesPlaced, IsCause, IsLeftOf, IsRestOf, KeepsRest, own_rows, StandFor, StandTogether}
+use Rattle.pipe_global.specs.Finishing.{CanFinish, GivesOwnPlaced, GivesPlaced, IsCause, IsLeftOf, IsRestOf, KeepsRest, own_rows, StandFor, StandTogether}
 use Rattle.pipe_global.specs.Partition.{PartitionSeen}
 use Rattle.pipe_run.specs.Given.{HasRows, KeepsSource, SourceSeen}
 use Rattle.pipe_run.specs.Sources.{IsPlacedFrame}
@@ -98,3 +98,16 @@ returns-clause-frame g c =
     subst (λ (v : SourceSeen). IsPlacedFrame (query_tree v.query) c.in-Ok.groups) c.self.view_is
     (own-placed (query_tree s.query) (slice_index_or s.partitions s.given y) c.in-Ok.groups shape.shape
     (subst (λ (x : PartitionSeen). GivesOwnPlaced x c.in-Ok.groups.frame c.in-Ok.groups.firsts) at c.in-Ok.ensures.partition))
+
+pub index_mut-partition-requires : goal.index_mut-partition-requires
+index_mut-partition-requires g c =
+    let lt = subst (λ (v : SourceSeen). v.given < length v.partitions) (sym c.self.view_is) c.requires.left in
+    omega (arith, lt, c.self.inside.partitions.ok.0)
+
+pub finish_placed-requires : goal.finish_placed-requires
+finish_placed-requires g c =
+    let s : SourceSeen = record { query = c.self.inside.query.now; partitions = c.self.inside.partitions.items; local = c.self.inside.local; slice = c.self.inside.slice; given = c.self.inside.given } in
+    let lt = subst (λ (v : SourceSeen). v.given < length v.partitions) (sym c.self.view_is) c.requires.left in
+    let y = c.index_mut-partition.result.now in
+    let at = c.index_mut-partition.ensures.value ∙ get_or_default s.partitions s.given y y lt in
+    subst (λ (x : PartitionSeen). CanFinish x s.local) (sym at) ((c.self.invariant.each s.given y lt).can (omega arith))

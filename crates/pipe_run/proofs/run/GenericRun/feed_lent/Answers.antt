@@ -1,87 +1,105 @@
-use Rattle.std.proofs.Common.{rules, ◌≡◌, ◌∙◌, ◌++◌, ◌≤◌, ℕ, List, arith, length, map, refl, subst, sym, true, vec_capacity, vec_len}
+use Rattle.std.proofs.Common.{◌≡◌, ◌∙◌, ◌++◌, ◌≤◌, List, ap, arith, length, map, subst, sym, true, vec_capacity, vec_len}
 use Rattle.pipe_columns.specs.declared.data_chunk.DataChunk.{DataChunk}
-use Rattle.pipe_aggs.specs.QueryTrees.{query_tree}
-use Rattle.pipe_aggs.specs.CheckedQuery.{IsSound}
-use Rattle.pipe_model.specs.Rows.{AreChunksOf, total_height}
+use Rattle.pipe_plan.specs.declared.event.PartitionEvent.{PartitionEvent}
+use Rattle.pipe_global.specs.Partition.{PartitionSeen}
 use Rattle.pipe_plan.specs.Run.{StoreSeen}
 use Rattle.pipe_run.specs.Answered.{HaveWholeFrames}
-use Rattle.pipe_run.specs.Fed.{AllStand, AreWholePartitions, CountOn, HaveEnded, IsFedRun, RoseFrom}
-use Rattle.pipe_run.specs.Feeding.{chunks_reached, IsBadChunks, IsFeedCause}
-use Rattle.pipe_run.specs.Setting.{run_of}
-use Rattle.pipe_run.specs.declared.round.RoundStop.TheVariants as stop
-use Rattle.pipe_run.proofs.FeedEnds.{bad-back, bad-untouched, early-back, none-fell, stop-back, stop-cause-of, stop-fits}
-use Rattle.pipe_run.proofs.Feeding.{fed-more}
+use Rattle.pipe_run.specs.Fed.{FedSeen, IsFedRun}
+use Rattle.pipe_run.specs.Feeding.{chunks_reached, IsFeedCause, NoneFell}
+use Rattle.pipe_run.specs.Setting.{run_of, Setting}
+use Rattle.pipe_run.proofs.FeedEnds.{early-back, fed-all}
 use Rattle.pipe_run.proofs.run.GenericRun.feed_lent.Goals as goal
+
+-- what is seen of a run
+abbrev seen_of : Setting → List DataChunk → List (List PartitionEvent) → List StoreSeen → FedSeen
+seen_of x taken journals stores = record { setting = x; chunks = taken; journals = journals; stores = stores }
 
 pub returns-in-Err-clause-back : goal.returns-in-Err-clause-back
 returns-in-Err-clause-back g c =
-    let bad : IsBadChunks c.in-Err.error = search rules in
-    bad-back c.self.inside.begun (map (λ m. m.value) c.self.inside.chunks.items) (map (λ p. p.journal) c.self.inside.closed.items) (map (λ p. p.store) c.self.inside.closed.items) c.args.self c.self.view_is
-    (map (λ s. record { held = g.S.SpillStore.held s; told = g.S.SpillStore.told s; faults = g.S.SpillStore.faults s; sure = g.S.SpillStore.sure s }) c.stores_of.result.items)
-    c.self.inside.closed.items c.self.inside.rested.items c.self.inside.rows c.self.invariant.0 c.args.chunks.items c.in-Err.error bad c.stores_of.ensures
-
-pub returns-in-Err-with_room-clause-back : goal.returns-in-Err-with_room-clause-back
-returns-in-Err-with_room-clause-back g c =
-    early-back c.self.inside.begun (map (λ m. m.value) c.self.inside.chunks.items) (map (λ p. p.journal) c.self.inside.closed.items) (map (λ p. p.store) c.self.inside.closed.items) c.args.self c.self.view_is
-    (map (λ s. record { held = g.S.SpillStore.held s; told = g.S.SpillStore.told s; faults = g.S.SpillStore.faults s; sure = g.S.SpillStore.sure s }) c.stores_of-in-Err-with_room.result.items)
-    c.self.inside.closed.items c.self.inside.rested.items c.self.inside.rows c.self.invariant.0 c.args.chunks.items c.stores_of-in-Err-with_room.ensures
-
-pub returns-in-Err-round-clause-cause : goal.returns-in-Err-round-clause-cause
-returns-in-Err-round-clause-cause g c =
     let x = c.self.inside.begun in
     let taken : List DataChunk = map (λ m. m.value) c.self.inside.chunks.items in
-    let stores : List StoreSeen = map (λ s. record { held = g.S.SpillStore.held s; told = g.S.SpillStore.told s; faults = g.S.SpillStore.faults s; sure = g.S.SpillStore.sure s }) c.stores_of-in-Err-round.result.items in
-    let are : AreChunksOf (query_tree x.query) (taken ++ c.args.chunks.items) = search rules in
-    let stand : AllStand (run_of x true (taken ++ c.args.chunks.items)) c.in-Err-round.closed.items = search rules in
-    let rose : (p : ℕ) → c.in-Err-round.stop ≡ stop.Store p → RoseFrom c.self.inside.closed.items p c.in-Err-round.closed.items = search rules in
-    subst (IsFeedCause c.args.self c.args.chunks.items stores) (sym c.error.ensures)
-    (stop-cause-of x taken (map (λ p. p.journal) c.self.inside.closed.items) (map (λ p. p.store) c.self.inside.closed.items) c.args.self c.self.view_is stores c.self.inside.closed.items c.self.inside.rested.items c.self.inside.rows c.self.invariant.0
-    c.args.chunks.items c.in-Err-round.closed.items c.in-Err-round.stop are c.stores_of-in-Err-round.ensures refl stand rose)
+    let journals = map (λ (p : PartitionSeen). p.journal) c.self.inside.closed.items in
+    let seen = map (λ (p : PartitionSeen). p.store) c.self.inside.closed.items in
+    early-back x taken journals seen c.args.self c.self.view_is (map (λ s. record { held = g.S.SpillStore.held s; told = g.S.SpillStore.told s; faults = g.S.SpillStore.faults s; sure = g.S.SpillStore.sure s }) c.stores_of.result.items)
+    c.self.inside.closed.items c.self.inside.rested.items c.self.inside.rows c.self.invariant.0 c.args.chunks.items c.stores_of.ensures
 
-pub returns-in-Err-round-clause-back : goal.returns-in-Err-round-clause-back
-returns-in-Err-round-clause-back g c =
+pub returns-in-Err-fed_round-clause-cause : goal.returns-in-Err-fed_round-clause-cause
+returns-in-Err-fed_round-clause-cause g c =
     let x = c.self.inside.begun in
     let taken : List DataChunk = map (λ m. m.value) c.self.inside.chunks.items in
-    let stores : List StoreSeen = map (λ s. record { held = g.S.SpillStore.held s; told = g.S.SpillStore.told s; faults = g.S.SpillStore.faults s; sure = g.S.SpillStore.sure s }) c.stores_of-in-Err-round.result.items in
-    let stand : AllStand (run_of x true (taken ++ c.args.chunks.items)) c.in-Err-round.closed.items = search rules in
-    subst (λ e. HaveWholeFrames (run_of c.args.self.setting true (chunks_reached c.args.self c.args.chunks.items e)) stores) (sym c.error.ensures)
-    (stop-back x taken (map (λ p. p.journal) c.self.inside.closed.items) (map (λ p. p.store) c.self.inside.closed.items) c.args.self c.self.view_is stores c.self.inside.closed.items c.self.inside.rested.items c.self.inside.rows c.self.invariant.0
-    c.args.chunks.items c.in-Err-round.closed.items c.in-Err-round.stop c.stores_of-in-Err-round.ensures stand)
+    let journals = map (λ (p : PartitionSeen). p.journal) c.self.inside.closed.items in
+    let seen = map (λ (p : PartitionSeen). p.store) c.self.inside.closed.items in
+    let marks = ap (λ l. map (λ m. m.value) l) (c.deref.ensures.value ∙ c.in-Ok.ensures.same) in
+    let stores = (map (λ s. record { held = g.S.SpillStore.held s; told = g.S.SpillStore.told s; faults = g.S.SpillStore.faults s; sure = g.S.SpillStore.sure s }) c.stores_of-in-Err-fed_round.result.items) in
+    let after = map (λ (p : PartitionSeen). p.store) c.in-Err-fed_round.closed.items in
+    let e = c.in-Err-fed_round.error in
+    subst (λ (s : FedSeen). IsFeedCause s c.args.chunks.items stores e) c.self.view_is
+    (subst (λ l. IsFeedCause (seen_of x taken journals seen) c.args.chunks.items l e) (sym c.stores_of-in-Err-fed_round.ensures)
+    (subst (λ l. IsFeedCause (seen_of x taken journals seen) l after e) c.deref-2.ensures.value
+    (subst (λ l. IsFeedCause (seen_of x l journals seen) c.deref-2.result.now after e) marks c.in-Err-fed_round.ensures.cause)))
+
+pub returns-in-Err-fed_round-clause-untouched : goal.returns-in-Err-fed_round-clause-untouched
+returns-in-Err-fed_round-clause-untouched g c =
+    λ bad. c.stores_of-in-Err-fed_round.ensures ∙ c.in-Err-fed_round.ensures.untouched bad ∙ ap (λ (s : FedSeen). s.stores) c.self.view_is
+
+pub returns-in-Err-fed_round-clause-back : goal.returns-in-Err-fed_round-clause-back
+returns-in-Err-fed_round-clause-back g c =
+    let x = c.self.inside.begun in
+    let taken : List DataChunk = map (λ m. m.value) c.self.inside.chunks.items in
+    let journals = map (λ (p : PartitionSeen). p.journal) c.self.inside.closed.items in
+    let seen = map (λ (p : PartitionSeen). p.store) c.self.inside.closed.items in
+    let marks = ap (λ l. map (λ m. m.value) l) (c.deref.ensures.value ∙ c.in-Ok.ensures.same) in
+    let stores = (map (λ s. record { held = g.S.SpillStore.held s; told = g.S.SpillStore.told s; faults = g.S.SpillStore.faults s; sure = g.S.SpillStore.sure s }) c.stores_of-in-Err-fed_round.result.items) in
+    let after = map (λ (p : PartitionSeen). p.store) c.in-Err-fed_round.closed.items in
+    let e = c.in-Err-fed_round.error in
+    subst (λ (s : FedSeen). HaveWholeFrames (run_of s.setting true (chunks_reached s c.args.chunks.items e)) stores) c.self.view_is
+    (subst (λ l. HaveWholeFrames (run_of (seen_of x taken journals seen).setting true (chunks_reached (seen_of x taken journals seen) c.args.chunks.items e)) l) (sym c.stores_of-in-Err-fed_round.ensures)
+    (subst (λ l. HaveWholeFrames (run_of (seen_of x taken journals seen).setting true (chunks_reached (seen_of x taken journals seen) l e)) after) c.deref-2.ensures.value
+    (subst (λ l. HaveWholeFrames (run_of (seen_of x l journals seen).setting true (chunks_reached (seen_of x l journals seen) c.deref-2.result.now e)) after) marks c.in-Err-fed_round.ensures.back)))
 
 pub invariant_of-run : goal.invariant_of-run
 invariant_of-run g c =
     let x = c.self.inside.begun in
     let taken : List DataChunk = map (λ m. m.value) c.self.inside.chunks.items in
-    let closed = c.in-Ok-round.ended.closed.items in
-    let rested = c.in-Ok-round.ended.rested.items in
-    let marks : map (λ m. m.value) c.with_marks-marks.result.items ≡ taken ++ c.args.chunks.items = search rules in
-    let are : AreChunksOf (query_tree x.query) (taken ++ c.args.chunks.items) = search rules in
-    let high : c.in-Ok.all ≡ total_height (taken ++ c.args.chunks.items) = search rules in
-    let sound : IsSound x.query = search rules in
-    let whole : AreWholePartitions (run_of x true (taken ++ c.args.chunks.items)) closed = search rules in
-    let ended : HaveEnded (run_of x true (taken ++ c.args.chunks.items)) rested = search rules in
-    let fed = fed-more x (taken ++ c.args.chunks.items) c.self.inside.closed.items closed c.self.inside.rested.items rested taken c.self.inside.rows c.in-Ok.all sound c.self.invariant.0 are high whole ended in
+    let journals = map (λ (p : PartitionSeen). p.journal) c.self.inside.closed.items in
+    let seen = map (λ (p : PartitionSeen). p.store) c.self.inside.closed.items in
+    let marks = ap (λ l. map (λ m. m.value) l) (c.deref.ensures.value ∙ c.in-Ok.ensures.same) in
+    let closed = c.in-Ok-fed_round.fed.closed.items in
+    let rested = c.in-Ok-fed_round.fed.rested.items in
+    let fed = subst (λ l. IsFedRun x (taken ++ l) closed rested c.in-Ok-fed_round.fed.rows) c.deref-2.ensures.value
+    (subst (λ l. IsFedRun x (l ++ c.deref-2.result.now) closed rested c.in-Ok-fed_round.fed.rows) marks c.in-Ok-fed_round.ensures.run) in
+    let all = c.with_marks-marks.ensures ∙ ap (λ l. map (λ m. m.value) c.in-Ok.marks.items ++ l) c.deref-3.ensures.value ∙ ap (λ l. map (λ m. m.value) l ++ c.args.chunks.items) c.in-Ok.ensures.same in
     let was : length c.self.inside.closed.items ≡ x.limits.partitions = c.self.invariant.0.fed.partitions.count in
-    let is : length closed ≡ x.limits.partitions = whole.count in
-    let room : vec_len c.in-Ok-round.ended.closed ≤ vec_capacity c.self.inside.room = omega (arith, was, is, c.self.invariant.2, c.in-Ok-round.ended.closed.ok.0, c.self.inside.closed.ok.0) in
-    (subst (λ l. IsFedRun x l closed rested c.in-Ok.all) (sym marks) fed, c.self.invariant.1, room)
+    let is : length closed ≡ x.limits.partitions = fed.fed.partitions.count in
+    let room : vec_len c.in-Ok-fed_round.fed.closed ≤ vec_capacity c.self.inside.room = omega (arith, was, is, c.self.invariant.2, c.in-Ok-fed_round.fed.closed.ok.0, c.self.inside.closed.ok.0) in
+    (subst (λ l. IsFedRun x l closed rested c.in-Ok-fed_round.fed.rows) (sym all) fed, c.self.invariant.1, room)
+
+pub returns-in-Err-clause-cause : goal.returns-in-Err-clause-cause
+returns-in-Err-clause-cause g c = tt
 
 pub returns-in-Err-clause-untouched : goal.returns-in-Err-clause-untouched
-returns-in-Err-clause-untouched g c = λ bad.
-    bad-untouched c.self.inside.begun (map (λ m. m.value) c.self.inside.chunks.items) (map (λ p. p.journal) c.self.inside.closed.items) (map (λ p. p.store) c.self.inside.closed.items) c.args.self c.self.view_is
-    (map (λ s. record { held = g.S.SpillStore.held s; told = g.S.SpillStore.told s; faults = g.S.SpillStore.faults s; sure = g.S.SpillStore.sure s }) c.stores_of.result.items)
-    c.self.inside.closed.items c.self.inside.rested.items c.self.inside.rows c.self.invariant.0 c.stores_of.ensures refl
+returns-in-Err-clause-untouched g c = λ bad. absurd bad
 
-pub returns-in-Err-round-clause-untouched : goal.returns-in-Err-round-clause-untouched
-returns-in-Err-round-clause-untouched g c = λ bad. absurd (stop-fits c.in-Err-round.stop (subst IsBadChunks c.error.ensures bad))
+pub returns-clause-setting : goal.returns-clause-setting
+returns-clause-setting g c = ap (λ (s : FedSeen). s.setting) c.self.view_is
 
-pub returns-clause-counted : goal.returns-clause-counted
-returns-clause-counted g c =
+pub returns-clause-chunks : goal.returns-clause-chunks
+returns-clause-chunks g c =
+    let all = c.with_marks-marks.ensures ∙ ap (λ l. map (λ m. m.value) c.in-Ok.marks.items ++ l) c.deref-3.ensures.value ∙ ap (λ l. map (λ m. m.value) l ++ c.args.chunks.items) c.in-Ok.ensures.same in
+    all ∙ ap (λ (s : FedSeen). s.chunks ++ c.args.chunks.items) c.self.view_is
+
+pub returns-clause-fed : goal.returns-clause-fed
+returns-clause-fed g c =
     let x = c.self.inside.begun in
     let taken : List DataChunk = map (λ m. m.value) c.self.inside.chunks.items in
-    let closed = c.self.inside.closed.items in
-    let after = c.in-Ok-round.ended.closed.items in
-    let whole : AreWholePartitions (run_of x true (taken ++ c.args.chunks.items)) after = search rules in
-    let on : CountOn closed after = search rules in
-    none-fell x taken (map (λ p. p.journal) closed) (map (λ p. p.store) closed) c.args.self c.self.view_is (map (λ p. p.store) after) closed c.self.inside.rested.items c.self.inside.rows c.self.invariant.0
-    after refl refl (whole.count ∙ sym c.self.invariant.0.fed.partitions.count) on
+    let journals = map (λ (p : PartitionSeen). p.journal) c.self.inside.closed.items in
+    let seen = map (λ (p : PartitionSeen). p.store) c.self.inside.closed.items in
+    let marks = ap (λ l. map (λ m. m.value) l) (c.deref.ensures.value ∙ c.in-Ok.ensures.same) in
+    let closed = c.in-Ok-fed_round.fed.closed.items in
+    let rested = c.in-Ok-fed_round.fed.rested.items in
+    let fed = subst (λ l. IsFedRun x (taken ++ l) closed rested c.in-Ok-fed_round.fed.rows) c.deref-2.ensures.value
+    (subst (λ l. IsFedRun x (l ++ c.deref-2.result.now) closed rested c.in-Ok-fed_round.fed.rows) marks c.in-Ok-fed_round.ensures.run) in
+    fed-all x taken journals seen c.args.self c.self.view_is seen c.self.inside.closed.items c.self.inside.rested.items c.self.inside.rows c.self.invariant.0 c.args.chunks.items fed.chunks_are
+
+pub returns-clause-counted : goal.returns-clause-counted
+returns-clause-counted g c = subst (λ (s : FedSeen). NoneFell s.stores (map (λ (p : PartitionSeen). p.store) c.in-Ok-fed_round.fed.closed.items)) c.self.view_is c.in-Ok-fed_round.ensures.counted

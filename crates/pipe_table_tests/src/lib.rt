@@ -1,0 +1,9 @@
+//! Tests of groups and tables, by their public functions alone.
+#![tactic(auto)]
+
+#[cfg(test)]
+mod groups;
+#[cfg(test)]
+mod sinks;
+#[cfg(test)]
+mod tables;

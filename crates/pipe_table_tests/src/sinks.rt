@@ -1,0 +1,4 @@
+//! Sinks for one key.
+
+mod sink_tests;
+mod slice_tests;

@@ -1,0 +1,12 @@
+//! Tables, local tables and what overflows.
+
+mod key_tests;
+mod local_tests;
+mod memory_tests;
+mod placed_tests;
+mod slice_tests;
+mod state_tests;
+mod step_tests;
+mod table_tests;
+mod test_rows;
+mod two_tables;

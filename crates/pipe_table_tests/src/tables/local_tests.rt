@@ -1,0 +1,299 @@
+//! A local table that holds one key.
+
+ghost use Rattle.std.specs.Prelude.{◌≡◌, ◌<◌, ◌^◌, All, IfOk, OnErr, OnOk, length, true};
+ghost use Rattle.pipe_aggs.specs.CheckedQuery.{input_types};
+ghost use Rattle.pipe_aggs.specs.QueryTrees.{query_tree};
+ghost use Rattle.pipe_columns.specs.Key.{code};
+ghost use Rattle.pipe_inputs.specs.ChunkRows.{row_at};
+ghost use Rattle.pipe_plan.specs.Run.{AreLimits, is_generic};
+ghost use Rattle.pipe_groups.specs.Shape.{shape_of};
+ghost use Rattle.pipe_model.specs.Output.{key_types};
+ghost use Rattle.pipe_spill.specs.SpillRow.{HasValues, IsRow, spilled};
+ghost use Rattle.pipe_tables.specs.Buffers.{is_taken_lent, with_none};
+ghost use Rattle.pipe_tables.specs.LocalTable.{NoneWaits, with_buffers, with_row};
+ghost use Rattle.pipe_tables.specs.Tables.{TakesOne};
+
+use crate::tables::table_tests::{assert_numbers, given};
+use pipe_aggs::{AExpr, Arena, CheckedQuery, IRAggExpr, Node, Query};
+use pipe_columns::{AnyValue, Column, DataChunk, DataFrame, DataType, Field, Schema, Text};
+use pipe_groups::encode_row;
+use pipe_inputs::ChunkRows;
+use pipe_plan::{Limits, SinkKind};
+use pipe_spill::SpillPayload;
+use pipe_tables::{AggHashTable, LentLocalEnd, ThreadLocalTable};
+use std::alloc::{AllocError, Global};
+use std::process::Abort;
+use std::test::Fail;
+
+fn add(arena: &mut Arena, expr: AExpr) -> Result<(), Fail> {
+    match arena.add(expr) {
+        Ok(_) => Ok(()),
+        Err(_) => Err("Arena::add wants memory".into()),
+    }
+}
+
+/// The column k.
+fn schema_of(alloc: Global) -> Result<Schema, AllocError> {
+    let name = Text::new(alloc, "k")?;
+    let dtype = DataType::Int64;
+    Ok(Schema::new(vec![in alloc; Field { name, dtype }]?))
+}
+
+/// The column k, and how many rows there are.
+fn arena_of(alloc: Global) -> Result<Arena, Fail> {
+    let mut arena = Arena::new(alloc);
+    add(&mut arena, AExpr::Column(Text::new(alloc, "k")?))?;
+    add(&mut arena, AExpr::Len)?;
+    Ok(arena)
+}
+
+/// How many rows there are by k.
+pub(crate) fn query_of(alloc: Global) -> Result<Query, Fail> {
+    Ok(Query {
+        schema: schema_of(alloc)?,
+        arena: arena_of(alloc)?,
+        keys: vec![in alloc; Node(0)]?,
+        aggs: vec![in alloc; Node(1)]?,
+        slice: None,
+        maintain_order: false,
+    })
+}
+
+/// Rows of the keys 1, 2, 1.
+pub(crate) fn chunk_of(alloc: Global) -> Result<DataChunk, Fail> {
+    let values = vec![in alloc; AnyValue::Int(1), AnyValue::Int(2), AnyValue::Int(1)]?;
+    let name = Text::new(alloc, "k")?;
+    let column = match Column::new(name, DataType::Int64, false, values) {
+        Some(column) => column,
+        None => return Err("no column".into()),
+    };
+    match DataFrame::new(3, vec![in alloc; column]?) {
+        Some(frame) => Ok(DataChunk {
+            chunk_index: 0,
+            frame,
+        }),
+        None => Err("no frame".into()),
+    }
+}
+
+/// One partition, and one key that is held.
+fn limits_of(buffer_size: usize) -> Limits
+    requires { 0 < buffer_size }
+    ensures limits { AreLimits result }
+    ensures generic { is_generic result.sink ≡ true }
+{
+    Limits {
+        sink: SinkKind::Generic,
+        workers: 1,
+        partitions: 1,
+        spill_size: 0,
+        buffer_size,
+        payload_limit: 0,
+    }
+}
+
+/// Takes a row of a chunk in, again where memory was wanting.
+fn insert(
+    table: &mut ThreadLocalTable,
+    key: &[u8],
+    rows: &ChunkRows<'_>,
+    row: usize,
+) -> LentLocalEnd
+    requires there { row < length rows.now }
+    requires placed { row < 2 ^ 32 }
+    requires code { key.now ≡ code table.old.table.shape.key_types (row_at rows.now row).key }
+    requires typed { IsRow table.old.table.shape.key_types table.old.table.shape.input_types
+        (spilled table.old.table.shape.key_types (row_at rows.now row)) }
+    requires few { TakesOne table.old.table }
+    ensures { is_taken_lent result ≡ true → table.new
+        ≡ with_row (spilled table.old.table.shape.key_types (row_at rows.now row)) table.old }
+{
+    match table.insert_lent(key, rows, row) {
+        LentLocalEnd::Memory => table.insert_lent(key, rows, row),
+        end => end,
+    }
+}
+
+/// Takes a row of a chunk in, and notes how many rows left.
+fn take(
+    table: &mut ThreadLocalTable,
+    key: &mut Vec<u8>,
+    query: &CheckedQuery<'_>,
+    rows: &ChunkRows<'_>,
+    row: usize,
+    left: &mut Vec<usize>,
+) -> Result<(), Fail>
+    requires there { row < length rows.now }
+    requires number { row < 2 ^ 32 }
+    requires typed { All (HasValues (key_types (query_tree query.now))
+        (input_types (query_tree query.now))) rows.now }
+    requires shape { table.old.table.shape ≡ shape_of (query_tree query.now) }
+    requires few { TakesOne table.old.table }
+    ensures { OnOk result (table.new
+        ≡ with_row (spilled (key_types (query_tree query.now)) (row_at rows.now row)) table.old) }
+{
+    encode_row(key, rows, row, query.key_types())?;
+    match insert(table, key, rows, row) {
+        LentLocalEnd::Done => Ok(left.push(0)?),
+        LentLocalEnd::Payload(_, payload) => Ok(left.push(payload.rows.len())?),
+        LentLocalEnd::Memory => Err("out of memory".into()),
+    }
+}
+
+/// A local table that takes the rows of a chunk. How many rows left at each goes into a list.
+fn fed(
+    alloc: Global,
+    query: &CheckedQuery<'_>,
+    limits: &Limits,
+    chunk: &DataChunk,
+    left: &mut Vec<usize>,
+) -> Result<ThreadLocalTable, Fail>
+    requires limits { AreLimits limits.now }
+    requires generic { is_generic limits.now.sink ≡ true }
+    ensures buffers { IfOk result (λ t. length t.buffers.rows ≡ limits.now.partitions) }
+    ensures room { IfOk result (λ t. TakesOne t.table) }
+{
+    let height = chunk.frame.height();
+    if height > 1000 || !chunk.frame.fits(&query.query().schema) {
+        return Err("another chunk".into());
+    }
+    let rows = ChunkRows::new(alloc, query, 0, chunk)?;
+    let mut table = ThreadLocalTable::new(
+        alloc,
+        query,
+        limits.partitions,
+        limits.spill_size,
+        limits.buffer_size,
+    )?;
+    let mut key = Vec::new(alloc);
+    for row in 0..height {
+        take(&mut table, &mut key, query, &rows, row, left)?;
+    }
+    Ok(table)
+}
+
+/// What waits in a local table, asked for again where memory was wanting.
+fn all_spilled(table: &mut ThreadLocalTable) -> Result<Vec<(usize, SpillPayload)>, AllocError>
+    ensures ok { OnOk result
+        (table.new ≡ with_buffers (with_none table.old.buffers) table.old) }
+    ensures err { OnErr result (table.new ≡ table.old) }
+{
+    match table.get_all_spilled() {
+        Ok(spilled) => Ok(spilled),
+        Err(AllocError) => table.get_all_spilled(),
+    }
+}
+
+/// Makes a local table, in which nothing waits, take in another one of no rows.
+fn take_none(table: &mut ThreadLocalTable) -> Result<(), AllocError>
+    requires none_waits { NoneWaits table.old }
+    requires few { TakesOne table.old.table }
+    ensures { table.new.buffers ≡ table.old.buffers }
+{
+    let mut other = table.split()?;
+    table.combine(&mut other)
+}
+
+/// Whether the row of 2, row 1 of the chunk, alone waited in a local table of one partition.
+fn row_waited(table: &mut ThreadLocalTable) -> Result<bool, AllocError>
+    ensures ok { OnOk result
+        (table.new ≡ with_buffers (with_none table.old.buffers) table.old) }
+    ensures err { OnErr result (table.new ≡ table.old) }
+{
+    let spilled = all_spilled(table)?;
+    if spilled.len() != 1 {
+        return Ok(false);
+    }
+    let (partition, payload) = &spilled[0];
+    Ok(*partition == 0 && payload.rows.len() == 1 && payload.rows[0].place.row == 1)
+}
+
+/// Whether the row of 2 alone waited in a local table, which then takes in another one of no rows.
+fn emptied(table: &mut ThreadLocalTable) -> Result<bool, AllocError>
+    requires { TakesOne table.old.table }
+    ensures { length table.new.buffers.rows ≡ length table.old.buffers.rows }
+{
+    let waited = row_waited(table)?;
+    take_none(table)?;
+    Ok(waited)
+}
+
+/// Whether a local table gives nothing.
+fn gives_none(table: &mut ThreadLocalTable) -> Result<bool, Fail> {
+    Ok(table.finalize(&mut None)?.is_none())
+}
+
+/// Whether a local table of the rows of a chunk, from whose buffers each row leaves at once, gives
+/// nothing.
+fn all_leave(
+    alloc: Global,
+    query: &CheckedQuery<'_>,
+    chunk: &DataChunk,
+    left: &mut Vec<usize>,
+) -> Result<bool, Fail> {
+    let mut table = fed(alloc, query, &limits_of(1), chunk, left)?;
+    gives_none(&mut table)
+}
+
+fn assert_left(
+    rt: &impl Abort,
+    alloc: Global,
+    query: &CheckedQuery<'_>,
+    chunk: &DataChunk,
+) -> Result<(), Fail> {
+    let mut left = Vec::new(alloc);
+    assert!(rt; all_leave(alloc, query, chunk, &mut left)?);
+    assert!(rt; left.as_slice() == [0, 1, 0].as_slice());
+    Ok(())
+}
+
+/// What waits is the row of 2, and none waits then.
+fn assert_emptied(rt: &impl Abort, table: &mut ThreadLocalTable) -> Result<(), Fail>
+    requires buffers { 0 < length table.old.buffers.rows }
+    requires room { TakesOne table.old.table }
+{
+    assert!(rt; table.waiting(0) == 1);
+    assert!(rt; emptied(table)?);
+    assert!(rt; table.waiting(0) == 0);
+    Ok(())
+}
+
+/// A table holds the two rows of 1.
+fn assert_ones(rt: &impl Abort, table: &mut AggHashTable) -> Result<(), Fail> {
+    let frame = given(table, &mut None)?;
+    assert_numbers(rt, &frame, &[&[1], &[2]]);
+    Ok(())
+}
+
+/// The row of 2 waits in a local table, and those of 1 are held.
+fn assert_held(rt: &impl Abort, mut table: ThreadLocalTable) -> Result<(), Fail>
+    requires buffers { 0 < length table.buffers.rows }
+    requires room { TakesOne table.table }
+{
+    assert_emptied(rt, &mut table)?;
+    assert_ones(rt, &mut table.into_inner_map())
+}
+
+/// The row of 2 waits, and those of 1 are held.
+pub(crate) fn assert_waiting(
+    rt: &impl Abort,
+    alloc: Global,
+    query: &CheckedQuery<'_>,
+    chunk: &DataChunk,
+) -> Result<(), Fail> {
+    let mut left = Vec::new(alloc);
+    let table = fed(alloc, query, &limits_of(2), chunk, &mut left)?;
+    assert!(rt; left.as_slice() == [0, 0, 0].as_slice());
+    assert_held(rt, table)
+}
+
+#[test]
+fn full_buffers_leave(rt: HostRuntime) -> Result<(), Fail> {
+    let alloc = rt.alloc();
+    let query = query_of(alloc)?;
+    let chunk = chunk_of(alloc)?;
+    match query.check(alloc) {
+        Ok(checked) => assert_left(&rt, alloc, &checked, &chunk),
+        Err(_) => Err("Query::check wants memory".into()),
+    }
+}

@@ -1,0 +1,11 @@
+//! Tests of values, of aggregates over them and of the plain program, by their public functions alone.
+#![tactic(auto)]
+
+#[cfg(test)]
+mod inputs;
+#[cfg(test)]
+mod native;
+#[cfg(test)]
+mod plain;
+#[cfg(test)]
+mod running;

@@ -1,0 +1,4 @@
+//! States of aggregates.
+
+mod lent_tests;
+mod tests;
