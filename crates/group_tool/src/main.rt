@@ -3,27 +3,6 @@
 //! of a run over generated rows.
 #![tactic(auto)]
 
-mod ended;
-mod fault;
-mod line;
-mod made;
-mod made_run;
-mod read;
-mod run;
-mod status;
-mod stores;
-#[cfg(test)]
-mod tests;
-mod tool;
-
-ghost use Rattle.std.specs.Prelude.{◌≡◌, ◌≢◌};
-ghost use Rattle.std.specs.declared.io.ErrorKind.TheVariants as error_kind;
-ghost use Rattle.tool_words.specs.declared.refusal.AskError.TheVariants as ask_error;
-ghost use Rattle.tool_words.specs.declared.refusal.Refusal.TheVariants as refusal;
-
-use crate::fault::{ToolFault, ask_fault};
-use crate::line::report;
-use crate::tool::run_tool;
 use pipe_columns::Text;
 use pipe_global::OpenGate;
 use pipe_io::{RealFiles, RealOutput};
@@ -31,33 +10,22 @@ use std::alloc::{AllocError, Global};
 use std::env::{self, Env};
 use std::io::{self, ErrorKind};
 use std::process::ExitCode;
+use tool_answer::{report_untaken, run_tool};
 use tool_stores::ProgramStores;
-use tool_words::{AskError, Refusal};
 
-/// Why words can't be taken: memory ran out, or one of them isn't UTF-8.
-fn untaken(kind: ErrorKind) -> AskError
-    ensures memory { kind ≡ error_kind.OutOfMemory → result ≡ ask_error.Memory }
-    ensures not_text { kind ≢ error_kind.OutOfMemory → result ≡ ask_error.Refused refusal.Words }
-{
-    match kind {
-        ErrorKind::OutOfMemory => AskError::Memory,
-        _ => AskError::Refused(Refusal::Words),
-    }
-}
-
-/// The words after the program's name.
-fn words_of(rt: &(impl Env + Alloc<A = Global>)) -> Result<Vec<Text>, ToolFault> {
+/// The words after the program's name, or why they can't be taken.
+fn words_of(rt: &(impl Env + Alloc<A = Global>)) -> Result<Vec<Text>, ErrorKind> {
     let args = match env::args(rt) {
         Ok(args) => args,
-        Err(error) => return Err(ask_fault(untaken(error.kind()))),
+        Err(error) => return Err(error.kind()),
     };
     let mut words = Vec::new(rt.alloc());
     for arg in args.skip(1) {
         let Ok(word) = Text::new(rt.alloc(), arg.as_str()) else {
-            return Err(ToolFault::Memory);
+            return Err(ErrorKind::OutOfMemory);
         };
         if words.push(word).is_err() {
-            return Err(ToolFault::Memory);
+            return Err(ErrorKind::OutOfMemory);
         }
     }
     Ok(words)
@@ -95,7 +63,7 @@ fn main(rt: HostRuntime) -> ExitCode {
             );
             end.status
         }
-        Err(fault) => report(alloc, &mut messages, &fault),
+        Err(kind) => report_untaken(alloc, &mut messages, kind),
     };
     ExitCode::from(status)
 }

@@ -28,8 +28,3 @@ pub use pipe_running::{
 };
 pub use query::Query;
 pub use query_fault::QueryFault;
-
-#[cfg(test)]
-mod memory_tests;
-#[cfg(test)]
-mod tests;

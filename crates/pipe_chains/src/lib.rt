@@ -6,6 +6,3 @@ mod hash;
 
 pub use chains::Chains;
 pub use hash::hash_bytes;
-
-#[cfg(test)]
-mod chain_tests;

@@ -29,8 +29,3 @@ pub use schema::{Field, Schema};
 pub use sink::{FinalizedSink, Sink, SinkResult};
 pub use source::{Source, SourceResult};
 pub use text::Text;
-
-#[cfg(test)]
-mod tests;
-#[cfg(test)]
-mod traits_tests;

@@ -54,6 +54,3 @@ pub fn frame_text(alloc: Global, frame: &DataFrame) -> Result<Vec<u8>, AllocErro
         Err(_) => Err(AllocError),
     }
 }
-
-#[cfg(test)]
-mod tests;

@@ -91,6 +91,3 @@ pub fn does_read(dtype: DataType, text: &[u8]) -> bool
         _ => read_integer(dtype, text).is_some(),
     }
 }
-
-#[cfg(test)]
-mod tests;

@@ -44,6 +44,7 @@ fn has_children(expr: &AExpr, count: usize) -> bool
     match expr {
         AExpr::Column(_) | AExpr::Len => true,
         AExpr::Literal { dtype, value } => {
+            // Called for what its clauses say.
             let _fits = value.fits(*dtype);
             true
         }

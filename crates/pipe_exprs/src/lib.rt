@@ -35,10 +35,3 @@ pub use pipe_columns::Operator;
 pub use piped_expr::PipedExpr;
 pub use types::node_facts;
 pub use typing::{is_input, is_integer, sum_type};
-
-#[cfg(test)]
-mod cast_tests;
-#[cfg(test)]
-mod evaluate_tests;
-#[cfg(test)]
-mod operator_tests;

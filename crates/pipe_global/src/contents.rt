@@ -4,6 +4,7 @@ ghost use Rattle.std.specs.Prelude.{◌≡◌, ◌+◌, ◌-◌, ◌<◌, ◌^�
 ghost use Rattle.pipe_columns.specs.Causes.{Rose};
 ghost use Rattle.pipe_spill.specs.SpillRow.{HaveInputs, joined_rows};
 ghost use Rattle.pipe_spill.specs.Store.{HasHeld};
+ghost use Rattle.pipe_plan.specs.Stores.{store_seen};
 ghost use Rattle.pipe_global.specs.Partition.{new_partition};
 ghost use Rattle.pipe_global.specs.Moving.{CanMerge};
 ghost use Rattle.pipe_global.specs.Steps.{IsDumped, IsMerged, with_payload};
@@ -37,6 +38,7 @@ pub(crate) struct Contents<S: SpillStore + Drop> {
 }
 
 impl<S: SpillStore + Drop> Model for Contents<S> {
+    ghost use Rattle.pipe_plan.specs.Stores.{store_seen};
     ghost use Rattle.pipe_global.specs.Partition.{PartitionSeen};
 
     ghost Value = { PartitionSeen };
@@ -46,12 +48,7 @@ impl<S: SpillStore + Drop> Model for Contents<S> {
       partitions = c.partitions;
       table = c.table;
       waiting = c.waiting.items;
-      store = record {
-        held = S.held c.store;
-        told = S.told c.store;
-        faults = S.faults c.store;
-        sure = S.sure c.store;
-      };
+      store = store_seen S.held S.told S.faults S.sure c.store;
       marks = c.marks.items;
       journal = c.journal;
       book = c.book.items;
@@ -70,12 +67,8 @@ impl<S: SpillStore + Drop> Contents<S> {
         book: Vec<u64>,
         store: S,
     ) -> Contents<S>
-        ensures { result ≡ new_partition number partitions table book.items (record {
-          held = S.held store;
-          told = S.told store;
-          faults = S.faults store;
-          sure = S.sure store;
-        }) }
+        ensures { result ≡ new_partition number partitions table book.items
+            (store_seen S.held S.told S.faults S.sure store) }
     {
         Contents {
             number,

@@ -141,6 +141,7 @@ impl<S: SpillStore + Drop, R: Naming> GlobalTable<S, R> {
             ≡ picked (raised shares.old (next_pick R.run.limits.partitions shares.old))) }
         ensures err { OnErr result (shares.new ≡ shares.old) }
     {
+        // Called for what its clauses say.
         let _partitions = self.len();
         let (worker, partition) = (shares.worker(), shares.next_pick()?);
         let count = shares.of(partition);
@@ -170,6 +171,7 @@ impl<S: SpillStore + Drop, R: Naming> GlobalTable<S, R> {
         ensures memory { IfErr result
             (λ e. e ≡ dump_error.Memory → shares.new ≡ shares.old) }
     {
+        // Called for what its clauses say.
         let _partitions = self.len();
         let Ok(partition) = shares.next_pick() else {
             return Err(DumpError::Memory);

@@ -9,32 +9,22 @@ mod closed;
 mod closed_laws;
 mod contents;
 mod dump_error;
-#[cfg(test)]
-mod ended_tests;
 mod finish;
-#[cfg(test)]
-mod finish_tests;
 mod gate;
 mod gather;
 mod global_table;
 mod journal;
 mod mark;
-#[cfg(test)]
-mod memory_tests;
 mod merge;
 mod naming;
 mod open_table;
 mod partition;
 mod partition_ends;
 mod place;
-#[cfg(test)]
-mod plan_tests;
 mod put;
 mod read_own;
 mod ready;
 mod resume;
-#[cfg(test)]
-mod rounds_tests;
 mod shares;
 mod tally;
 

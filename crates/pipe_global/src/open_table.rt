@@ -1,7 +1,8 @@
 //! A global table is opened on stores.
 
-ghost use Rattle.std.specs.Prelude.{◌≡◌, All, IfErr, IfOk, map, vec_len, vec_capacity, ◌≤◌};
+ghost use Rattle.std.specs.Prelude.{◌≡◌, All, IfErr, IfOk, vec_len, vec_capacity, ◌≤◌};
 ghost use Rattle.pipe_aggs.specs.QueryTrees.{query_tree};
+ghost use Rattle.pipe_plan.specs.Stores.{stores_seen};
 ghost use Rattle.pipe_global.specs.Opening.{AreStoresFrom, AreUnused, IsPlace};
 ghost use Rattle.pipe_global.specs.Partition.{IsRunnable};
 
@@ -90,12 +91,8 @@ fn locks_of<S: SpillStore + Drop, R: Naming>(
     requires count { vec_len stores ≡ R.run.limits.partitions }
     requires places { vec_len places ≡ vec_len stores }
     requires each { All (IsPlace R.run.query R.run.limits.workers) places.items }
-    requires stores { AreStoresFrom R.run 0 (map (λ s. record {
-      held = S.held s;
-      told = S.told s;
-      faults = S.faults s;
-      sure = S.sure s;
-    }) stores.items) }
+    requires stores { AreStoresFrom R.run 0
+        (stores_seen S.held S.told S.faults S.sure stores.items) }
     requires events { (events.parts ≡ vec_len stores) × (events.amount ≡ 0) }
     requires refusals { (refusals.parts ≡ vec_len stores) × (refusals.amount ≡ 0) }
     ensures { vec_len result ≡ vec_len stores }
@@ -146,12 +143,7 @@ impl<S: SpillStore + Drop, R: Naming> GlobalTable<S, R> {
         requires numbers { (R.run.limits.workers ≡ workers)
             × (R.run.limits.payload_limit ≡ payload_limit) }
         requires count { vec_len stores ≡ R.run.limits.partitions }
-        requires stores { R.run.stores ≡ map (λ s. record {
-          held = S.held s;
-          told = S.told s;
-          faults = S.faults s;
-          sure = S.sure s;
-        }) stores.items }
+        requires stores { R.run.stores ≡ stores_seen S.held S.told S.faults S.sure stores.items }
         ensures len { IfOk result (λ r. vec_len r.1 ≡ R.run.limits.workers) }
         ensures unused { IfOk result (λ r. AreUnused R.run.limits.partitions r.1.items) }
         ensures back { IfErr result (λ e. e.1.items ≡ stores.items) }

@@ -122,6 +122,7 @@ impl<S: SpillStore + Drop, R: Naming> Partition<S, R> {
     {
         let worker = shares.worker();
         let partition = self.contents.number();
+        // Called for what its clauses say.
         let _events = self.contents.events();
         self.contents.arrive(worker, payload)?;
         shares.raise(&mut tally.lock(rt), &mut self.event_part, partition);
@@ -153,6 +154,7 @@ impl<S: SpillStore + Drop, R: Naming> Partition<S, R> {
     {
         let worker = shares.worker();
         let partition = self.contents.number();
+        // Called for what its clauses say.
         let _events = self.contents.events();
         self.contents.merge(alloc, worker)?;
         shares.raise(&mut tally.lock(rt), &mut self.event_part, partition);
@@ -190,6 +192,7 @@ impl<S: SpillStore + Drop, R: Naming> Partition<S, R> {
     {
         let worker = shares.worker();
         let partition = self.contents.number();
+        // Called for what its clauses say.
         let _events = self.contents.events();
         match self.contents.dump(alloc, worker, self.limit) {
             Ok(()) => {}
@@ -201,6 +204,7 @@ impl<S: SpillStore + Drop, R: Naming> Partition<S, R> {
                 return Err(DumpError::Memory);
             }
         }
+        // Called for what its clauses say.
         let _more = self.contents.events();
         shares.raise(&mut tally.lock(rt), &mut self.event_part, partition);
         Ok(())

@@ -1,6 +1,7 @@
 //! A partition as a run begins, and as it ends.
 
 ghost use Rattle.std.specs.Prelude.{◌≡◌, ◌+◌, ◌<◌, ◌≤◌, ◌↔◌, [], None, length, replicate, true};
+ghost use Rattle.pipe_plan.specs.Stores.{store_seen};
 ghost use Rattle.pipe_groups.specs.Shape.{shape_of};
 ghost use Rattle.pipe_global.specs.Closed.{IsClosed};
 ghost use Rattle.pipe_global.specs.Partition.{IsRunnable, store_of};
@@ -32,12 +33,7 @@ impl<S: SpillStore + Drop, R: Naming> Partition<S, R> {
         requires shape { place.table.shape ≡ shape_of R.run.query }
         requires table { (place.table.limit ≡ None) × (place.table.groups ≡ []) }
         requires book { place.book.items ≡ replicate R.run.limits.workers 0 }
-        requires store { record {
-          held = S.held store;
-          told = S.told store;
-          faults = S.faults store;
-          sure = S.sure store;
-        } ≡ store_of R.run number }
+        requires store { store_seen S.held S.told S.faults S.sure store ≡ store_of R.run number }
         requires limit { limit ≡ R.run.limits.payload_limit }
         requires event_part { (event_part.parts ≡ 1) × (event_part.amount ≡ 0) }
         requires fault_part { (fault_part.parts ≡ 1) × (fault_part.amount ≡ 0) }

@@ -4,6 +4,7 @@ ghost use Rattle.std.specs.Prelude.{◌≡◌, [], IfErr, IfOk, None, OnOk, map,
 ghost use Rattle.pipe_aggs.specs.Faults.{first_fault};
 ghost use Rattle.pipe_aggs.specs.QueryTrees.{query_tree};
 ghost use Rattle.pipe_model.specs.Output.{key_types};
+ghost use Rattle.pipe_plan.specs.Stores.{stores_seen};
 ghost use Rattle.pipe_run.specs.Feeding.{NoneFell};
 ghost use Rattle.pipe_run.specs.Refusals.{IsBeginCause, limits_fit, suits_keys};
 
@@ -38,20 +39,11 @@ impl<'a, S: SpillStore + Drop + Send> GroupByRun<'a, S> {
           query = query.now;
           limits = limits.now;
           actions = map (λ v. v.items) actions.items;
-          stores = map (λ s. record {
-            held = S.held s;
-            told = S.told s;
-            faults = S.faults s;
-            sure = S.sure s;
-          }) stores.items;
+          stores = stores_seen S.held S.told S.faults S.sure stores.items;
         }) }
         ensures chunks { IfOk result (λ r. r.chunks ≡ []) }
-        ensures counted { IfOk result (λ r. NoneFell (map (λ s. record {
-          held = S.held s;
-          told = S.told s;
-          faults = S.faults s;
-          sure = S.sure s;
-        }) stores.items) r.stores) }
+        ensures counted { IfOk result (λ r. NoneFell
+            (stores_seen S.held S.told S.faults S.sure stores.items) r.stores) }
         ensures cause { IfErr result (λ e. IsBeginCause
             (limits_fit limits.now (vec_len actions) (map (λ s. S.held s) stores.items))
             (first_fault query.now)

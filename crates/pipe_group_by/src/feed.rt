@@ -1,6 +1,7 @@
 //! Chunks that a run is fed.
 
-ghost use Rattle.std.specs.Prelude.{◌≡◌, ◌++◌, IfErr, IfOk, OnOk, map, true};
+ghost use Rattle.std.specs.Prelude.{◌≡◌, ◌++◌, IfErr, IfOk, OnOk, true};
+ghost use Rattle.pipe_plan.specs.Stores.{stores_seen};
 ghost use Rattle.pipe_run.specs.Answered.{HaveWholeFrames};
 ghost use Rattle.pipe_run.specs.Feeding.{chunks_reached, IsBadChunks, IsFeedCause, NoneFell};
 ghost use Rattle.pipe_run.specs.Refusals.{CanFeed};
@@ -29,26 +30,13 @@ impl<'a, S: SpillStore + Drop + Send> GroupByRun<'a, S> {
         ensures fed { OnOk result
             (CanFeed self.entry.setting.query.schema (self.entry.chunks ++ chunks.items)) }
         ensures counted { IfOk result (λ r. NoneFell self.entry.stores r.0.stores) }
-        ensures cause { IfErr result (λ e. IsFeedCause self.entry chunks.items (map (λ s. record {
-          held = S.held s;
-          told = S.told s;
-          faults = S.faults s;
-          sure = S.sure s;
-        }) e.1.items) e.0) }
-        ensures untouched { IfErr result (λ e. IsBadChunks e.0 → map (λ s. record {
-          held = S.held s;
-          told = S.told s;
-          faults = S.faults s;
-          sure = S.sure s;
-        }) e.1.items ≡ self.entry.stores) }
+        ensures cause { IfErr result (λ e. IsFeedCause self.entry chunks.items
+            (stores_seen S.held S.told S.faults S.sure e.1.items) e.0) }
+        ensures untouched { IfErr result (λ e. IsBadChunks e.0 →
+            stores_seen S.held S.told S.faults S.sure e.1.items ≡ self.entry.stores) }
         ensures back { IfErr result (λ e. HaveWholeFrames
             (run_of self.entry.setting true (chunks_reached self.entry chunks.items e.0))
-            (map (λ s. record {
-              held = S.held s;
-              told = S.told s;
-              faults = S.faults s;
-              sure = S.sure s;
-            }) e.1.items)) }
+            (stores_seen S.held S.told S.faults S.sure e.1.items)) }
     {
         match self.kind {
             Kind::Generic(run) => match run.feed_lent(rt, alloc, gate, chunks) {
@@ -82,26 +70,13 @@ impl<'a, S: SpillStore + Drop + Send> GroupByRun<'a, S> {
         ensures fed { OnOk result
             (CanFeed self.entry.setting.query.schema (self.entry.chunks ++ chunks.items)) }
         ensures counted { IfOk result (λ r. NoneFell self.entry.stores r.stores) }
-        ensures cause { IfErr result (λ e. IsFeedCause self.entry chunks.items (map (λ s. record {
-          held = S.held s;
-          told = S.told s;
-          faults = S.faults s;
-          sure = S.sure s;
-        }) e.1.items) e.0) }
-        ensures untouched { IfErr result (λ e. IsBadChunks e.0 → map (λ s. record {
-          held = S.held s;
-          told = S.told s;
-          faults = S.faults s;
-          sure = S.sure s;
-        }) e.1.items ≡ self.entry.stores) }
+        ensures cause { IfErr result (λ e. IsFeedCause self.entry chunks.items
+            (stores_seen S.held S.told S.faults S.sure e.1.items) e.0) }
+        ensures untouched { IfErr result (λ e. IsBadChunks e.0 →
+            stores_seen S.held S.told S.faults S.sure e.1.items ≡ self.entry.stores) }
         ensures back { IfErr result (λ e. HaveWholeFrames
             (run_of self.entry.setting true (chunks_reached self.entry chunks.items e.0))
-            (map (λ s. record {
-              held = S.held s;
-              told = S.told s;
-              faults = S.faults s;
-              sure = S.sure s;
-            }) e.1.items)) }
+            (stores_seen S.held S.told S.faults S.sure e.1.items)) }
     {
         match self.kind {
             Kind::Generic(run) => match run.feed(rt, alloc, gate, chunks) {

@@ -1,7 +1,8 @@
 //! A run of any kind of sink that is fed in rounds.
 
-ghost use Rattle.std.specs.Prelude.{◌≡◌, ◌<◌, map, true};
+ghost use Rattle.std.specs.Prelude.{◌≡◌, ◌<◌, true};
 ghost use Rattle.pipe_plan.specs.Journals.{IsWhole, journal_of};
+ghost use Rattle.pipe_plan.specs.Stores.{stores_seen};
 ghost use Rattle.pipe_run.specs.Answered.{HaveReplayedFrames, HaveWholeFrames};
 ghost use Rattle.pipe_run.specs.Setting.{run_of};
 
@@ -51,18 +52,9 @@ impl<'a, S: SpillStore + Drop + Send> GroupByRun<'a, S> {
     /// Gives the run up, and hands the stores back, in order. It takes no memory.
     pub fn into_stores(self) -> Vec<S>
         ensures frames { HaveReplayedFrames (run_of self.entry.setting true self.entry.chunks)
-            self.entry.journals (map (λ s. record {
-              held = S.held s;
-              told = S.told s;
-              faults = S.faults s;
-              sure = S.sure s;
-            }) result.items) }
-        ensures back { HaveWholeFrames (run_of self.entry.setting true self.entry.chunks) (map (λ s. record {
-          held = S.held s;
-          told = S.told s;
-          faults = S.faults s;
-          sure = S.sure s;
-        }) result.items) }
+            self.entry.journals (stores_seen S.held S.told S.faults S.sure result.items) }
+        ensures back { HaveWholeFrames (run_of self.entry.setting true self.entry.chunks)
+            (stores_seen S.held S.told S.faults S.sure result.items) }
     {
         match self.kind {
             Kind::Generic(run) => run.into_stores(),

@@ -3,6 +3,7 @@
 ghost use Rattle.std.specs.Prelude.{◌≡◌, ◌<◌, ◌++◌, IfErr, IfOk, OnOk, map, true, vec_len};
 ghost use Rattle.pipe_aggs.specs.QueryTrees.{query_tree};
 ghost use Rattle.pipe_model.specs.Rows.{AreChunksOf};
+ghost use Rattle.pipe_plan.specs.Stores.{stores_seen};
 ghost use Rattle.pipe_run.specs.Answered.{HaveWholeFrames};
 ghost use Rattle.pipe_run.specs.Feeding.{chunks_reached, IsFeedCause};
 ghost use Rattle.pipe_run.specs.Refusals.{CanFeed};
@@ -83,26 +84,13 @@ impl<'a, S: SpillStore + Drop> TypedRun<'a, S> {
         ensures fed { OnOk result
             (CanFeed self.entry.setting.query.schema (self.entry.chunks ++ chunks.items)) }
         ensures same { IfOk result (λ r. r.0.stores ≡ self.entry.stores) }
-        ensures cause { IfErr result (λ e. IsFeedCause self.entry chunks.items (map (λ s. record {
-          held = S.held s;
-          told = S.told s;
-          faults = S.faults s;
-          sure = S.sure s;
-        }) e.1.items) e.0) }
-        ensures untouched { IfErr result (λ e. map (λ s. record {
-          held = S.held s;
-          told = S.told s;
-          faults = S.faults s;
-          sure = S.sure s;
-        }) e.1.items ≡ self.entry.stores) }
+        ensures cause { IfErr result (λ e. IsFeedCause self.entry chunks.items
+            (stores_seen S.held S.told S.faults S.sure e.1.items) e.0) }
+        ensures untouched { IfErr result (λ e.
+            stores_seen S.held S.told S.faults S.sure e.1.items ≡ self.entry.stores) }
         ensures back { IfErr result (λ e. HaveWholeFrames
             (run_of self.entry.setting true (chunks_reached self.entry chunks.items e.0))
-            (map (λ s. record {
-              held = S.held s;
-              told = S.told s;
-              faults = S.faults s;
-              sure = S.sure s;
-            }) e.1.items)) }
+            (stores_seen S.held S.told S.faults S.sure e.1.items)) }
     {
         let TypedRun {
             query,

@@ -4,6 +4,7 @@ ghost use Rattle.std.specs.Prelude.{◌≡◌, ◌<◌, IfErr, IfOk, false, map,
 ghost use Rattle.pipe_aggs.specs.QueryTrees.{query_tree};
 ghost use Rattle.pipe_model.specs.Answer.{answer};
 ghost use Rattle.pipe_model.specs.Rows.{AreChunksOf};
+ghost use Rattle.pipe_plan.specs.Stores.{stores_seen};
 ghost use Rattle.pipe_run.specs.Answered.{HaveWholeFrames, IsAnswered};
 ghost use Rattle.pipe_run.specs.Finish.{IsFinishCause};
 ghost use Rattle.pipe_run.specs.Setting.{run_of};
@@ -63,25 +64,13 @@ impl<'a, S: SpillStore + Drop> TypedRun<'a, S> {
     /// order.
     pub(crate) fn finish(self, alloc: Global) -> (Result<GroupByOutput, PipeError>, Vec<S>)
         ensures answered { IfOk result.0 (λ out. IsAnswered
-            (run_of self.entry.setting false self.entry.chunks) out (map (λ s. record {
-              held = S.held s;
-              told = S.told s;
-              faults = S.faults s;
-              sure = S.sure s;
-            }) result.1.items)) }
-        ensures cause { IfErr result.0 (λ e. IsFinishCause self.entry (map (λ s. record {
-          held = S.held s;
-          told = S.told s;
-          faults = S.faults s;
-          sure = S.sure s;
-        }) result.1.items) e) }
+            (run_of self.entry.setting false self.entry.chunks) out
+            (stores_seen S.held S.told S.faults S.sure result.1.items)) }
+        ensures cause { IfErr result.0 (λ e. IsFinishCause self.entry
+            (stores_seen S.held S.told S.faults S.sure result.1.items) e) }
         ensures back { IfErr result.0 (λ _. HaveWholeFrames
-            (run_of self.entry.setting false self.entry.chunks) (map (λ s. record {
-              held = S.held s;
-              told = S.told s;
-              faults = S.faults s;
-              sure = S.sure s;
-            }) result.1.items)) }
+            (run_of self.entry.setting false self.entry.chunks)
+            (stores_seen S.held S.told S.faults S.sure result.1.items)) }
     {
         let TypedRun {
             query,

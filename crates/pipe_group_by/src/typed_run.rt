@@ -2,6 +2,7 @@
 
 ghost use Rattle.std.specs.Prelude.{◌≡◌, ◌<◌, map, true};
 ghost use Rattle.pipe_plan.specs.Journals.{IsWhole, journal_of};
+ghost use Rattle.pipe_plan.specs.Stores.{stores_seen};
 ghost use Rattle.pipe_run.specs.Answered.{HaveReplayedFrames, HaveWholeFrames};
 ghost use Rattle.pipe_run.specs.Setting.{run_of};
 
@@ -29,6 +30,7 @@ pub(crate) struct TypedRun<'a, S: SpillStore + Drop> {
 }
 
 impl<'a, S: SpillStore + Drop> Model for TypedRun<'a, S> {
+    ghost use Rattle.pipe_plan.specs.Stores.{stores_seen};
     ghost use Rattle.std.specs.Prelude.{◌≡◌, [], map};
     ghost use Rattle.pipe_run.specs.Fed.{FedSeen};
     ghost use Rattle.pipe_group_by.specs.Typed.{IsTypedRun, typed_seen};
@@ -39,24 +41,14 @@ impl<'a, S: SpillStore + Drop> Model for TypedRun<'a, S> {
       query = r.query;
       limits = r.limits;
       actions = map (λ v. v.items) r.actions.items;
-      stores = map (λ s. record {
-        held = S.held s;
-        told = S.told s;
-        faults = S.faults s;
-        sure = S.sure s;
-      }) r.stores.items;
+      stores = stores_seen S.held S.told S.faults S.sure r.stores.items;
     }) (map (λ c. c.value) r.chunks.items) };
 
     ghost invariant = { λ r. IsTypedRun (record {
       query = r.query;
       limits = r.limits;
       actions = map (λ v. v.items) r.actions.items;
-      stores = map (λ s. record {
-        held = S.held s;
-        told = S.told s;
-        faults = S.faults s;
-        sure = S.sure s;
-      }) r.stores.items;
+      stores = stores_seen S.held S.told S.faults S.sure r.stores.items;
     }) (map (λ c. c.value) r.chunks.items) r.sinks.items r.rows × (r.journal ≡ []) };
 }
 
@@ -73,25 +65,11 @@ impl<'a, S: SpillStore + Drop> TypedRun<'a, S> {
 
     /// Gives the run up, and hands the stores back, in order. It takes no memory.
     pub(crate) fn into_stores(self) -> Vec<S>
-        ensures same { map (λ s. record {
-          held = S.held s;
-          told = S.told s;
-          faults = S.faults s;
-          sure = S.sure s;
-        }) result.items ≡ self.entry.setting.stores }
+        ensures same { stores_seen S.held S.told S.faults S.sure result.items ≡ self.entry.setting.stores }
         ensures frames { HaveReplayedFrames (run_of self.entry.setting true self.entry.chunks)
-            self.entry.journals (map (λ s. record {
-              held = S.held s;
-              told = S.told s;
-              faults = S.faults s;
-              sure = S.sure s;
-            }) result.items) }
-        ensures back { HaveWholeFrames (run_of self.entry.setting true self.entry.chunks) (map (λ s. record {
-          held = S.held s;
-          told = S.told s;
-          faults = S.faults s;
-          sure = S.sure s;
-        }) result.items) }
+            self.entry.journals (stores_seen S.held S.told S.faults S.sure result.items) }
+        ensures back { HaveWholeFrames (run_of self.entry.setting true self.entry.chunks)
+            (stores_seen S.held S.told S.faults S.sure result.items) }
     {
         let TypedRun { stores, .. } = self;
         stores

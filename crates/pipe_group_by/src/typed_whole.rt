@@ -2,6 +2,7 @@
 
 ghost use Rattle.std.specs.Prelude.{◌≡◌, false, map};
 ghost use Rattle.pipe_plan.specs.Run.{is_generic};
+ghost use Rattle.pipe_plan.specs.Stores.{stores_seen};
 ghost use Rattle.pipe_run.specs.WholeRun.{EndsRun};
 
 use crate::typed_run::TypedRun;
@@ -28,18 +29,8 @@ pub(crate) fn run_typed<S: SpillStore + Drop, H: Threads + Sync>(
       query = query.now;
       limits = limits.now;
       actions = map (λ v. v.items) actions.items;
-      stores = map (λ s. record {
-        held = S.held s;
-        told = S.told s;
-        faults = S.faults s;
-        sure = S.sure s;
-      }) stores.items;
-    }) chunks.items result.0 (map (λ s. record {
-      held = S.held s;
-      told = S.told s;
-      faults = S.faults s;
-      sure = S.sure s;
-    }) result.1.items) }
+      stores = stores_seen S.held S.told S.faults S.sure stores.items;
+    }) chunks.items result.0 (stores_seen S.held S.told S.faults S.sure result.1.items) }
 {
     let run = match TypedRun::begin(alloc, query, limits, actions, stores) {
         Ok(run) => run,

@@ -1,6 +1,7 @@
 //! A run over all its chunks at once.
 
 ghost use Rattle.std.specs.Prelude.{◌≡◌, map};
+ghost use Rattle.pipe_plan.specs.Stores.{stores_seen};
 ghost use Rattle.pipe_run.specs.WholeRun.{EndsRun};
 
 use crate::kind::is_generic;
@@ -32,18 +33,8 @@ pub fn run_group_by<S: SpillStore + Drop + Send, G: Gate + Sync, H: Threads + Wa
       query = query.now;
       limits = limits.now;
       actions = map (λ v. v.items) actions.items;
-      stores = map (λ s. record {
-        held = S.held s;
-        told = S.told s;
-        faults = S.faults s;
-        sure = S.sure s;
-      }) stores.items;
-    }) chunks.items result.0 (map (λ s. record {
-      held = S.held s;
-      told = S.told s;
-      faults = S.faults s;
-      sure = S.sure s;
-    }) result.1.items) }
+      stores = stores_seen S.held S.told S.faults S.sure stores.items;
+    }) chunks.items result.0 (stores_seen S.held S.told S.faults S.sure result.1.items) }
 {
     if is_generic(limits.sink) {
         return run_generic(rt, alloc, chunks, query, limits, actions, stores, gate);

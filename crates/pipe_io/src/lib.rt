@@ -19,8 +19,3 @@ pub use output::{Output, OutputError, write_all};
 pub use real_files::RealFiles;
 pub use real_output::RealOutput;
 pub use whole_file::{FileEnd, MOST_FILE_BYTES, end_of, read_begun, read_file};
-
-#[cfg(test)]
-mod parts_tests;
-#[cfg(test)]
-mod tests;

@@ -1,4 +1,5 @@
 pub mod Run
+pub mod Stores
 pub mod Kept
 pub mod Overflow
 pub mod Payloads

@@ -33,7 +33,7 @@ none_added None rest old mid h = tt
 none_added (Some e) rest old mid h = absurd h
 
 -- the items of a list from place i on
-drop_view : (vs : List Value) (i : ℕ) (v : Value) → i < length vs → v ≡ get_or vs i v
+pub drop_view : (vs : List Value) (i : ℕ) (v : Value) → i < length vs → v ≡ get_or vs i v
     → items_view (drop i vs) ≡ item (view v) (items_view (drop (i + 1) vs))
 drop_view vs i v h is =
     let next : drop i vs ≡ v ∷ drop (i + 1) vs = rw (add-one) (drop-cons vs i v h ∙ ap (λ (w : Value). w ∷ drop (suc i) vs) (sym is)) in

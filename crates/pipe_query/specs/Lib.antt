@@ -1,6 +1,7 @@
 pub mod JsonShapes
 pub mod OtherShapes
 pub mod JsonNames
+pub mod OverNames
 pub mod ExprJson
 pub mod Flat
 pub mod Added

@@ -2,6 +2,7 @@
 
 ghost use Rattle.std.specs.Prelude.{◌≡◌};
 ghost use Rattle.pipe_query.specs.JsonNames as spec;
+ghost use Rattle.pipe_query.specs.OverNames.{form_over, over_named};
 
 use pipe_aggs::Operator;
 use pipe_columns::DataType;
@@ -78,6 +79,36 @@ pub fn sign_named(name: &str) -> Option<Operator>
     }
 }
 
+/// What is made of one expression by a name.
+fn over_named(name: &str) -> Option<Over>
+    ensures { result ≡ over_named name.now }
+{
+    match name {
+        "sum" => Some(Over::Sum),
+        "first" => Some(Over::First),
+        "last" => Some(Over::Last),
+        "mean" => Some(Over::Mean),
+        "min" => Some(Over::Min),
+        "max" => Some(Over::Max),
+        "count" => Some(Over::Count),
+        "count_all" => Some(Over::CountAll),
+        "median" => Some(Over::Median),
+        "n_unique" => Some(Over::NUnique),
+        "sort" => Some(Over::Sort),
+        _ => None,
+    }
+}
+
+/// The form of a name that makes something of one expression.
+fn form_over(name: &str) -> Option<Form>
+    ensures { result ≡ form_over name.now }
+{
+    match over_named(name) {
+        Some(over) => Some(Form::Of(over)),
+        None => None,
+    }
+}
+
 /// The form of a member's name.
 pub fn form_named(name: &str) -> Option<Form>
     ensures { result ≡ spec.form_named name.now }
@@ -91,17 +122,6 @@ pub fn form_named(name: &str) -> Option<Form>
         "alias" => Some(Form::Alias),
         "len" => Some(Form::Len),
         "filter" => Some(Form::Filter),
-        "sum" => Some(Form::Of(Over::Sum)),
-        "first" => Some(Form::Of(Over::First)),
-        "last" => Some(Form::Of(Over::Last)),
-        "mean" => Some(Form::Of(Over::Mean)),
-        "min" => Some(Form::Of(Over::Min)),
-        "max" => Some(Form::Of(Over::Max)),
-        "count" => Some(Form::Of(Over::Count)),
-        "count_all" => Some(Form::Of(Over::CountAll)),
-        "median" => Some(Form::Of(Over::Median)),
-        "n_unique" => Some(Form::Of(Over::NUnique)),
-        "sort" => Some(Form::Of(Over::Sort)),
-        _ => None,
+        _ => form_over(name),
     }
 }

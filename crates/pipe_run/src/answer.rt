@@ -35,6 +35,7 @@ fn recall_told<S: SpillStore + Drop>(closed: &[ClosedPartition<S>])
         (slice_index_or closed.now p d).store.told (slice_index_or closed.now p d).store.held }
 {
     for partition in 0..closed.len() {
+        // Called for what its clauses say.
         let _journal = closed[partition].journal();
     }
 }
@@ -146,6 +147,7 @@ pub(crate) fn answer_of_run<S: SpillStore + Drop + Send, H: Threads + Sync>(
     ensures cause { IfErr result.0 (λ e. IsAnswerCause
         (run_of begun.now false (map (λ c. c.value) chunks.now)) closed.items result.1.items e) }
 {
+    // Called for what its clauses say.
     let _query = begun.query.query();
     recall_told(closed.as_slice());
     let Ok(local) = kept_table(alloc, begun, chunks, rests) else {

@@ -5,6 +5,7 @@ ghost use Rattle.pipe_aggs.specs.Faults.{first_fault};
 ghost use Rattle.pipe_aggs.specs.QueryTrees.{query_tree};
 ghost use Rattle.pipe_model.specs.Output.{key_types};
 ghost use Rattle.pipe_plan.specs.Run.{AreLimits, is_generic};
+ghost use Rattle.pipe_plan.specs.Stores.{stores_seen};
 ghost use Rattle.pipe_run.specs.Feeding.{NoneFell};
 ghost use Rattle.pipe_run.specs.Refusals.{IsBeginCause, limits_fit, suits_keys};
 
@@ -73,20 +74,11 @@ impl<'a, S: SpillStore + Drop + Send> GenericRun<'a, S> {
           query = query.now;
           limits = limits.now;
           actions = map (λ v. v.items) actions.items;
-          stores = map (λ s. record {
-            held = S.held s;
-            told = S.told s;
-            faults = S.faults s;
-            sure = S.sure s;
-          }) stores.items;
+          stores = stores_seen S.held S.told S.faults S.sure stores.items;
         }) }
         ensures chunks { IfOk result (λ r. r.chunks ≡ []) }
-        ensures counted { IfOk result (λ r. NoneFell (map (λ s. record {
-          held = S.held s;
-          told = S.told s;
-          faults = S.faults s;
-          sure = S.sure s;
-        }) stores.items) r.stores) }
+        ensures counted { IfOk result (λ r. NoneFell
+            (stores_seen S.held S.told S.faults S.sure stores.items) r.stores) }
         ensures cause { IfErr result (λ e. IsBeginCause
             (limits_fit limits.now (vec_len actions) (map (λ s. S.held s) stores.items))
             (first_fault query.now)
@@ -121,22 +113,14 @@ impl<'a, S: SpillStore + Drop + Send> GenericRun<'a, S> {
           query = query.entry;
           limits = limits.now;
           actions = map (λ v. v.items) actions.items;
-          stores = map (λ s. record {
-            held = S.held s;
-            told = S.told s;
-            faults = S.faults s;
-            sure = S.sure s;
-          }) stores.items;
+          stores = stores_seen S.held S.told S.faults S.sure stores.items;
         }) }
         ensures chunks { IfOk result (λ r. r.chunks ≡ []) }
-        ensures counted { IfOk result (λ r. NoneFell (map (λ s. record {
-          held = S.held s;
-          told = S.told s;
-          faults = S.faults s;
-          sure = S.sure s;
-        }) stores.items) r.stores) }
+        ensures counted { IfOk result (λ r. NoneFell
+            (stores_seen S.held S.told S.faults S.sure stores.items) r.stores) }
         ensures back { IfErr result (λ e. e.1.items ≡ stores.items) }
     {
+        // Called for what its clauses say.
         let _query = query.query();
         let Ok(begun) = begun_of(alloc, query, limits, actions, &stores) else {
             return Err((AllocError, stores));
@@ -173,12 +157,7 @@ fn begun_of<'a, S: SpillStore + Drop>(
       query = query.entry;
       limits = limits.now;
       actions = map (λ v. v.items) actions.items;
-      stores = map (λ s. record {
-        held = S.held s;
-        told = S.told s;
-        faults = S.faults s;
-        sure = S.sure s;
-      }) stores.now;
+      stores = stores_seen S.held S.told S.faults S.sure stores.now;
     }) }
 {
     let former = marks_of(alloc, stores)?;

@@ -19,6 +19,7 @@ pub(crate) struct Begun<'a, S: SpillStore + Drop> {
 }
 
 impl<'a, S: SpillStore + Drop> Model for Begun<'a, S> {
+    ghost use Rattle.pipe_plan.specs.Stores.{store_seen};
     ghost use Rattle.std.specs.Prelude.{map};
     ghost use Rattle.pipe_run.specs.Setting.{Setting};
 
@@ -28,12 +29,7 @@ impl<'a, S: SpillStore + Drop> Model for Begun<'a, S> {
       query = b.query;
       limits = b.limits;
       actions = map (λ v. v.items) b.actions.items;
-      stores = map (λ s. record {
-        held = S.held s.value;
-        told = S.told s.value;
-        faults = S.faults s.value;
-        sure = S.sure s.value;
-      }) b.former.items;
+      stores = map (λ s. store_seen S.held S.told S.faults S.sure s.value) b.former.items;
     } };
 }
 

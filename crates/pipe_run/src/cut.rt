@@ -1,6 +1,6 @@
 //! A local table that is cut by partition.
 
-ghost use Rattle.std.specs.Prelude.{◌≡◌, ◌<◌, ℕ, IfOk, length, slice_index_or};
+ghost use Rattle.std.specs.Prelude.{◌≡◌, ◌<◌, ◌≤◌, ℕ, IfOk, OnOk, length, slice_index_or, vec_capacity, vec_len};
 ghost use Rattle.pipe_aggs.specs.QueryTrees.{query_tree};
 ghost use Rattle.pipe_groups.specs.Holds.{HoldFewer};
 ghost use Rattle.pipe_groups.specs.Shape.{shape_of};
@@ -9,6 +9,31 @@ ghost use Rattle.pipe_run.specs.Tasks.{IsPartOf};
 use pipe_aggs::CheckedQuery;
 use pipe_tables::AggHashTable;
 use std::alloc::{AllocError, Global};
+
+/// Puts for each of so many partitions, in order, a table of the groups of a local table whose keys lie
+/// there.
+fn put_parts(
+    alloc: Global,
+    query: &CheckedQuery<'_>,
+    partitions: usize,
+    local: &mut AggHashTable,
+    parts: &mut Vec<AggHashTable>,
+) -> Result<(), AllocError>
+    requires some { 0 < partitions }
+    requires shape { local.old.shape ≡ shape_of (query_tree query.now) }
+    requires few { HoldFewer local.old.shape local.old.groups 0 }
+    requires room { (vec_len parts.old ≡ 0) × (partitions ≤ vec_capacity parts.old) }
+    ensures count { OnOk result (length parts.new.items ≡ partitions) }
+    ensures parts { OnOk result ((p : ℕ) (d : _) → p < partitions
+        → IsPartOf partitions p local.old (slice_index_or parts.new.items p d)) }
+{
+    for partition in 0..partitions {
+        let mut part = AggHashTable::new(alloc, query, None)?;
+        part.combine_on_partition(partition, partitions, local)?;
+        parts.push_reserved(part);
+    }
+    Ok(())
+}
 
 /// For each of so many partitions, in order, a table of the groups of a local table whose keys lie there.
 pub(crate) fn cut_by_partition(
@@ -24,11 +49,7 @@ pub(crate) fn cut_by_partition(
     ensures parts { IfOk result (λ v. (p : ℕ) (d : _) → p < partitions
         → IsPartOf partitions p local (slice_index_or v.items p d)) }
 {
-    let mut parts = Vec::new(alloc);
-    for partition in 0..partitions {
-        let mut part = AggHashTable::new(alloc, query, None)?;
-        part.combine_on_partition(partition, partitions, &mut local)?;
-        parts.push(part)?;
-    }
+    let mut parts = Vec::with_capacity(alloc, partitions)?;
+    put_parts(alloc, query, partitions, &mut local, &mut parts)?;
     Ok(parts)
 }

@@ -2,6 +2,7 @@
 
 ghost use Rattle.std.specs.Prelude.{◌≡◌, ◌≤◌, IfErr, IfOk, false, map, vec_capacity, vec_len};
 ghost use Rattle.pipe_model.specs.Rows.{total_height};
+ghost use Rattle.pipe_plan.specs.Stores.{stores_seen};
 ghost use Rattle.pipe_run.specs.Answered.{HaveWholeFrames, IsAnswered};
 ghost use Rattle.pipe_run.specs.Fed.{IsFedRun};
 ghost use Rattle.pipe_run.specs.Finish.{IsFinishCause};
@@ -52,30 +53,17 @@ fn finish_with<S: SpillStore + Drop + Send, G: Gate + Sync, H: Threads + Wait + 
     requires journals { (vec_len journals ≡ 0) × (vec_len closed ≤ vec_capacity journals) }
     requires room { (vec_len room ≡ 0) × (vec_len closed ≤ vec_capacity room) }
     ensures answered { IfOk result.0 (λ out. IsAnswered
-        (run_of begun.now false (map (λ c. c.value) chunks.now)) out (map (λ s. record {
-          held = S.held s;
-          told = S.told s;
-          faults = S.faults s;
-          sure = S.sure s;
-        }) result.1.items)) }
+        (run_of begun.now false (map (λ c. c.value) chunks.now)) out
+        (stores_seen S.held S.told S.faults S.sure result.1.items)) }
     ensures cause { IfErr result.0 (λ e. IsFinishCause (record {
       setting = begun.now;
       chunks = map (λ c. c.value) chunks.now;
       journals = map (λ c. c.journal) closed.items;
       stores = map (λ c. c.store) closed.items;
-    }) (map (λ s. record {
-      held = S.held s;
-      told = S.told s;
-      faults = S.faults s;
-      sure = S.sure s;
-    }) result.1.items) e) }
+    }) (stores_seen S.held S.told S.faults S.sure result.1.items) e) }
     ensures back { IfErr result.0 (λ _. HaveWholeFrames
-        (run_of begun.now false (map (λ c. c.value) chunks.now)) (map (λ s. record {
-          held = S.held s;
-          told = S.told s;
-          faults = S.faults s;
-          sure = S.sure s;
-        }) result.1.items)) }
+        (run_of begun.now false (map (λ c. c.value) chunks.now))
+        (stores_seen S.held S.told S.faults S.sure result.1.items)) }
 {
     let Ended { closed, rested } = match round(
         rt,
@@ -119,25 +107,13 @@ impl<'a, S: SpillStore + Drop + Send> GenericRun<'a, S> {
         gate: &G,
     ) -> (Result<GroupByOutput, PipeError>, Vec<S>)
         ensures answered { IfOk result.0 (λ out. IsAnswered
-            (run_of self.entry.setting false self.entry.chunks) out (map (λ s. record {
-              held = S.held s;
-              told = S.told s;
-              faults = S.faults s;
-              sure = S.sure s;
-            }) result.1.items)) }
-        ensures cause { IfErr result.0 (λ e. IsFinishCause self.entry (map (λ s. record {
-          held = S.held s;
-          told = S.told s;
-          faults = S.faults s;
-          sure = S.sure s;
-        }) result.1.items) e) }
+            (run_of self.entry.setting false self.entry.chunks) out
+            (stores_seen S.held S.told S.faults S.sure result.1.items)) }
+        ensures cause { IfErr result.0 (λ e. IsFinishCause self.entry
+            (stores_seen S.held S.told S.faults S.sure result.1.items) e) }
         ensures back { IfErr result.0 (λ _. HaveWholeFrames
-            (run_of self.entry.setting false self.entry.chunks) (map (λ s. record {
-              held = S.held s;
-              told = S.told s;
-              faults = S.faults s;
-              sure = S.sure s;
-            }) result.1.items)) }
+            (run_of self.entry.setting false self.entry.chunks)
+            (stores_seen S.held S.told S.faults S.sure result.1.items)) }
     {
         let GenericRun {
             begun,

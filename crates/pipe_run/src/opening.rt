@@ -4,6 +4,7 @@ ghost use Rattle.std.specs.Prelude.{◌≡◌, ◌<◌, ◌^◌, [], All, IfErr,
 ghost use Rattle.pipe_aggs.specs.QueryTrees.{query_tree};
 ghost use Rattle.pipe_groups.specs.Shape.{shape_of};
 ghost use Rattle.pipe_plan.specs.Run.{AreLimits, is_generic};
+ghost use Rattle.pipe_plan.specs.Stores.{stores_seen};
 ghost use Rattle.pipe_run.specs.Fed.{AreCounted, AreWholePartitions, IsUnused};
 ghost use Rattle.pipe_run.specs.Setting.{run_of};
 
@@ -101,17 +102,13 @@ fn opened_named<S: SpillStore + Drop, R: Naming, H: Wait>(
     requires limits { AreLimits begun.now.limits }
     requires generic { is_generic begun.now.limits.sink ≡ true }
     requires count { vec_len stores ≡ begun.now.limits.partitions }
-    requires stores { begun.now.stores ≡ map (λ s. record {
-      held = S.held s;
-      told = S.told s;
-      faults = S.faults s;
-      sure = S.sure s;
-    }) stores.items }
+    requires stores { begun.now.stores ≡ stores_seen S.held S.told S.faults S.sure stores.items }
     requires former { All (λ s. s.held < 2 ^ 63) begun.now.stores }
     ensures whole { IfOk result (λ v. AreWholePartitions R.run v.items) }
     ensures counted { IfOk result (λ v. AreCounted R.run v.items) }
     ensures back { IfErr result (λ e. e.1.items ≡ stores.items) }
 {
+    // Called for what its clauses say.
     let _schema = begun.query.output_schema();
     let workers = begun.limits.workers;
     let limit = begun.limits.payload_limit;
@@ -131,12 +128,7 @@ pub(crate) fn opened<S: SpillStore + Drop, H: Wait>(
     requires limits { AreLimits begun.now.limits }
     requires generic { is_generic begun.now.limits.sink ≡ true }
     requires count { vec_len stores ≡ begun.now.limits.partitions }
-    requires stores { begun.now.stores ≡ map (λ s. record {
-      held = S.held s;
-      told = S.told s;
-      faults = S.faults s;
-      sure = S.sure s;
-    }) stores.items }
+    requires stores { begun.now.stores ≡ stores_seen S.held S.told S.faults S.sure stores.items }
     requires former { All (λ s. s.held < 2 ^ 63) begun.now.stores }
     ensures whole { IfOk result (λ v. AreWholePartitions (run_of begun.now true []) v.items) }
     ensures counted { IfOk result (λ v. AreCounted (run_of begun.now true []) v.items) }

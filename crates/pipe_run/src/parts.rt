@@ -1,6 +1,7 @@
 //! What closed partitions leave.
 
 ghost use Rattle.std.specs.Prelude.{◌≡◌, ◌<◌, ◌≤◌, ◌^◌, map, sum_by, vec_capacity, vec_len};
+ghost use Rattle.pipe_plan.specs.Stores.{stores_seen};
 
 use pipe_global::{ClosedPartition, Journal};
 use pipe_spill::SpillStore;
@@ -23,12 +24,8 @@ pub(crate) fn parts_of<S: SpillStore + Drop>(
     requires stores { (vec_len stores ≡ 0) × (vec_len closed ≤ vec_capacity stores) }
     requires few { sum_by (λ c. c.arrived) closed.items < 2 ^ 64 }
     ensures journals { result.journals.items ≡ map (λ c. c.journal) closed.items }
-    ensures stores { map (λ s. record {
-      held = S.held s;
-      told = S.told s;
-      faults = S.faults s;
-      sure = S.sure s;
-    }) result.stores.items ≡ map (λ c. c.store) closed.items }
+    ensures stores { stores_seen S.held S.told S.faults S.sure result.stores.items
+        ≡ map (λ c. c.store) closed.items }
     ensures arrived { result.arrived ≡ sum_by (λ c. c.arrived) closed.items }
 {
     let mut arrived = 0;

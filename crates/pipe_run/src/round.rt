@@ -140,6 +140,7 @@ fn gather<'a, S: SpillStore + Drop, R: Naming, G: Gate>(
         let (worker, end) = job.into_parts();
         all &= end.is_none();
         let (paused, one) = worker.pause();
+        // Called for what its clauses say.
         let _worker = one.worker();
         shares.push_reserved(one);
         rested.push_reserved(paused);

@@ -61,6 +61,7 @@ fn round_named<
     ensures counted { IfOk result (λ e. AreCounted R.run e.closed.items) }
     ensures ended { IfOk result (λ e. HaveEnded R.run e.rested.items) }
 {
+    // Called for what its clauses say.
     let _query = begun.query.query();
     let actions = begun.actions();
     let round = Round::new(taken.len(), chunks, actions, is_open);

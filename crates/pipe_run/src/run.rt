@@ -2,6 +2,7 @@
 
 ghost use Rattle.std.specs.Prelude.{◌≡◌, ◌+◌, ◌<◌, ◌≤◌, ◌++◌, ℕ, IfErr, IfOk, OnOk, length, map, true, vec_capacity, vec_len};
 ghost use Rattle.pipe_plan.specs.Journals.{IsWhole, journal_of};
+ghost use Rattle.pipe_plan.specs.Stores.{stores_seen};
 ghost use Rattle.pipe_run.specs.Answered.{HaveReplayedFrames, HaveWholeFrames};
 ghost use Rattle.pipe_run.specs.Fed.{IsFedRun};
 ghost use Rattle.pipe_run.specs.Feeding.{chunks_reached, IsBadChunks, IsFeedCause, NoneFell};
@@ -130,26 +131,13 @@ impl<'a, S: SpillStore + Drop + Send> GenericRun<'a, S> {
         ensures fed { OnOk result
             (CanFeed self.entry.setting.query.schema (self.entry.chunks ++ chunks.items)) }
         ensures counted { IfOk result (λ r. NoneFell self.entry.stores r.0.stores) }
-        ensures cause { IfErr result (λ e. IsFeedCause self.entry chunks.items (map (λ s. record {
-          held = S.held s;
-          told = S.told s;
-          faults = S.faults s;
-          sure = S.sure s;
-        }) e.1.items) e.0) }
-        ensures untouched { IfErr result (λ e. IsBadChunks e.0 → map (λ s. record {
-          held = S.held s;
-          told = S.told s;
-          faults = S.faults s;
-          sure = S.sure s;
-        }) e.1.items ≡ self.entry.stores) }
+        ensures cause { IfErr result (λ e. IsFeedCause self.entry chunks.items
+            (stores_seen S.held S.told S.faults S.sure e.1.items) e.0) }
+        ensures untouched { IfErr result (λ e. IsBadChunks e.0 →
+            stores_seen S.held S.told S.faults S.sure e.1.items ≡ self.entry.stores) }
         ensures back { IfErr result (λ e. HaveWholeFrames
             (run_of self.entry.setting true (chunks_reached self.entry chunks.items e.0))
-            (map (λ s. record {
-              held = S.held s;
-              told = S.told s;
-              faults = S.faults s;
-              sure = S.sure s;
-            }) e.1.items)) }
+            (stores_seen S.held S.told S.faults S.sure e.1.items)) }
     {
         let GenericRun {
             begun,
@@ -199,26 +187,13 @@ impl<'a, S: SpillStore + Drop + Send> GenericRun<'a, S> {
         ensures fed { OnOk result
             (CanFeed self.entry.setting.query.schema (self.entry.chunks ++ chunks.items)) }
         ensures counted { IfOk result (λ r. NoneFell self.entry.stores r.stores) }
-        ensures cause { IfErr result (λ e. IsFeedCause self.entry chunks.items (map (λ s. record {
-          held = S.held s;
-          told = S.told s;
-          faults = S.faults s;
-          sure = S.sure s;
-        }) e.1.items) e.0) }
-        ensures untouched { IfErr result (λ e. IsBadChunks e.0 → map (λ s. record {
-          held = S.held s;
-          told = S.told s;
-          faults = S.faults s;
-          sure = S.sure s;
-        }) e.1.items ≡ self.entry.stores) }
+        ensures cause { IfErr result (λ e. IsFeedCause self.entry chunks.items
+            (stores_seen S.held S.told S.faults S.sure e.1.items) e.0) }
+        ensures untouched { IfErr result (λ e. IsBadChunks e.0 →
+            stores_seen S.held S.told S.faults S.sure e.1.items ≡ self.entry.stores) }
         ensures back { IfErr result (λ e. HaveWholeFrames
             (run_of self.entry.setting true (chunks_reached self.entry chunks.items e.0))
-            (map (λ s. record {
-              held = S.held s;
-              told = S.told s;
-              faults = S.faults s;
-              sure = S.sure s;
-            }) e.1.items)) }
+            (stores_seen S.held S.told S.faults S.sure e.1.items)) }
     {
         match self.feed_lent(rt, alloc, gate, chunks) {
             Ok((run, chunks)) => {
@@ -241,18 +216,9 @@ impl<'a, S: SpillStore + Drop + Send> GenericRun<'a, S> {
     /// Gives the run up, and hands the stores back, in order. It takes no memory.
     pub fn into_stores(self) -> Vec<S>
         ensures frames { HaveReplayedFrames (run_of self.entry.setting true self.entry.chunks)
-            self.entry.journals (map (λ s. record {
-              held = S.held s;
-              told = S.told s;
-              faults = S.faults s;
-              sure = S.sure s;
-            }) result.items) }
-        ensures back { HaveWholeFrames (run_of self.entry.setting true self.entry.chunks) (map (λ s. record {
-          held = S.held s;
-          told = S.told s;
-          faults = S.faults s;
-          sure = S.sure s;
-        }) result.items) }
+            self.entry.journals (stores_seen S.held S.told S.faults S.sure result.items) }
+        ensures back { HaveWholeFrames (run_of self.entry.setting true self.entry.chunks)
+            (stores_seen S.held S.told S.faults S.sure result.items) }
     {
         let GenericRun { closed, room, .. } = self;
         stores_of(closed, room)

@@ -1,6 +1,7 @@
 //! Stores that are handed back.
 
 ghost use Rattle.std.specs.Prelude.{◌≡◌, ◌≤◌, map, vec_capacity, vec_len};
+ghost use Rattle.pipe_plan.specs.Stores.{stores_seen};
 
 use pipe_global::ClosedPartition;
 use pipe_spill::SpillStore;
@@ -11,12 +12,7 @@ pub(crate) fn stores_of<S: SpillStore + Drop>(
     mut room: Vec<S>,
 ) -> Vec<S>
     requires { (vec_len room ≡ 0) × (vec_len closed ≤ vec_capacity room) }
-    ensures { map (λ s. record {
-      held = S.held s;
-      told = S.told s;
-      faults = S.faults s;
-      sure = S.sure s;
-    }) result.items ≡ map (λ c. c.store) closed.items }
+    ensures { stores_seen S.held S.told S.faults S.sure result.items ≡ map (λ c. c.store) closed.items }
 {
     for partition in closed {
         let (_journal, store) = partition.into_parts();

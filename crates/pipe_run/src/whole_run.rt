@@ -2,6 +2,7 @@
 
 ghost use Rattle.std.specs.Prelude.{◌≡◌, map, true};
 ghost use Rattle.pipe_plan.specs.Run.{is_generic};
+ghost use Rattle.pipe_plan.specs.Stores.{stores_seen};
 ghost use Rattle.pipe_run.specs.WholeRun.{EndsRun};
 
 use crate::begin::checked_query;
@@ -35,18 +36,8 @@ pub fn run_generic<S: SpillStore + Drop + Send, G: Gate + Sync, H: Threads + Wai
       query = query.now;
       limits = limits.now;
       actions = map (λ v. v.items) actions.items;
-      stores = map (λ s. record {
-        held = S.held s;
-        told = S.told s;
-        faults = S.faults s;
-        sure = S.sure s;
-      }) stores.items;
-    }) chunks.items result.0 (map (λ s. record {
-      held = S.held s;
-      told = S.told s;
-      faults = S.faults s;
-      sure = S.sure s;
-    }) result.1.items) }
+      stores = stores_seen S.held S.told S.faults S.sure stores.items;
+    }) chunks.items result.0 (stores_seen S.held S.told S.faults S.sure result.1.items) }
 {
     let checked = match checked_query(alloc, query, limits, actions.len(), &stores) {
         Ok(checked) => checked,

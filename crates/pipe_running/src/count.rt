@@ -1,3 +1,5 @@
+//! How many values there are, and how many rows.
+
 ghost use Rattle.std.specs.Prelude.{◌≡◌, ◌+◌, true, false, refl};
 ghost use Rattle.pipe_columns.specs.declared.data_type.DataType.TheVariants as dt;
 ghost use Rattle.pipe_running.specs.declared.interface.Finalized.TheVariants as finalized;

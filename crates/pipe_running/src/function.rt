@@ -1,3 +1,5 @@
+//! A running aggregate of any kind.
+
 ghost use Rattle.std.specs.Prelude.{◌≡◌};
 ghost use Rattle.pipe_running.specs.States.{after_value as function_after, alike as function_alike, first_type, fresh as fresh_function, given as function_given, is_physical as function_is_physical, joined as functions_joined, seen as function_seen, takes as function_takes};
 ghost use Rattle.pipe_running.specs.StateLaws.{function_by_one, function_takes_alike};

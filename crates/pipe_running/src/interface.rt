@@ -1,3 +1,5 @@
+//! What every running aggregate can do.
+
 ghost use Rattle.std.specs.Prelude.{◌≡◌, ◌+◌, ◌<◌, ◌≤◌, ◌^◌, ℕ, Bool, true, length, replicate};
 ghost use Rattle.std.specs.List.{list_all};
 ghost use Rattle.pipe_columns.specs.declared.any_value.AnyValue.{AnyValue};

@@ -1,3 +1,5 @@
+//! The exact sum of numbers, and how many there are.
+
 ghost use Rattle.std.specs.Prelude.{◌≡◌, true, false, refl};
 ghost use Rattle.pipe_model.specs.Aggregate.{addend};
 

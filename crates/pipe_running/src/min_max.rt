@@ -1,3 +1,5 @@
+//! The least or the greatest value.
+
 ghost use Rattle.std.specs.Prelude.{◌≡◌, true, refl};
 ghost use Rattle.std.specs.Ordering.{is_lt};
 ghost use Rattle.pipe_columns.specs.AnyValue.{fits};

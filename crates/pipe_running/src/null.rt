@@ -1,3 +1,5 @@
+//! An aggregate that keeps nothing and gives null.
+
 ghost use Rattle.std.specs.Prelude.{◌≡◌, true, false, refl};
 ghost use Rattle.pipe_columns.specs.declared.any_value.AnyValue.TheVariants as av;
 ghost use Rattle.pipe_running.specs.declared.interface.Finalized.TheVariants as finalized;

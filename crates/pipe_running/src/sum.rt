@@ -1,3 +1,5 @@
+//! The sum of numbers, wrapped into their type.
+
 ghost use Rattle.std.specs.Prelude.{◌≡◌, true, refl};
 ghost use Rattle.pipe_columns.specs.declared.any_value.AnyValue.TheVariants as av;
 ghost use Rattle.pipe_running.specs.declared.interface.Finalized.TheVariants as finalized;

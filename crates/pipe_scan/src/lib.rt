@@ -26,12 +26,3 @@ pub use scan::{Scan, scan_next};
 pub use skip::{Skip, skip_rows};
 pub use stops::Stops;
 pub use text_head::{has_quote, text_start};
-
-#[cfg(test)]
-mod alike_tests;
-#[cfg(test)]
-mod field_tests;
-#[cfg(test)]
-mod number_tests;
-#[cfg(test)]
-mod plain_tests;

@@ -1,3 +1,4 @@
+pub mod Apart
 pub mod ChunkTaking
 pub mod KeyCuts
 pub mod KeyRuns

@@ -1,12 +1,14 @@
-//! A chunk that an empty table takes, row by row.
+//! A chunk whose rows come into a table of their own, which another table then takes over.
 
-ghost use Rattle.std.specs.Prelude.{◌≡◌, ◌<◌, ◌^◌, ◌∷◌, [], OnOk};
+ghost use Rattle.std.specs.Prelude.{◌≡◌, ◌<◌, ◌^◌, ◌∷◌, [], OnErr, OnOk};
 ghost use Rattle.pipe_columns.specs.Frame.{FitsSchema, HoldsTypes};
 ghost use Rattle.pipe_aggs.specs.QueryTrees.{query_tree};
 ghost use Rattle.pipe_groups.specs.Shape.{shape_of};
 ghost use Rattle.pipe_model.specs.Output.{key_types};
+ghost use Rattle.pipe_sinks.specs.Apart.{MayTakeOver, TookOver};
 ghost use Rattle.pipe_sinks.specs.Marks.{IsSole};
 ghost use Rattle.pipe_sinks.specs.RunLayout.{HoldsChunks};
+ghost use Rattle.pipe_sinks.specs.Tables.{HasGroups};
 
 use crate::key_table::KeyTable;
 use pipe_aggs::CheckedQuery;
@@ -15,7 +17,7 @@ use pipe_inputs::ChunkRows;
 use std::alloc::{AllocError, Global};
 
 /// Puts the rows of a chunk into a table of no groups.
-pub(crate) fn add_chunk(
+fn add_chunk(
     alloc: Global,
     table: &mut KeyTable,
     key: &mut Vec<u8>,
@@ -40,4 +42,52 @@ pub(crate) fn add_chunk(
         table.insert_lent(key, types, &rows, row)?;
     }
     Ok(())
+}
+
+/// Puts the rows of a chunk into a table of no groups, which another then takes over.
+fn add_through(
+    alloc: Global,
+    table: &mut KeyTable,
+    part: &mut KeyTable,
+    key: &mut Vec<u8>,
+    query: &CheckedQuery<'_>,
+    index: u32,
+    chunk: &DataChunk,
+) -> Result<(), AllocError>
+    requires index { index ≡ chunk.now.chunk_index }
+    requires fits { FitsSchema query.now.schema chunk.now.frame }
+    requires height { chunk.now.frame.height < 2 ^ 32 }
+    requires shape { table.old.shape ≡ shape_of (query_tree query.now) }
+    requires part_shape { part.old.shape ≡ shape_of (query_tree query.now) }
+    requires none { part.old.groups ≡ [] }
+    requires sole { IsSole (key_types (query_tree query.now)) }
+    requires few { MayTakeOver (query_tree query.now) chunk.now table.old }
+    ensures took { OnOk result (TookOver (query_tree query.now) chunk.now table.old table.new) }
+    ensures err { OnErr result (HasGroups table.old table.new table.old.groups) }
+{
+    add_chunk(alloc, part, key, query, index, chunk)?;
+    table.combine(part)
+}
+
+/// Puts the rows of a chunk into a table. They are put into one of their own first, which the table takes
+/// over once all memory is had.
+pub(crate) fn add_apart(
+    alloc: Global,
+    table: &mut KeyTable,
+    key: &mut Vec<u8>,
+    query: &CheckedQuery<'_>,
+    index: u32,
+    chunk: &DataChunk,
+) -> Result<(), AllocError>
+    requires index { index ≡ chunk.now.chunk_index }
+    requires fits { FitsSchema query.now.schema chunk.now.frame }
+    requires height { chunk.now.frame.height < 2 ^ 32 }
+    requires shape { table.old.shape ≡ shape_of (query_tree query.now) }
+    requires sole { IsSole (key_types (query_tree query.now)) }
+    requires few { MayTakeOver (query_tree query.now) chunk.now table.old }
+    ensures took { OnOk result (TookOver (query_tree query.now) chunk.now table.old table.new) }
+    ensures err { OnErr result (HasGroups table.old table.new table.old.groups) }
+{
+    let mut part = table.split()?;
+    add_through(alloc, table, &mut part, key, query, index, chunk)
 }

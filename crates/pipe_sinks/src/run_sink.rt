@@ -5,7 +5,7 @@ ghost use Rattle.pipe_aggs.specs.QueryTrees.{query_tree};
 ghost use Rattle.pipe_sinks.specs.ChunkTaking.{AreGivenKeys};
 ghost use Rattle.pipe_sinks.specs.Runs.{MayCombine, Takes, with_taken};
 
-use crate::add_chunk::add_chunk;
+use crate::add_chunk::add_apart;
 use crate::key_runs::add_at_once;
 use crate::sink_run::SinkRun;
 use pipe_columns::{AnyValue, DataChunk};
@@ -25,11 +25,16 @@ impl<'a> SinkRun<'a> {
             return Err(AllocError);
         }
         let alloc = *self.taken.allocator();
-        let mut part = self.table.split()?;
-        let index = chunk.chunk_index;
-        add_chunk(alloc, &mut part, &mut self.key, self.query, index, chunk)?;
         self.taken.reserve(1)?;
-        self.table.combine(&mut part)?;
+        let index = chunk.chunk_index;
+        add_apart(
+            alloc,
+            &mut self.table,
+            &mut self.key,
+            self.query,
+            index,
+            chunk,
+        )?;
         self.taken.push_reserved(Snapshot::of(chunk));
         Ok(())
     }

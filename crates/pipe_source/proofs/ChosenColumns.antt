@@ -7,8 +7,8 @@ use Rattle.pipe_csv.specs.Columns.{DoHold, column_of, columns_of, values_from, w
 use Rattle.std.proofs.lemmas.List.{get_or_default}
 use Rattle.pipe_csv.proofs.ColumnFacts.{length-with_row, with_row-more}
 use Rattle.pipe_csv.proofs.PieceFacts.{values-none}
-use Rattle.pipe_wanted.specs.Wanted.{chosen, is_wanted}
-use Rattle.pipe_wanted.proofs.ChosenFacts.{chosen-behind, chosen-copies, push-kept}
+use Rattle.narrow_columns.specs.Wanted.{chosen, is_wanted}
+use Rattle.narrow_columns.proofs.ChosenFacts.{chosen-behind, chosen-copies, push-kept}
 use Rattle.pipe_source.specs.CsvChunks.{with_first, with_last}
 
 -- no column takes a value

@@ -12,8 +12,8 @@ use Rattle.pipe_csv.specs.CsvRows.{Misfit, after, field, read_fields, read_row}
 use Rattle.pipe_csv.proofs.ReadFacts.{same_Ok}
 use Rattle.pipe_csv.proofs.RowFacts.{row-same}
 use Rattle.pipe_scan.specs.Records.{InOrder, between, cut}
-use Rattle.pipe_wanted.specs.Wanted.{chosen}
-use Rattle.pipe_wanted.proofs.WantedFacts.{chosen-map}
+use Rattle.narrow_columns.specs.Wanted.{chosen}
+use Rattle.narrow_columns.proofs.WantedFacts.{chosen-map}
 use Rattle.pipe_source.proofs.FieldsLeft.{row-fields}
 
 -- the values at some places

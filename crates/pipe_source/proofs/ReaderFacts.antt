@@ -9,8 +9,8 @@ use Rattle.pipe_columns.specs.declared.data_chunk.DataChunk.{DataChunk}
 use Rattle.pipe_columns.specs.Frame.{ColumnData, FitsSchema, field_of, fields_of}
 use Rattle.pipe_csv.specs.CsvRows.{flagged_frame}
 use Rattle.pipe_csv.specs.Columns.{columns_of, values_from}
-use Rattle.pipe_wanted.specs.Wanted.{chosen, narrowed_chunks}
-use Rattle.pipe_wanted.proofs.WantedFacts.{narrowed-fields}
+use Rattle.narrow_columns.specs.Wanted.{chosen, narrowed_chunks}
+use Rattle.narrow_columns.proofs.WantedFacts.{narrowed-fields}
 use Rattle.pipe_source.proofs.ChosenColumns.{chosen-columns, chosen-ends}
 use Rattle.pipe_csv.proofs.PieceFacts.{columns-flagged, frame-fits, length-values}
 use Rattle.pipe_io.specs.Files.{Files, file_of}

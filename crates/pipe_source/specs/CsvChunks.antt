@@ -9,7 +9,7 @@ use Rattle.pipe_columns.specs.declared.schema.Field.{Field}
 use Rattle.pipe_columns.specs.declared.data_chunk.DataChunk.{DataChunk}
 use Rattle.pipe_columns.specs.Frame.{ColumnData, FrameData}
 use Rattle.pipe_columns.specs.Pieces.{pieces}
-use Rattle.pipe_wanted.specs.Wanted.{chosen, narrowed_chunks}
+use Rattle.narrow_columns.specs.Wanted.{chosen, narrowed_chunks}
 use Rattle.pipe_csv.specs.CsvRows.{Misfit, flagged_frame, header, is_ascending, is_header, missing, read_rows}
 use Rattle.pipe_io.specs.Files.{Files, file_of}
 use Rattle.pipe_io.specs.declared.whole_file.TheConstants.{MOST_FILE_BYTES}

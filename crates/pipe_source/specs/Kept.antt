@@ -4,7 +4,7 @@ use Rattle.std.specs.List.{range_with_len}
 use Rattle.pipe_columns.specs.declared.any_value.AnyValue.{AnyValue}
 use Rattle.pipe_columns.specs.declared.data_chunk.DataChunk.{DataChunk}
 use Rattle.pipe_columns.specs.declared.schema.Field.{Field}
-use Rattle.pipe_wanted.specs.Wanted.{chosen, narrowed_chunk}
+use Rattle.narrow_columns.specs.Wanted.{chosen, narrowed_chunk}
 use Rattle.pipe_io.specs.declared.whole_file.TheConstants.{MOST_FILE_BYTES}
 use Rattle.pipe_scan.specs.Records.{records_at}
 use Rattle.pipe_source.specs.CsvChunks.{is_numbered, source_frame, source_wanted}

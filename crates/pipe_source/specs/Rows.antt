@@ -2,7 +2,7 @@
 use Rattle.std.specs.Prelude.{◌≡◌, ◌≤◌, ◌<◌, ◌*◌, ◌-◌, ◌^◌, ℕ, Bool, true, false, List, [], ◌∷◌, length, take, drop, get_or, Option, Some, unwrap_or, Result, Ok, Err, IfSome, ⊤}
 use Rattle.pipe_columns.specs.declared.any_value.AnyValue.{AnyValue}
 use Rattle.pipe_columns.specs.declared.schema.Field.{Field}
-use Rattle.pipe_wanted.specs.Wanted.{chosen}
+use Rattle.narrow_columns.specs.Wanted.{chosen}
 use Rattle.pipe_csv.specs.CsvRows.{Misfit, read_row, read_rows, field, header, missing, width}
 use Rattle.pipe_csv.specs.Columns.{with_row}
 use Rattle.pipe_csv.specs.CsvError.{StopsBy}

@@ -6,7 +6,7 @@ ghost use Rattle.pipe_csv.specs.declared.csv_error.CsvError.TheVariants as csv_e
 ghost use Rattle.pipe_source.specs.Kept.{IsKept, IsPlace, IsReading, chunk_at, state_behind};
 ghost use Rattle.pipe_source.specs.Next.{IsNextText};
 ghost use Rattle.pipe_source.specs.Reader.{StopsAt, left_of};
-ghost use Rattle.pipe_wanted.specs.Wanted.{chosen};
+ghost use Rattle.narrow_columns.specs.Wanted.{chosen};
 
 use crate::column_fill::{column_fills, values_of};
 use crate::file_load::{find_rows, wanted_after};

@@ -5,7 +5,7 @@ ghost use Rattle.std.specs.List.{range_with_len};
 ghost use Rattle.csv.specs.Records.{fields_of};
 ghost use Rattle.pipe_columns.specs.declared.any_value.AnyValue.{AnyValue};
 ghost use Rattle.pipe_csv.specs.CsvRows.{read_row};
-ghost use Rattle.pipe_wanted.specs.Wanted.{chosen};
+ghost use Rattle.narrow_columns.specs.Wanted.{chosen};
 ghost use Rattle.pipe_csv.specs.CsvError.{StopsBy};
 ghost use Rattle.pipe_csv.specs.Columns.{DoHold, values_from, with_row};
 ghost use Rattle.pipe_csv.specs.declared.csv_error.CsvError.TheVariants as csv_error;
@@ -17,10 +17,10 @@ use crate::column_fill::ColumnFill;
 use crate::field_at::{push_field, push_field_at};
 use crate::wanted_places::wanted_places;
 use csv::ByteRecord;
+use narrow_columns::is_wanted;
 use pipe_columns::Field;
 use pipe_csv::CsvError;
 use pipe_scan::{Row, Stops, next_row};
-use pipe_wanted::is_wanted;
 use std::alloc::Global;
 
 /// Where the field at a place begins and ends in the text.

@@ -2,9 +2,9 @@
 
 ghost use Rattle.std.specs.Prelude.{◌≡◌, IfOk};
 ghost use Rattle.std.specs.List.{range_with_len};
-ghost use Rattle.pipe_wanted.specs.Wanted.{chosen};
+ghost use Rattle.narrow_columns.specs.Wanted.{chosen};
 
-use pipe_wanted::is_wanted;
+use narrow_columns::is_wanted;
 use std::alloc::{AllocError, Global};
 
 /// The places of the wanted fields among so many, in order.

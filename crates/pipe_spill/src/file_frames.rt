@@ -155,6 +155,3 @@ fn read_at<F: Read + Seek>(
         }
     }
 }
-
-#[cfg(test)]
-mod tests;

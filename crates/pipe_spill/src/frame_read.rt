@@ -72,6 +72,3 @@ pub fn read_frame(
         Err(FrameError::NotAFrame)
     }
 }
-
-#[cfg(test)]
-mod tests;

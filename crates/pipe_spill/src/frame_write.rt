@@ -113,6 +113,3 @@ fn append_row(
     frame.extend_from_slice(key)?;
     append_values(frame, row.values.as_slice(), input_types)
 }
-
-#[cfg(test)]
-pub(crate) mod tests;

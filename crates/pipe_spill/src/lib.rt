@@ -36,8 +36,3 @@ pub use partition::{fold, partition_of};
 pub use spill_row::{SpillPayload, SpillRow};
 pub use store::{SpillStore, StoreError};
 pub use values::Values;
-
-#[cfg(test)]
-mod key_tests;
-#[cfg(test)]
-mod memory_tests;

@@ -61,6 +61,3 @@ pub trait SpillStore {
         ensures cause { HasCause (faults self.old) (faults self.new)
             (IsErrOf result store_error.Failed) };
 }
-
-#[cfg(test)]
-mod tests;

@@ -40,6 +40,27 @@ fn in_turn<T, F: Fn(usize, &mut T)>(f: &F, base: usize, s: &mut [T])
     }
 }
 
+/// Calls f at some places in another thread, and does other work in this one.
+fn beside_work<R: Threads + Sync, T: Send, F: Fn(usize, &mut T) + Sync, B: FnMut()>(
+    rt: &R,
+    f: &F,
+    base: usize,
+    first: &mut [T],
+    work: &mut B,
+)
+    requires first { AreAccepted (AcceptsAt F.Fn f.now) base first.old }
+    requires work { B.pre work.old }
+    ensures first { AreChanged (ChangesAt F.Fn f.now) base first.old first.new }
+    ensures work { B.step work.old tt work.new }
+{
+    let mut front = ||
+        requires { IsSync F.row × IsSend T.row
+            × AreAccepted (AcceptsAt F.Fn f.now) base first.now }
+        ensures { AreChanged (ChangesAt F.Fn f.entry.now) base first.entry.now first.exit.now }
+    { in_turn(f, base, first) };
+    join_mut(rt, &mut front, work);
+}
+
 /// Calls f at the places from one on, in at most so many threads.
 #[cycle(places)]
 fn each_from<R: Threads + Sync, T: Send, F: Fn(usize, &mut T) + Sync>(
@@ -77,15 +98,10 @@ fn first_and_others<R: Threads + Sync, T: Send, F: Fn(usize, &mut T) + Sync>(
     ensures first { AreChanged (ChangesAt F.Fn f.now) base first.old first.new }
     ensures others { AreChanged (ChangesAt F.Fn f.now) next others.old others.new }
 {
-    let mut front = ||
-        requires { IsSync F.row × IsSend T.row
-            × AreAccepted (AcceptsAt F.Fn f.now) base first.now }
-        ensures { AreChanged (ChangesAt F.Fn f.entry.now) base first.entry.now first.exit.now }
-    { in_turn(f, base, first) };
     let mut back = ||
         requires { IsSync R.row × IsSync F.row × IsSend T.row
             × AreAccepted (AcceptsAt F.Fn f.now) next others.now }
         ensures { AreChanged (ChangesAt F.Fn f.entry.now) next others.entry.now others.exit.now }
     { each_from(rt, f, threads, next, others) };
-    join_mut(rt, &mut front, &mut back);
+    beside_work(rt, f, base, first, &mut back);
 }

@@ -4,6 +4,3 @@
 mod beside;
 
 pub use beside::for_each_beside;
-
-#[cfg(test)]
-mod tests;

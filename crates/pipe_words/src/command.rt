@@ -1,8 +1,8 @@
 //! The command line.
 
-ghost use Rattle.std.specs.Prelude.{◌≡◌, IfOk, map, option_map};
-ghost use Rattle.clap.specs.Words.{app_of, first_of, found_of, rows_of};
-ghost use Rattle.pipe_words.specs.Command.{bare_app, found_in, row_app, tool_app, with_option, worker_app, words_in};
+ghost use Rattle.std.specs.Prelude.{◌≡◌, IfOk, fold, map, option_map};
+ghost use Rattle.clap.specs.Words.{app_of, first_of, found_of, rows_of, with_rule};
+ghost use Rattle.pipe_words.specs.Command.{bare_app, found_in, tool_app, with_option, words_in, words_rule};
 
 use clap::error::ErrorKind;
 use clap::{Arg, ArgAction, ArgMatches, Command};
@@ -28,39 +28,50 @@ fn bare_command<'a>(alloc: Global) -> Command<'a>
     Command::new(alloc, "group_tool").no_binary_name(true)
 }
 
-/// The command with the options of workers.
-fn worker_command<'a>(alloc: Global) -> Result<Command<'a>, AllocError>
-    ensures { IfOk result (λ c. app_of c ≡ worker_app) }
+/// A command that takes words beside its options.
+fn with_words<'a>(alloc: Global, command: Command<'a>) -> Result<Command<'a>, AllocError>
+    ensures { IfOk result (λ c. app_of c ≡ with_rule (app_of command.entry) words_rule) }
 {
-    let command = bare_command(alloc);
-    let command = with_option(alloc, command, "workers")?;
-    let command = with_option(alloc, command, "partitions")?;
-    let command = with_option(alloc, command, "spill-size")?;
-    let command = with_option(alloc, command, "buffer")?;
-    let command = with_option(alloc, command, "payloads")?;
-    let command = with_option(alloc, command, "actions")?;
-    with_option(alloc, command, "spill-dir")
+    let words = Arg::new(alloc, "words").action(ArgAction::Append);
+    command.arg(words)
 }
 
-/// The same with the options of rows.
-fn row_command<'a>(alloc: Global) -> Result<Command<'a>, AllocError>
-    ensures { IfOk result (λ c. app_of c ≡ row_app) }
+/// A command with options more.
+fn with_options<'a>(
+    alloc: Global,
+    command: Command<'a>,
+    names: &[&'a str],
+) -> Result<Command<'a>, AllocError>
+    ensures { IfOk result (λ c. app_of c
+        ≡ fold with_option (app_of command.entry) (map (λ n. n.now) names.now)) }
 {
-    let command = worker_command(alloc)?;
-    let command = with_option(alloc, command, "chunk")?;
-    let command = with_option(alloc, command, "rows")?;
-    with_option(alloc, command, "generate")
+    let mut command = command;
+    for name in names {
+        command = with_option(alloc, command, name)?;
+    }
+    Ok(command)
 }
 
-/// The command.
+/// The command: the options of workers, those of rows and of the answer, and the words.
 fn tool_command<'a>(alloc: Global) -> Result<Command<'a>, AllocError>
     ensures { IfOk result (λ c. app_of c ≡ tool_app) }
 {
-    let command = row_command(alloc)?;
-    let command = with_option(alloc, command, "sink")?;
-    let command = with_option(alloc, command, "format")?;
-    let words = Arg::new(alloc, "words").action(ArgAction::Append);
-    command.arg(words)
+    let names = [
+        "workers",
+        "partitions",
+        "spill-size",
+        "buffer",
+        "payloads",
+        "actions",
+        "spill-dir",
+        "chunk",
+        "rows",
+        "generate",
+        "sink",
+        "format",
+    ];
+    let command = with_options(alloc, bare_command(alloc), &names)?;
+    with_words(alloc, command)
 }
 
 /// What the command finds in words, where it takes them.

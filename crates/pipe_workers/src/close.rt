@@ -30,6 +30,7 @@ fn send_rest<S: SpillStore + Drop, R: Naming, G: Gate, H: Wait>(
         (AreSharesAtStop R.run shares.old.worker stop.Memory shares.new) }
     ensures table { table.new.table ≡ table.old.table }
 {
+    // Called for what its clauses say.
     let _query = shared.query();
     let _worker = shares.worker();
     let Some(payload) = table.rest(partition) else {
@@ -75,6 +76,7 @@ impl<'a, S: SpillStore + Drop, R: Naming, G: Gate> GenericGroupby2<'a, S, R, G> 
             (HasStopped R.run self.old.shares.worker stop.Memory self.new) }
         ensures turns { self.new.turns ≡ self.old.turns }
     {
+        // Called for what its clauses say.
         let _query = self.shared.query();
         match send_rests(rt, &self.shared, &mut self.table, &mut self.shares) {
             Ok(()) => {

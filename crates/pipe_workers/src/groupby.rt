@@ -103,6 +103,7 @@ impl<'a, S: SpillStore + Drop, R: Naming, G: Gate> GenericGroupby2<'a, S, R, G> 
         ensures ready { IfOk result (λ w. IsReady R.run shares.worker 0 w) }
         ensures back { IfErr result (λ e. e.1 ≡ shares) }
     {
+        // Called for what its clauses say.
         let _workers = self.shared.workers();
         let Ok(table) = self.table.split() else {
             return Err((AllocError, shares));

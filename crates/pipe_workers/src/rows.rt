@@ -43,6 +43,7 @@ pub(crate) fn take_row<S: SpillStore + Drop, R: Naming, G: Gate, H: Wait>(
         (AreSharesAtStop R.run shares.old.worker stop.Memory shares.new) }
 {
     let types = shared.query().key_types();
+    // Called for what its clauses say.
     let _worker = shares.worker();
     let rows = &turn.rows;
     if encode_row(key, rows, row, types).is_err() {

@@ -90,6 +90,7 @@ pub(crate) fn take_turn<S: SpillStore + Drop, R: Naming, G: Gate, H: Wait>(
     ensures err { IfErr result
         (λ end. AreSharesAtStop R.run shares.old.worker end shares.new) }
 {
+    // Called for what its clauses say.
     let _query = shared.query();
     let _worker = shares.worker();
     if chunk.frame.height() == 0 {
@@ -98,6 +99,7 @@ pub(crate) fn take_turn<S: SpillStore + Drop, R: Naming, G: Gate, H: Wait>(
     let Ok(()) = take_rows(rt, shared, table, shares, key, position, chunk) else {
         return Err(WorkerStop::Memory);
     };
+    // Called for what its clauses say.
     let _worker = shares.worker();
     pick(rt, shared, shares, action)
 }

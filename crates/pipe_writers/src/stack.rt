@@ -13,6 +13,7 @@ use std::alloc::AllocError;
 fn recall_height(frame: &DataFrame)
     ensures { all_have_height frame.now.height frame.now.columns ≡ true }
 {
+    // Called for what its clauses say.
     let _columns = frame.columns();
 }
 

@@ -7,8 +7,12 @@ use pipe_columns::{AnyValue, Column, DataChunk, DataFrame, DataType, Field, Sche
 use pipe_global::OpenGate;
 use pipe_group_by::run_group_by;
 use pipe_plan::{Limits, SinkKind, SpillAction};
+use pipe_run::GroupByOutput;
 use pipe_spill::MemoryStore;
 use std::alloc::Global;
+use std::io::Print;
+use std::sync::Wait;
+use std::thread::Threads;
 
 /// The sum of v by k.
 fn query(alloc: Global) -> anyhow::Result<Query> {
@@ -51,10 +55,20 @@ fn chunk(alloc: Global, rows: &[[i128; 2]]) -> anyhow::Result<DataChunk> {
     })
 }
 
-fn main(rt: HostRuntime) -> anyhow::Result<()> {
-    let alloc = rt.alloc();
-    let (first, second) = ([[1, 5], [2, 6], [3, 1]], [[1, 7], [2, 2], [4, 3]]);
-    let chunks = vec![in alloc; chunk(alloc, &first)?, chunk(alloc, &second)?]?;
+/// Two chunks of three rows.
+fn chunks(alloc: Global) -> anyhow::Result<Vec<DataChunk>> {
+    let first = chunk(alloc, &[[1, 5], [2, 6], [3, 1]])?;
+    let second = chunk(alloc, &[[1, 7], [2, 2], [4, 3]])?;
+    Ok(vec![in alloc; first, second]?)
+}
+
+/// What the workers spill: the first dumps once, the second never.
+fn actions(alloc: Global) -> anyhow::Result<Vec<Vec<SpillAction>>> {
+    Ok(vec![in alloc; vec![in alloc; SpillAction::Dump]?, Vec::new(alloc)]?)
+}
+
+/// The run of the query over the chunks.
+fn output<H: Threads + Wait + Sync>(rt: &H, alloc: Global) -> anyhow::Result<GroupByOutput> {
     let limits = Limits {
         sink: SinkKind::Generic,
         workers: 2,
@@ -63,16 +77,24 @@ fn main(rt: HostRuntime) -> anyhow::Result<()> {
         buffer_size: 1,
         payload_limit: 0,
     };
-    let lists = vec![in alloc; vec![in alloc; SpillAction::Dump]?, Vec::new(alloc)]?;
-    let stores = vec![in alloc; MemoryStore::new(alloc, Vec::new(alloc))]?;
     let query = query(alloc)?;
-    let run = run_group_by(
-        &rt, alloc, chunks, &query, &limits, lists, stores, &OpenGate,
-    );
-    let output = run.0.ok().context("the run was refused")?;
+    let chunks = chunks(alloc)?;
+    let lists = actions(alloc)?;
+    let stores = vec![in alloc; MemoryStore::new(alloc, Vec::new(alloc))]?;
+    let run = run_group_by(rt, alloc, chunks, &query, &limits, lists, stores, &OpenGate);
+    run.0.ok().context("the run was refused")
+}
+
+/// Prints the groups.
+fn show(rt: &impl Print, output: &GroupByOutput) -> anyhow::Result<()> {
     println!(rt; "{} rows overflowed", output.overflow)?;
     for column in output.frame.columns() {
         println!(rt; "{}: {:?}", column.name().as_str(), column.values())?;
     }
     Ok(())
+}
+
+fn main(rt: HostRuntime) -> anyhow::Result<()> {
+    let output = output(&rt, rt.alloc())?;
+    show(&rt, &output)
 }

@@ -1,7 +1,8 @@
 //! A run that is fed all chunks of files.
 
-ghost use Rattle.std.specs.Prelude.{◌≡◌, ◌<◌, [], IfErr, IfOk, map, true};
+ghost use Rattle.std.specs.Prelude.{◌≡◌, ◌<◌, [], IfErr, IfOk, true};
 ghost use Rattle.pipe_columns.specs.Causes.{Rose};
+ghost use Rattle.pipe_plan.specs.Stores.{stores_seen};
 ghost use Rattle.pipe_csv.specs.declared.csv_error.CsvError.TheVariants as csv_error;
 ghost use Rattle.pipe_run.specs.Feeding.{NoneFell};
 ghost use Rattle.pipe_run.specs.Refusals.{AllFit};
@@ -50,20 +51,12 @@ pub(crate) fn feed_files<
     ensures few { IfOk result (λ r. are_few r.chunks ≡ true) }
     ensures fit { IfOk result (λ r. AllFit run.entry.setting.query.schema r.chunks) }
     ensures counted { IfOk result (λ r. NoneFell run.entry.stores r.stores) }
-    ensures cause { IfErr result (λ e. IsRunEnd run.entry (I.told input.old) reader.old (map (λ s. record {
-      held = S.held s;
-      told = S.told s;
-      faults = S.faults s;
-      sure = S.sure s;
-    }) e.1.items) e.0) }
+    ensures cause { IfErr result (λ e. IsRunEnd run.entry (I.told input.old) reader.old
+        (stores_seen S.held S.told S.faults S.sure e.1.items) e.0) }
     ensures failed { IfErr result (λ e. e.0 ≡ error.Read csv_error.Input
         → Rose (I.faults input.old) (I.faults input.new)) }
-    ensures back { IfErr result (λ e. HaveFront run.entry.setting (map (λ s. record {
-      held = S.held s;
-      told = S.told s;
-      faults = S.faults s;
-      sure = S.sure s;
-    }) e.1.items)) }
+    ensures back { IfErr result (λ e. HaveFront run.entry.setting
+        (stores_seen S.held S.told S.faults S.sure e.1.items)) }
 {
     let mut run = run;
     let mut before = Counted { chunks: 0, rows: 0 };

@@ -1,6 +1,7 @@
 //! A run that is fed generated rows.
 
-ghost use Rattle.std.specs.Prelude.{◌≡◌, ◌<◌, [], IfErr, IfOk, map};
+ghost use Rattle.std.specs.Prelude.{◌≡◌, ◌<◌, [], IfErr, IfOk};
+ghost use Rattle.pipe_plan.specs.Stores.{stores_seen};
 ghost use Rattle.pipe_run.specs.Feeding.{NoneFell};
 ghost use Rattle.pipe_run.specs.Finish.{IsFinishCause};
 ghost use Rattle.tool_made.specs.Made.{made};
@@ -33,18 +34,10 @@ pub(crate) fn feed_made<'a, S: SpillStore + Drop + Send, G: Gate + Sync, H: Thre
     ensures setting { IfOk result (λ r. r.setting ≡ run.entry.setting) }
     ensures all { IfOk result (λ r. r.chunks ≡ made rows.now) }
     ensures counted { IfOk result (λ r. NoneFell run.entry.stores r.stores) }
-    ensures cause { IfErr result (λ e. IsFinishCause run.entry (map (λ s. record {
-      held = S.held s;
-      told = S.told s;
-      faults = S.faults s;
-      sure = S.sure s;
-    }) e.1.items) e.0) }
-    ensures back { IfErr result (λ e. HaveFront run.entry.setting (map (λ s. record {
-      held = S.held s;
-      told = S.told s;
-      faults = S.faults s;
-      sure = S.sure s;
-    }) e.1.items)) }
+    ensures cause { IfErr result (λ e. IsFinishCause run.entry
+        (stores_seen S.held S.told S.faults S.sure e.1.items) e.0) }
+    ensures back { IfErr result (λ e. HaveFront run.entry.setting
+        (stores_seen S.held S.told S.faults S.sure e.1.items)) }
 {
     let total = rows.chunks();
     let mut run = run;

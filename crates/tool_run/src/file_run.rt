@@ -1,7 +1,8 @@
 //! A run over the chunks of files.
 
-ghost use Rattle.std.specs.Prelude.{◌≡◌, ◌<◌, [], IfErr, IfOk, map};
+ghost use Rattle.std.specs.Prelude.{◌≡◌, ◌<◌, [], IfErr, IfOk};
 ghost use Rattle.pipe_columns.specs.Causes.{Rose};
+ghost use Rattle.pipe_plan.specs.Stores.{stores_seen};
 ghost use Rattle.pipe_csv.specs.declared.csv_error.CsvError.TheVariants as csv_error;
 ghost use Rattle.pipe_source.specs.Reader.{given_fields};
 ghost use Rattle.tool_run.specs.Answering.{HaveFront, IsAnsweredFrom, IsRunEnd};
@@ -42,26 +43,14 @@ pub fn run_files<
     requires none { run.chunks ≡ [] }
     requires fits { given_fields reader.old ≡ run.setting.query.schema }
     ensures answered { IfOk result.0 (λ out. IsAnsweredFrom run.entry.setting
-        (I.told input.old) reader.old out (map (λ s. record {
-          held = S.held s;
-          told = S.told s;
-          faults = S.faults s;
-          sure = S.sure s;
-        }) result.1.items)) }
-    ensures cause { IfErr result.0 (λ e. IsRunEnd run.entry (I.told input.old) reader.old (map (λ s. record {
-      held = S.held s;
-      told = S.told s;
-      faults = S.faults s;
-      sure = S.sure s;
-    }) result.1.items) e) }
+        (I.told input.old) reader.old out
+        (stores_seen S.held S.told S.faults S.sure result.1.items)) }
+    ensures cause { IfErr result.0 (λ e. IsRunEnd run.entry (I.told input.old) reader.old
+        (stores_seen S.held S.told S.faults S.sure result.1.items) e) }
     ensures failed { IfErr result.0 (λ e. e ≡ error.Read csv_error.Input
         → Rose (I.faults input.old) (I.faults input.new)) }
-    ensures back { IfErr result.0 (λ _. HaveFront run.entry.setting (map (λ s. record {
-      held = S.held s;
-      told = S.told s;
-      faults = S.faults s;
-      sure = S.sure s;
-    }) result.1.items)) }
+    ensures back { IfErr result.0 (λ _. HaveFront run.entry.setting
+        (stores_seen S.held S.told S.faults S.sure result.1.items)) }
 {
     let run = match feed_files(rt, alloc, gate, run, input, reader, most, threads) {
         Ok(run) => run,

@@ -1,6 +1,7 @@
 //! A run over generated rows.
 
-ghost use Rattle.std.specs.Prelude.{◌≡◌, ◌<◌, [], false, IfErr, IfOk, map};
+ghost use Rattle.std.specs.Prelude.{◌≡◌, ◌<◌, [], false, IfErr, IfOk};
+ghost use Rattle.pipe_plan.specs.Stores.{stores_seen};
 ghost use Rattle.pipe_run.specs.Answered.{IsAnswered};
 ghost use Rattle.pipe_run.specs.Finish.{IsFinishCause};
 ghost use Rattle.pipe_run.specs.Setting.{run_of};
@@ -33,24 +34,12 @@ pub fn run_made<'a, S: SpillStore + Drop + Send, G: Gate + Sync, H: Threads + Wa
     requires none { run.chunks ≡ [] }
     requires fits { made_schema ≡ run.setting.query.schema }
     ensures answered { IfOk result.0 (λ out. IsAnswered
-        (run_of run.entry.setting false (made rows.now)) out (map (λ s. record {
-          held = S.held s;
-          told = S.told s;
-          faults = S.faults s;
-          sure = S.sure s;
-        }) result.1.items)) }
-    ensures cause { IfErr result.0 (λ e. IsFinishCause run.entry (map (λ s. record {
-      held = S.held s;
-      told = S.told s;
-      faults = S.faults s;
-      sure = S.sure s;
-    }) result.1.items) e) }
-    ensures back { IfErr result.0 (λ _. HaveFront run.entry.setting (map (λ s. record {
-      held = S.held s;
-      told = S.told s;
-      faults = S.faults s;
-      sure = S.sure s;
-    }) result.1.items)) }
+        (run_of run.entry.setting false (made rows.now)) out
+        (stores_seen S.held S.told S.faults S.sure result.1.items)) }
+    ensures cause { IfErr result.0 (λ e. IsFinishCause run.entry
+        (stores_seen S.held S.told S.faults S.sure result.1.items) e) }
+    ensures back { IfErr result.0 (λ _. HaveFront run.entry.setting
+        (stores_seen S.held S.told S.faults S.sure result.1.items)) }
 {
     let run = match feed_made(rt, alloc, gate, run, rows, most) {
         Ok(run) => run,

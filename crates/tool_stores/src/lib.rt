@@ -8,6 +8,3 @@ mod program_stores;
 pub use maker::StoreMaker;
 pub use program_store::ProgramStore;
 pub use program_stores::ProgramStores;
-
-#[cfg(test)]
-mod tests;

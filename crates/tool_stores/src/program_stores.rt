@@ -1,6 +1,6 @@
 //! Who makes the stores of the program.
 
-ghost use Rattle.std.specs.Prelude.{◌≡◌, ◌++◌, ◌∷◌, [], IfOk, IsTrue, None, OnErr, OnOk, Some, option_map};
+ghost use Rattle.std.specs.Prelude.{◌≡◌, ◌<◌, ◌++◌, ◌∷◌, [], IfOk, IsTrue, None, OnErr, Some, map, option_map, vec_capacity, vec_len};
 ghost use Rattle.tool_stores.specs.ProgramStore.{faults_of, held_of, is_sure, path_of, told_of};
 ghost use Rattle.tool_stores.specs.StorePath.{store_path};
 
@@ -42,16 +42,20 @@ impl<'a, R: Files> ProgramStores<'a, R> {
             made: Vec::new(alloc),
         }
     }
+}
 
-    /// Keeps a mark of a store, and hands the store back.
-    fn marked(&mut self, store: ProgramStore<&'a R>) -> Result<ProgramStore<&'a R>, AllocError>
-        ensures same { IfOk result (λ s. s ≡ store.entry) }
-        ensures made { OnOk result (self.new ≡ self.old ++ path_of store.entry ∷ []) }
-        ensures unmade { OnErr result (self.new ≡ self.old) }
-    {
-        self.made.push(Snapshot::of(&store))?;
-        Ok(store)
-    }
+/// Keeps a mark of a store, for which there is room, and hands the store back.
+fn marked<'a, R>(
+    made: &mut Vec<Snapshot<ProgramStore<&'a R>>>,
+    store: ProgramStore<&'a R>,
+) -> ProgramStore<&'a R>
+    requires room { vec_len made.old < vec_capacity made.old }
+    ensures same { result ≡ store.entry }
+    ensures made { map (λ s. path_of s.value) made.new.items
+        ≡ map (λ s. path_of s.value) made.old.items ++ path_of store.entry ∷ [] }
+{
+    made.push_reserved(Snapshot::of(&store));
+    store
 }
 
 impl<'a, R: Files + Sync> StoreMaker for ProgramStores<'a, R> {
@@ -75,14 +79,15 @@ impl<'a, R: Files + Sync> StoreMaker for ProgramStores<'a, R> {
         ensures made { IfOk result (λ s. self.new ≡ self.old ++ path_of s ∷ []) }
         ensures unmade { OnErr result (self.new ≡ self.old) }
     {
+        self.made.reserve(1)?;
         match dir {
             None => {
                 let store = MemoryStore::new(self.alloc, Vec::new(self.alloc));
-                self.marked(ProgramStore::Memory(store))
+                Ok(marked(&mut self.made, ProgramStore::Memory(store)))
             }
             Some(dir) => {
                 let store = FileStore::new(self.rt, self.alloc, dir, partition)?;
-                self.marked(ProgramStore::Files(store))
+                Ok(marked(&mut self.made, ProgramStore::Files(store)))
             }
         }
     }

@@ -4,9 +4,9 @@ use Rattle.csv.specs.Records.{fields_of}
 use Rattle.pipe_csv.proofs.RowFacts.{get-reads, get-some}
 use Rattle.pipe_columns.specs.declared.any_value.AnyValue.{AnyValue}
 use Rattle.pipe_csv.specs.Columns.{with_row}
-use Rattle.pipe_wanted.specs.Wanted.{chosen, is_wanted}
-use Rattle.pipe_wanted.proofs.WantedFacts.{chosen-nil}
-use Rattle.pipe_wanted.proofs.ChosenFacts.{fewer-chosen, push-kept, push-left}
+use Rattle.narrow_columns.specs.Wanted.{chosen, is_wanted}
+use Rattle.narrow_columns.proofs.WantedFacts.{chosen-nil}
+use Rattle.narrow_columns.proofs.ChosenFacts.{fewer-chosen, push-kept, push-left}
 use Rattle.pipe_source.proofs.ChosenColumns.{push-wanted}
 use Rattle.pipe_source.proofs.FieldsLeft.{field-reads, field-value, fields-more, fields-start, length-push, row-fields, text-here}
 use Rattle.pipe_source.proofs.row_push.push_entry.Goals as goal

@@ -3,7 +3,7 @@ use Rattle.csv.specs.Records.{fields_of}
 use Rattle.pipe_columns.specs.declared.any_value.AnyValue.{AnyValue}
 use Rattle.pipe_csv.specs.Columns.{with_row}
 use Rattle.pipe_csv.specs.CsvRows.{read_row}
-use Rattle.pipe_wanted.specs.Wanted.{chosen}
+use Rattle.narrow_columns.specs.Wanted.{chosen}
 use Rattle.pipe_source.proofs.FieldsLeft.{FieldsLeft}
 use Rattle.pipe_source.proofs.row_push.push_entry.Given as goal
 

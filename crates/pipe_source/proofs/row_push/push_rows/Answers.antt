@@ -5,7 +5,7 @@ use Rattle.pipe_csv.proofs.HoldFacts.{rows-hold, rows-push}
 use Rattle.pipe_csv.proofs.PieceFacts.{values-push}
 use Rattle.pipe_csv.proofs.ReadFacts.{length-row, row-fits}
 use Rattle.pipe_scan.specs.Records.{records_at}
-use Rattle.pipe_wanted.specs.Wanted.{chosen}
+use Rattle.narrow_columns.specs.Wanted.{chosen}
 use Rattle.pipe_source.proofs.ChosenColumns.{chosen-hold, chosen-none, chosen-row}
 use Rattle.pipe_source.proofs.RowsLeft.{first-stops, next-reads, fresh-width, only-memory, rows-all, rows-more, rows-start, same-room, take-first}
 use Rattle.pipe_source.proofs.row_push.push_rows.Goals as goal

@@ -5,7 +5,7 @@ use Rattle.pipe_csv.specs.CsvRows.{read_rows}
 use Rattle.pipe_csv.proofs.HoldFacts.{RowsFit}
 use Rattle.pipe_scan.specs.Records.{records_at}
 use Rattle.pipe_scan.specs.Stops.{AreMarked}
-use Rattle.pipe_wanted.specs.Wanted.{chosen}
+use Rattle.narrow_columns.specs.Wanted.{chosen}
 use Rattle.pipe_source.proofs.RowsLeft.{RowsLeft}
 use Rattle.pipe_source.proofs.row_push.push_rows.Given as goal
 

@@ -1,9 +1,9 @@
 use Rattle.std.proofs.Common.{◌≡◌, ◌∙◌, ◌+◌, ◌++◌, [], ◌∷◌, ℕ, zero, suc, add-one, ap, arith, refl, sym}
 use Rattle.std.specs.List.{range_with_len}
 use Rattle.std.proofs.lemmas.List.FromFn.{length-range_with_len}
-use Rattle.pipe_wanted.specs.Wanted.{is_wanted}
-use Rattle.pipe_wanted.proofs.WantedFacts.{chosen-nil}
-use Rattle.pipe_wanted.proofs.ChosenFacts.{push-kept, push-left}
+use Rattle.narrow_columns.specs.Wanted.{is_wanted}
+use Rattle.narrow_columns.proofs.WantedFacts.{chosen-nil}
+use Rattle.narrow_columns.proofs.ChosenFacts.{push-kept, push-left}
 use Rattle.pipe_source.proofs.wanted_places.wanted_places.Goals as goal
 use Rattle.pipe_source.proofs.wanted_places.wanted_places.Goals.{then-is_wanted+in_ok-push, else-is_wanted}
 

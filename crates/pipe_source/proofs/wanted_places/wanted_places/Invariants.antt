@@ -1,6 +1,6 @@
 use Rattle.std.proofs.Common.{◌≡◌}
 use Rattle.std.specs.List.{range_with_len}
-use Rattle.pipe_wanted.specs.Wanted.{chosen}
+use Rattle.narrow_columns.specs.Wanted.{chosen}
 use Rattle.pipe_source.proofs.wanted_places.wanted_places.Given as goal
 
 -- the wanted among the first places are in the list

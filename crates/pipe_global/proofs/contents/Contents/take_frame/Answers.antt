@@ -1,4 +1,5 @@
 use Rattle.std.proofs.Common.{rules, ◌≡◌, sym, subst, length, List, refl, vec_len}
+use Rattle.pipe_plan.specs.Stores.{store_seen}
 use Rattle.pipe_spill.specs.declared.spill_row.SpillRow.{SpillRow}
 use Rattle.pipe_global.specs.Gathering.{HasTakenFrame, IsLast}
 use Rattle.pipe_global.specs.Moving.{AreCovered, CanMerge, TookRows}
@@ -24,12 +25,7 @@ returns-clause-ok g c =
       partitions = c.self.inside.partitions;
       table = c.put_rows.new.table;
       waiting = c.self.inside.waiting.items;
-      store = record {
-        held = g.S.SpillStore.held c.self.inside.store;
-        told = g.S.SpillStore.told c.self.inside.store;
-        faults = g.S.SpillStore.faults c.self.inside.store;
-        sure = g.S.SpillStore.sure c.self.inside.store;
-      };
+      store = store_seen g.S.SpillStore.held g.S.SpillStore.told g.S.SpillStore.faults g.S.SpillStore.sure c.self.inside.store;
       marks = c.pop.new.self.items;
       journal = c.self.inside.journal;
       book = c.self.inside.book.items;

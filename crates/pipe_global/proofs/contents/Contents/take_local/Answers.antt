@@ -1,4 +1,5 @@
 use Rattle.std.proofs.Common.{rules, ◌≡◌, ◌∙◌, refl, sym, subst}
+use Rattle.pipe_plan.specs.Stores.{store_seen}
 use Rattle.pipe_groups.specs.Groups.{count_held}
 use Rattle.pipe_tables.specs.Tables.{HoldFewTogether}
 use Rattle.pipe_global.specs.Gathering.{HasTakenLocal}
@@ -18,12 +19,7 @@ returns-then-lies_in-clause-ok g c =
       partitions = c.self.inside.partitions;
       table = c.self.inside.table;
       waiting = c.self.inside.waiting.items;
-      store = record {
-        held = g.S.SpillStore.held c.self.inside.store;
-        told = g.S.SpillStore.told c.self.inside.store;
-        faults = g.S.SpillStore.faults c.self.inside.store;
-        sure = g.S.SpillStore.sure c.self.inside.store;
-      };
+      store = store_seen g.S.SpillStore.held g.S.SpillStore.told g.S.SpillStore.faults g.S.SpillStore.sure c.self.inside.store;
       marks = c.self.inside.marks.items;
       journal = c.self.inside.journal;
       book = c.self.inside.book.items;
@@ -43,12 +39,7 @@ returns-clause-ok g c =
       partitions = c.self.inside.partitions;
       table = c.self.inside.table;
       waiting = c.self.inside.waiting.items;
-      store = record {
-        held = g.S.SpillStore.held c.self.inside.store;
-        told = g.S.SpillStore.told c.self.inside.store;
-        faults = g.S.SpillStore.faults c.self.inside.store;
-        sure = g.S.SpillStore.sure c.self.inside.store;
-      };
+      store = store_seen g.S.SpillStore.held g.S.SpillStore.told g.S.SpillStore.faults g.S.SpillStore.sure c.self.inside.store;
       marks = c.self.inside.marks.items;
       journal = c.self.inside.journal;
       book = c.self.inside.book.items;

@@ -1,7 +1,0 @@
-use Rattle.std.proofs.Common.{◌≡◌, take}
-use Rattle.pipe_plain.specs.Running.{starts}
-use Rattle.pipe_plain.proofs.groups.starting.Given as goal
-
--- the aggregates so far
-abbrev pub invariant-loop-prototype : goal.invariant-loop-prototype
-invariant-loop-prototype l = l.states.items ≡ (starts (take l.prototype-index l.prototypes)).states

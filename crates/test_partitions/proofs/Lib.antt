@@ -1,0 +1,2 @@
+mod PlannedFacts
+mod RoundFacts

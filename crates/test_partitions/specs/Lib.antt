@@ -1,0 +1,3 @@
+pub mod Asked
+pub mod PlannedRuns
+pub mod RoundRuns

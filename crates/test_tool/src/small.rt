@@ -1,0 +1,43 @@
+//! An output that takes little at a time.
+
+ghost use Rattle.std.specs.Prelude.{◌≡◌, ◌<◌, ◌≤◌, is_some, length, IfOk, IsErrOf};
+ghost use Rattle.std.specs.Io.KnownBytes.{WriteAppends};
+ghost use Rattle.pipe_columns.specs.Causes.{HasCause};
+ghost use Rattle.pipe_io.specs.MemoryOutput.{faults_of, told_of};
+ghost use Rattle.pipe_io.specs.declared.output.OutputError.TheVariants as output_error;
+
+use crate::runs::output_of;
+use pipe_io::{MemoryOutput, Output, OutputError};
+use std::alloc::{AllocError, Global};
+
+/// How many bytes it takes.
+pub(crate) const PIECE: usize = 5;
+
+/// An output that takes five bytes at a time.
+#[derive(Drop)]
+pub(crate) struct Small(pub(crate) MemoryOutput);
+
+impl Small {
+    /// One of which a call fails.
+    pub(crate) fn new(alloc: Global, failing: u8) -> Result<Small, AllocError> {
+        Ok(Small(output_of(alloc, &[u64::from(failing)])?))
+    }
+}
+
+impl Output for Small {
+    ghost told = { λ s. told_of s.0 };
+
+    ghost faults = { λ s. faults_of s.0 };
+
+    fn write(&mut self, piece: &[u8]) -> Result<usize, OutputError>
+        requires { 0 < length piece.now }
+        ensures some { IfOk result (λ n. 0 < n) }
+        ensures bound { IfOk result (λ n. n ≤ length piece.now) }
+        ensures tells { is_some (told_of self.new.0) ≡ is_some (told_of self.old.0) }
+        ensures bytes { WriteAppends (told_of self.old.0) (told_of self.new.0) result piece.now }
+        ensures cause { HasCause (faults_of self.old.0) (faults_of self.new.0)
+            (IsErrOf result output_error.Failed) }
+    {
+        self.0.write(&piece[..piece.len().min(PIECE)])
+    }
+}

@@ -1,0 +1,34 @@
+-- What is seen of stores, and of a run of the tool that has ended.
+use Rattle.std.specs.Prelude.{◌≡◌, ◌<◌, ℕ, Bool, true, IsTrue, List, [], map, length, Option, Some, None, slice_index_or}
+use Rattle.pipe_global.specs.Partition.{no_store}
+use Rattle.pipe_plan.specs.declared.event.PartitionEvent.{PartitionEvent}
+use Rattle.pipe_plan.specs.Run.{StoreSeen, tells}
+
+-- a run that has ended: its status, the journal of each partition, and the stores
+pub record EndSeen : Type 0 where
+  pub status : ℕ
+  pub journals : List (List PartitionEvent)
+  pub stores : List StoreSeen
+
+-- a store as it is made: without a folder it tells that it has no frame, and is sure
+pub record IsMade (folder : Option (List ℕ)) (s : StoreSeen) : Type 0 where
+  pub held : s.held ≡ 0
+  pub faults : s.faults ≡ 0
+  pub tells : folder ≡ None → s.told ≡ Some []
+  pub sure : folder ≡ None → IsTrue s.sure
+
+-- a store tells, and never failed
+pub record IsSound (s : StoreSeen) : Type 0 where
+  pub told : tells s ≡ true
+  pub sound : s.faults ≡ 0
+
+-- the store of a partition failed
+pub record HasFailed (stores : List StoreSeen) (p : ℕ) : Type 0 where
+  pub within : p < length stores
+  pub failed : 0 < (slice_index_or stores p no_store).faults
+
+-- the store of a partition doesn't tell, and has a frame of a number
+pub record HasUntold (stores : List StoreSeen) (p n : ℕ) : Type 0 where
+  pub within : p < length stores
+  pub untold : (slice_index_or stores p no_store).told ≡ None
+  pub has : n < (slice_index_or stores p no_store).held

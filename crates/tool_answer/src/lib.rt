@@ -1,0 +1,18 @@
+//! The answer to one command: from its words to the bytes of its output, its line and its exit status.
+#![tactic(auto)]
+
+mod ended;
+mod fault;
+mod line;
+mod made;
+mod made_run;
+mod read;
+mod run;
+mod status;
+mod stores;
+mod tool;
+mod untaken;
+
+pub use ended::ToolEnd;
+pub use tool::run_tool;
+pub use untaken::report_untaken;

@@ -1,0 +1,137 @@
+//! A run over the files that are asked for.
+
+ghost use Rattle.std.specs.Prelude.{◌≡◌, [], All, IfErr, IfOk, IsErrOf, None, length, map, true, vec_len};
+ghost use Rattle.pipe_aggs.specs.Faults.{first_fault};
+ghost use Rattle.pipe_aggs.specs.QueryTrees.{query_tree};
+ghost use Rattle.pipe_columns.specs.Causes.{Rose};
+ghost use Rattle.pipe_model.specs.Output.{key_types};
+ghost use Rattle.pipe_run.specs.Refusals.{limits_fit};
+ghost use Rattle.pipe_words.specs.Plans.{CanRun, plan_seen};
+ghost use Rattle.tool_words.specs.Asked.{asks, does_keep};
+ghost use Rattle.pipe_plan.specs.Stores.{stores_seen};
+ghost use Rattle.tool_answer.specs.Ended.{IsMade, IsSound};
+ghost use Rattle.tool_answer.specs.Faults.{IsCaused};
+ghost use Rattle.tool_answer.specs.Inside.{IsOfRun};
+ghost use Rattle.tool_answer.specs.Headline.{HasRunTo, HaveFront};
+ghost use Rattle.tool_answer.specs.declared.fault.ToolFault.TheVariants as fault;
+
+use crate::fault::{ToolFault, file_fault};
+use crate::read::reader_of;
+use narrow_query::{Narrowed, narrow};
+use pipe_aggs::Query;
+use pipe_global::Gate;
+use pipe_group_by::GroupByRun;
+use pipe_io::InputFiles;
+use pipe_plan::{Limits, SpillAction};
+use pipe_run::{GroupByOutput, PipeError};
+use pipe_spill::SpillStore;
+use pipe_words::Plan;
+use std::alloc::Global;
+use std::sync::Wait;
+use std::thread::Threads;
+use tool_run::run_files;
+use tool_words::Question;
+
+/// How many chunks of each worker are read or made before they are fed.
+pub const CHUNKS_OF_WORKER: usize = 4;
+
+/// A run before its first chunk, over stores as they were made.
+#[tactic(auto, using(crate::proofs::RunFacts::keeps_suits))]
+pub fn begin_run<'a, S: SpillStore + Drop + Send, H: Wait>(
+    rt: &H,
+    alloc: Global,
+    query: &'a Query,
+    limits: &Limits,
+    actions: Vec<Vec<SpillAction>>,
+    stores: Vec<S>,
+) -> Result<GroupByRun<'a, S>, Vec<S>>
+    requires fits { limits_fit limits.now (vec_len actions)
+        (map (λ s. S.held s) stores.items) ≡ true }
+    requires faultless { first_fault query.now ≡ None }
+    requires suited { does_keep limits.now.sink (key_types (query_tree query.now)) ≡ true }
+    ensures setting { IfOk result (λ r. r.setting ≡ record {
+      query = query.now;
+      limits = limits.now;
+      actions = map (λ v. v.items) actions.items;
+      stores = stores_seen S.held S.told S.faults S.sure stores.items;
+    }) }
+    ensures chunks { IfOk result (λ r. r.chunks ≡ []) }
+    ensures back { IfErr result (λ v. v.items ≡ stores.items) }
+{
+    match GroupByRun::begin(rt, alloc, query, limits, actions, stores) {
+        Ok(run) => Ok(run),
+        Err((PipeError::Memory, stores)) => Err(stores),
+        Err((_, _)) => unreachable!(),
+    }
+}
+
+/// Runs a question over stores and over the files that it names, of which the columns that the query
+/// names are read and fed in rounds. The stores come back in order.
+pub fn run_question<
+    S: SpillStore + Drop + Send,
+    I: InputFiles,
+    G: Gate + Sync,
+    H: Threads + Wait + Sync,
+>(
+    rt: &H,
+    alloc: Global,
+    question: Question,
+    stores: Vec<S>,
+    input: &mut I,
+    gate: &G,
+) -> (Result<GroupByOutput, ToolFault>, Vec<S>)
+    requires runs { CanRun (plan_seen question.plan) }
+    requires faultless { first_fault question.query ≡ None }
+    requires suited { does_keep question.plan.limits.sink
+        (key_types (query_tree question.query)) ≡ true }
+    requires made { All (IsMade question.plan.spill_dir)
+        (stores_seen S.held S.told S.faults S.sure stores.items) }
+    requires count { length stores.items ≡ question.plan.limits.partitions }
+    ensures answered { IfOk result.0 (λ out. HasRunTo (plan_seen question.plan)
+        (query_tree question.query) (I.told input.old) out
+        (stores_seen S.held S.told S.faults S.sure result.1.items)) }
+    ensures cause { IfErr result.0 (λ f. IsCaused f
+        (asks (plan_seen question.plan) (query_tree question.query)) (I.told input.old)
+        (stores_seen S.held S.told S.faults S.sure result.1.items)) }
+    ensures of_run { IfErr result.0 (λ f. IsOfRun f) }
+    ensures failed { IsErrOf result.0 fault.InputFailed
+        → Rose (I.faults input.old) (I.faults input.new) }
+    ensures stopped { IfErr result.0 (λ _. HaveFront (plan_seen question.plan)
+        (query_tree question.query) (stores_seen S.held S.told S.faults S.sure result.1.items)) }
+    ensures in_memory { question.plan.spill_dir ≡ None
+        → All IsSound (stores_seen S.held S.told S.faults S.sure result.1.items) }
+{
+    let Question { plan, query } = question;
+    let Plan {
+        limits,
+        chunk,
+        actions,
+        rows,
+        words,
+        spill_dir,
+        ..
+    } = plan;
+    drop(spill_dir);
+    let Ok(narrowed) = narrow(alloc, query) else {
+        return (Err(ToolFault::Memory), stores);
+    };
+    let Narrowed {
+        schema,
+        wanted,
+        query,
+    } = narrowed;
+    let run = match begin_run(rt, alloc, &query, &limits, actions, stores) {
+        Ok(run) => run,
+        Err(stores) => return (Err(ToolFault::Memory), stores),
+    };
+    let Ok(mut reader) = reader_of(alloc, words, schema, wanted, chunk, rows) else {
+        return (Err(ToolFault::Memory), run.into_stores());
+    };
+    let most = CHUNKS_OF_WORKER * limits.workers;
+    let threads = limits.workers;
+    let (ended, stores) = run_files(rt, alloc, gate, run, input, &mut reader, most, threads);
+    match ended {
+        Ok(groups) => (Ok(groups), stores),
+        Err(error) => (Err(file_fault(error)), stores),
+    }
+}
