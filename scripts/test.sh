@@ -1,0 +1,22 @@
+#!/usr/bin/env bash
+# Tests everything: the pages against the tree; every proof, edit, test and program; the cases, on what was built then.
+# It goes on where one of the three fails, and then ends with 1.
+# With fewer than four processors the edits are left out, and it says so: they are a third of the work.
+cd "$(dirname "$0")/.." || exit 1
+failed=0
+scripts/check_docs.sh || failed=1
+# rt reckons two to three times the memory that a check takes, and leaves processors idle beside the greatest crates. Where there are 5 GB for each, it is told to use all.
+free=$(awk '/^MemAvailable/ { print int($2 / 1048576) }' /proc/meminfo)
+[ $((free / 5)) -ge "$(nproc)" ] && RT_JOBS=$(nproc) && export RT_JOBS
+if [ "$(nproc)" -ge 4 ]; then
+    rt ci || failed=1
+    scripts/run_cases.py || failed=1
+else
+    echo "test.sh: $(nproc) processors, so the edits are left out"
+    copy=$(mktemp -d) && chmod 711 "$copy"
+    tar --exclude=./.git --exclude=out --exclude=must-fail -c . | tar -x -C "$copy"
+    (cd "$copy" && rt ci) || failed=1
+    scripts/run_cases.py "$copy"/crates/group_tool/out/group_tool{,.by-rattle} || failed=1
+    rm -rf "$copy"
+fi
+exit "$failed"
