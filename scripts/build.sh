@@ -5,19 +5,24 @@
 set -eu
 folder=${1:-"$HOME/.local/bin"}
 cd "$(dirname "$0")/.."
-logs=$(mktemp -d)
-echo "proving and building group_tool" >&2
-python3 scripts/prove_below.py group_tool "$logs"
-cd crates/group_tool
-rm -f out/group_tool
-# `rt run` runs the program too, here without a query, which it refuses.
-rt run --jobs "$(nproc)" >"$logs/group_tool" 2>&1 </dev/null || true
-if [ ! -x out/group_tool ]; then
-    tail -n 20 "$logs/group_tool" >&2
-    echo "build.sh: group_tool was not built" >&2
-    exit 1
+made=crates/group_tool/out
+# All that the program is made of, and the toolchain that proves it.
+sum=$({ rt version; find crates.txt crates -name out -prune -o -type f \( -name crates.txt -o -name '*.rt' -o -name '*.antt' \) -print0 | sort -z | xargs -0 sha256sum; } | sha256sum)
+if [ ! -x "$made/group_tool" ] || [ "$(cat "$made/built" 2>/dev/null)" != "$sum" ]; then
+    logs=$(mktemp -d)
+    echo "proving and building group_tool" >&2
+    python3 scripts/prove_below.py group_tool "$logs"
+    rm -f "$made/group_tool"
+    # `rt run` runs the program too, here without a query, which it refuses.
+    (cd crates/group_tool && rt run --jobs "$(nproc)" >"$logs/group_tool" 2>&1 </dev/null) || true
+    if [ ! -x "$made/group_tool" ]; then
+        tail -n 20 "$logs/group_tool" >&2
+        echo "build.sh: group_tool was not built" >&2
+        exit 1
+    fi
+    rm -rf "$logs"
+    echo "$sum" >"$made/built"
 fi
-rm -rf "$logs"
 mkdir -p "$folder"
-install -m 755 out/group_tool "$folder/group_tool"
+install -m 755 "$made/group_tool" "$folder/group_tool"
 echo "installed $folder/group_tool" >&2

@@ -1,6 +1,6 @@
-"""Checks the pages against the tree: README.md, docs/*.md and crates/*/README.md.
+"""Checks the pages against the tree: README.md, cases/README.md, docs/*.md and crates/*/README.md. And checks that each edit of must-fail/ and more-edits/ can be applied.
 
-docs/DEFINITIONS.md is printed from docs/definitions.order and the comments over the definitions in crates/*/specs.
+docs/DEFINITIONS.md and docs/DEFINITIONS_BY_CRATE.md are printed from docs/definitions.order and the comments over the definitions in crates/*/specs.
 A fault is one line, `page:line: what is wrong`, and the status is 1 where there is one.
 """
 
@@ -10,10 +10,13 @@ import re
 import sys
 from collections import namedtuple
 
+from edits import MORE, TRIED, files_in, why_not
+
 ROOT = os.path.dirname(os.path.dirname(os.path.abspath(__file__)))
 ALONE = "-- Of the proofs alone"
 ORDER = "docs/definitions.order"
 DEFINITIONS = "docs/DEFINITIONS.md"
+BY_CRATE = "docs/DEFINITIONS_BY_CRATE.md"
 PROMISES = "docs/PROMISES.md"
 MOST_WORDS = 900
 
@@ -29,6 +32,10 @@ def fault(page, line, what):
 
 
 def read(path):
+    """The text of a file; one that is not there is a fault, and empty."""
+    if not there(path):
+        fault(path, 0, "the file is not there")
+        return ""
     with open(os.path.join(ROOT, path), encoding="utf-8") as file:
         return file.read()
 
@@ -52,7 +59,7 @@ def crates():
 
 def files_below(folder, ending):
     for at, folders, names in os.walk(os.path.join(ROOT, folder)):
-        folders[:] = sorted(f for f in folders if f not in ("out", "declared", ".git"))
+        folders[:] = sorted(f for f in folders if f not in ("out", "declared", ".git", "__pycache__"))
         for name in sorted(names):
             if name.endswith(ending):
                 yield os.path.relpath(os.path.join(at, name), ROOT)
@@ -125,58 +132,56 @@ def listed_by(number, line, definitions, listed):
             yield found
 
 
-def page_of_definitions(definitions):
-    """The lines of the page. A line of the order that begins with @ names rows; @@ stands for all that no line names."""
-    shown = [d for d in definitions if not d.alone]
+def pages_of_definitions(definitions):
+    """The lines of both pages. A line of the order that begins with @ names rows; what no line names stands by crate on the second page."""
     listed, page = set(), []
     for number, line in enumerate(read(ORDER).splitlines(), 1):
-        if line.startswith("@@"):
-            for crate in crates():
-                left = [d for d in shown if d.crate == crate and d not in listed]
-                if left:
-                    page += [f"### `{crate}`", ""] + TABLE + [row(d) for d in left] + [""]
-            if page and not page[-1]:
-                page.pop()
-        elif line.startswith("@"):
+        if line.startswith("@"):
             rows = [row(d) for d in listed_by(number, line, definitions, listed)]
             page += ([] if page and page[-1].startswith("| `") else TABLE) + rows
         else:
             page.append(line)
-    return page
+    others = ["# Definitions by crate", "", f"What else public clauses cite, beside what {DEFINITIONS} has in reading order."]
+    for crate in crates():
+        left = [d for d in definitions if d.crate == crate and d not in listed and not d.alone]
+        if left:
+            others += ["", f"## `{crate}`", ""] + TABLE + [row(d) for d in left]
+    return {DEFINITIONS: page, BY_CRATE: others}
 
 
 def check_definitions(definitions, write):
-    page = page_of_definitions(definitions)
-    text = "\n".join(page) + "\n"
-    if write:
-        with open(os.path.join(ROOT, DEFINITIONS), "w", encoding="utf-8") as file:
-            file.write(text)
     for d in definitions:
         if not d.alone and not d.words:
             fault(d.path, d.line, f"no comment of its own over {d.name}")
-    if not there(DEFINITIONS):
-        fault(DEFINITIONS, 0, "the page is not there; scripts/check_docs.sh --write writes it")
+    for page, lines in pages_of_definitions(definitions).items():
+        check_page_of_definitions(page, "\n".join(lines) + "\n", definitions, write)
+
+
+def rows_of_page(text):
+    """The rows of definitions, each with the number of its line."""
+    return {line: number for number, line in enumerate(text.splitlines(), 1) if line.startswith("| `")}
+
+
+def check_page_of_definitions(page, text, definitions, write):
+    if write:
+        with open(os.path.join(ROOT, page), "w", encoding="utf-8") as file:
+            file.write(text)
+    if not there(page):
+        fault(page, 0, "the page is not there; scripts/check_docs.sh --write writes it")
         return
-    old = read(DEFINITIONS)
-    if old == text:
-        return
-    rows_old = {line: number for number, line in enumerate(old.splitlines(), 1) if line.startswith("| `")}
-    places = {tuple(cells(line)[::2]): number for line, number in rows_old.items()}
-    rows_new = {row(d): d for d in definitions if not d.alone}
-    for line, d in rows_new.items():
-        number = places.get(tuple(cells(line)[::2]))
-        if line not in rows_old and number:
-            fault(DEFINITIONS, number, f"the row of {d.name} differs from the comment at {d.path}:{d.line}")
-        elif line not in rows_old:
-            fault(DEFINITIONS, 0, f"no row for {d.name} of {d.path}:{d.line}")
+    old, new = rows_of_page(read(page)), rows_of_page(text)
+    for line in new:
+        if line not in old:
+            fault(page, 0, f"no such row: {line}")
     known = {tuple(cells(row(d))[::2]): d.alone for d in definitions}
-    for place, number in places.items():
-        name, path = (part.strip("`") for part in place)
-        if place not in known:
-            fault(DEFINITIONS, number, f"no definition {name} in crates/{path}")
-        elif known[place]:
-            fault(DEFINITIONS, number, f"{name} of crates/{path} is of the proofs alone, and wants no row")
-    fault(DEFINITIONS, 0, "differs from what is printed; scripts/check_docs.sh --write writes it anew")
+    for line, number in old.items():
+        name, path = (part.strip("`") for part in cells(line)[::2])
+        if line not in new:
+            fault(page, number, f"{name} of crates/{path} has another row, or none")
+        elif known.get((f"`{name}`", f"`{path}`")):
+            fault(page, number, f"{name} of crates/{path} is of the proofs alone, and wants no row")
+    if read(page) != text:
+        fault(page, 0, "differs from what is printed; scripts/check_docs.sh --write writes it anew")
 
 
 # ---- rows that name clauses, functions, definitions and files
@@ -216,6 +221,14 @@ def with_crates(path):
     return path if path.startswith("crates/") else f"crates/{path}"
 
 
+def is_missing(page, line, path):
+    """Whether there is no such file, which is a fault of the page that names it."""
+    if there(path):
+        return False
+    fault(page, line, f"there is no file {path.removeprefix('crates/')}")
+    return True
+
+
 FUNCTION = re.compile(r"\bfn (\w+)")
 
 
@@ -233,7 +246,7 @@ def check_clauses(page, line, cell):
             fault(page, line, f"a clause wants one file: {cell}")
             continue
         path = with_crates(paths[0])
-        if not there(path):
+        if is_missing(page, line, path):
             continue
         text = read(path)
         for name in second or first:
@@ -254,7 +267,7 @@ def check_names(page, line, cell, definitions):
             fault(page, line, f"a definition wants one file: {cell}")
             continue
         path = with_crates(paths[0])
-        if not there(path):
+        if is_missing(page, line, path):
             continue
         for name in first + second:
             if not any(d.name == name and d.path == path for d in definitions):
@@ -273,7 +286,7 @@ def check_rows(page, text, definitions):
             for title, cell in zip(head, row_cells):
                 if title == "clause":
                     check_clauses(page, line, cell)
-                elif title == "definition" and page != DEFINITIONS:
+                elif title == "definition" and page not in (DEFINITIONS, BY_CRATE):
                     check_names(page, line, cell, definitions)
 
 
@@ -291,6 +304,8 @@ def check_prose(page, text, definitions):
 
 def check_whole(page, rows, function, path):
     """A table of all the clauses of one function."""
+    if is_missing(page, rows[0][0], with_crates(path)):
+        return
     clauses = next((found for f, found in functions(read(with_crates(path))) if f == function), [])
     told = [name for _, row_cells in rows for name in NAMES.findall(row_cells[0])]
     for name in clauses:
@@ -310,8 +325,6 @@ def promises(page):
 
 def check_first_promises():
     """The promises of README are the first ones of their page."""
-    if not there(PROMISES):
-        return
     first = [row_cells for _, row_cells in promises(PROMISES)]
     for at, (line, row_cells) in enumerate(promises("README.md")):
         if at >= len(first) or row_cells != first[at]:
@@ -320,14 +333,14 @@ def check_first_promises():
 
 # ---- files, options, crates
 
-FOLDERS = ["crates", "docs", "scripts", "bench", "src", "specs", "proofs", "must-fail"]
+FOLDERS = ["crates", "cases", "docs", "scripts", "bench", "src", "specs", "proofs", TRIED, MORE]
 ALONE_NAME = r"(?<![\w./*-])\w[\w.-]*\.(?:rt|antt|md|sh|py|edit|order)\b"
 HOLE = re.compile(r"NAME|<|\.\.\.")
 
 
 def mention():
     """What looks like a file: a path that begins with a known folder, or a name that ends as our files do."""
-    folders = "|".join(FOLDERS + list(crates()))
+    folders = "|".join(FOLDERS + list(crates()) + [rf"\w+/(?:src|specs|proofs|{TRIED}|{MORE})"])
     return re.compile(rf"(?<![\w./-])(?:{folders})/[\w./{{}},*-]*[\w}}*/]|{ALONE_NAME}")
 
 
@@ -342,7 +355,7 @@ def spread(word):
 def file_names():
     names = set()
     for at, folders, found in os.walk(ROOT):
-        folders[:] = [f for f in folders if f not in ("out", ".git")]
+        folders[:] = [f for f in folders if f not in ("out", ".git", "__pycache__")]
         names.update(found)
     return names
 
@@ -371,8 +384,8 @@ OPTION = re.compile(r"(?<![\w-])--[a-z][a-z-]*")
 
 def program_options():
     """The options of the program's command, as pipe_words makes it."""
-    text = read("crates/pipe_words/src/command.rt")
-    return {f"--{name}" for name in re.findall(r'with_option\(alloc, command, "([a-z][a-z-]*)"\)', text)}
+    names = re.search(r"let names = \[(.*?)\];", read("crates/pipe_words/src/command.rt"), re.DOTALL)
+    return {f"--{name}" for name in re.findall(r'"([a-z][a-z-]*)"', names.group(1))}
 
 
 def script_options(names):
@@ -404,9 +417,7 @@ def check_table_of_options(text, options):
 
 def check_statuses(page, text):
     """The tables of statuses have those of the program, each at least once."""
-    path = "crates/group_tool/src/status.rt"
-    if not there(path):
-        return
+    path = "crates/tool_answer/src/status.rt"
     known = set(re.findall(r"pub const \w+: u8 = (\d+);", read(path)))
     for head, rows in tables(text):
         if head[0] == "status":
@@ -416,29 +427,50 @@ def check_statuses(page, text):
                 fault(page, rows[0][0], f"{what} {status}")
 
 
+def rooms():
+    """The rooms of crates.txt, in order: the word of each heading, and its crates."""
+    found = []
+    for line in read("crates.txt").splitlines():
+        heading = re.match(r"# (\w+): ", line)
+        if heading:
+            found.append((heading.group(1), []))
+        elif found and ":" in line and not line.startswith("#"):
+            found[-1][1].append(line.partition(":")[0].split()[0])
+    return found
+
+
 def check_map(page):
-    """The table of crates has those of crates.txt, each with the crates that it stands on."""
-    known = crates()
-    for head, rows in tables(read(page)):
-        if head[:2] == ["crate", "stands on"]:
-            told = {NAMES.findall(row_cells[0])[0]: (line, NAMES.findall(row_cells[1])) for line, row_cells in rows}
-            for crate, below in known.items():
-                if crate not in told:
-                    fault(page, rows[0][0], f"no row for the crate {crate}")
-                elif set(told[crate][1]) != set(below):
-                    fault(page, told[crate][0], f"{crate} stands on {', '.join(below) or 'nothing'}")
-            for crate in set(told) - set(known):
-                fault(page, told[crate][0], f"there is no crate {crate}")
-            return
-    fault(page, 0, "the table of crates is missing")
+    """The tables of crates are those of the rooms of crates.txt, in their order, below headings that begin alike."""
+    lines = read(page).splitlines()
+    headings = [line[4:].partition(":")[0].lower() for line in lines if line.startswith("### ")]
+    told = [[NAMES.findall(row_cells[0])[0] for _, row_cells in rows] for head, rows in tables(read(page)) if head == ["crate", "what it has"]]
+    if len(told) != len(headings) or not told:
+        fault(page, 0, f"{len(headings)} headings of rooms, and {len(told)} tables of crates")
+    for (room, known), heading, names in zip(rooms(), headings, told):
+        if room != heading:
+            fault(page, 0, f"the room {room} stands under the heading {heading}")
+        if known != names:
+            fault(page, 0, f"the room {room} has {', '.join(known)}, and its table {', '.join(names)}")
+    if len(rooms()) != len(told):
+        fault(page, 0, f"{len(rooms())} rooms, and {len(told)} tables of crates")
+
+
+def check_edits():
+    """Each edit can be applied, wherever it stands."""
+    for crate in crates():
+        for folder in (TRIED, MORE):
+            for name in files_in(ROOT, crate, folder):
+                why = why_not(ROOT, crate, folder, name)
+                if why:
+                    fault(f"crates/{crate}/{folder}/{name}", *why)
 
 
 def main():
     write = "--write" in sys.argv[1:]
     definitions = all_definitions()
     check_definitions(definitions, write)
-    pages = ["README.md"] + sorted(files_below("docs", ".md"))
-    pages += [f"crates/{crate}/README.md" for crate in crates() if there(f"crates/{crate}/README.md")]
+    pages = ["README.md", "cases/README.md"] + sorted(files_below("docs", ".md"))
+    pages += [f"crates/{crate}/README.md" for crate in crates()]
     names, options, pattern = file_names(), program_options(), mention()
     for page in pages:
         text = read(page)
@@ -450,6 +482,7 @@ def main():
     check_first_promises()
     check_table_of_options(read("README.md"), options)
     check_map("docs/ARCHITECTURE.md")
+    check_edits()
     words = len(read("README.md").split())
     if words > MOST_WORDS:
         fault("README.md", 0, f"{words} words, where {MOST_WORDS} are the most")

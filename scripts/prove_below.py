@@ -2,7 +2,7 @@
 
 usage: scripts/prove_below.py CRATE LOGS, where LOGS is a folder for what each crate's proof prints.
 A crate is begun as soon as all that it stands on is proved. The one with the most above it goes first, with a job for each processor; the others run beside it at a lower priority, so they take what it leaves.
-Two runs of rt in one tree wait for each other where they stand on one crate. So each runs in a copy of the tree below LOGS; what is proved in one is known in all trees of the machine, in this one too while LOGS is there.
+Two runs of rt in one tree wait for each other where they stand on one crate. So each runs in a copy of the tree below LOGS, and what is built in one is linked into the others and into this one, before anything above it is begun.
 AT_ONCE in the environment is how many crates are proved at once: 1 is one after another.
 """
 
@@ -77,9 +77,28 @@ def at_once():
 
 
 def copied(logs, number):
-    """A copy of the tree, without what is built and what git keeps."""
+    """A copy of the tree, without what git keeps. What earlier runs built is linked, so what has not changed is not proved again."""
     to = os.path.join(logs, f"tree-{number}")
-    return shutil.copytree(ROOT, to, symlinks=True, ignore=shutil.ignore_patterns("out", ".git"))
+    shutil.copytree(ROOT, to, symlinks=True, ignore=shutil.ignore_patterns("out", ".git"))
+    for crate in crates():
+        linked(crate, ROOT, to)
+    return to
+
+
+def linked(crate, source, to):
+    """Links the built library of a crate into another tree, in place of what stands there."""
+    built, place = (os.path.join(tree, "crates", crate, "out", "rlib") for tree in (source, to))
+    if os.path.isdir(built):
+        shutil.rmtree(place, ignore_errors=True)
+        shutil.copytree(built, place, symlinks=True, copy_function=linked_file)
+
+
+def linked_file(source, to):
+    """Links a file, or copies it where that can't be."""
+    try:
+        os.link(source, to)
+    except OSError:
+        shutil.copy2(source, to)
 
 
 def start(crate, tree, beside, logs):
@@ -95,6 +114,7 @@ def prove(wanted, known, height, logs):
     """Proves the crates, each after those that it stands on, and answers one that was not proved, if there is one."""
     begun, done, running = time.monotonic(), set(), {}
     free = [copied(logs, number) for number in range(at_once())]
+    trees = [ROOT, *free]
     try:
         while len(done) < len(wanted):
             ready = [c for c in wanted if c not in done and c not in running and done.issuperset(known[c])]
@@ -108,6 +128,9 @@ def prove(wanted, known, height, logs):
                 free.append(tree)
                 if process.returncode != 0:
                     return c
+                for other in trees:
+                    if other != tree:
+                        linked(c, tree, other)
                 done.add(c)
                 now = time.monotonic()
                 took = f"{now - since:.0f} s, {len(done)} of {len(wanted)} crates after {now - begun:.0f} s"
