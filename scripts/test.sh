@@ -5,9 +5,7 @@
 cd "$(dirname "$0")/.." || exit 1
 failed=0
 scripts/check_docs.sh || failed=1
-# rt reckons two to three times the memory that a check takes, and leaves processors idle beside the greatest crates. Where there are 5 GB for each, it is told to use all.
-free=$(awk '/^MemAvailable/ { print int($2 / 1048576) }' /proc/meminfo)
-[ $((free / 5)) -ge "$(nproc)" ] && RT_JOBS=$(nproc) && export RT_JOBS
+source scripts/jobs.sh
 if [ "$(nproc)" -ge 4 ]; then
     rt ci || failed=1
     scripts/run_cases.py || failed=1

@@ -4,6 +4,7 @@ mod key_tests;
 mod local_tests;
 mod memory_tests;
 mod placed_tests;
+mod query_groups_tests;
 mod slice_tests;
 mod state_tests;
 mod step_tests;
