@@ -8,13 +8,16 @@ ghost use Rattle.pipe_writers.specs.declared.write_error.WriteError.TheVariants 
 
 use pipe_io::{Output, OutputError, write_all};
 use std::alloc::{AllocError, AllocFailed};
+use thiserror::Error;
 
 /// Why a writer refuses.
-#[derive(Debug, Drop, PartialEq, Eq)]
+#[derive(Debug, Drop, PartialEq, Eq, Error)]
 pub enum WriteError {
     /// The output failed.
+    #[error("output failed")]
     Output,
     /// Memory ran out.
+    #[error("out of memory")]
     Memory,
 }
 

@@ -82,7 +82,7 @@ fn output<H: Threads + Wait + Sync>(rt: &H, alloc: Global) -> anyhow::Result<Gro
     let lists = actions(alloc)?;
     let stores = vec![in alloc; MemoryStore::new(alloc, Vec::new(alloc))]?;
     let run = run_group_by(rt, alloc, chunks, &query, &limits, lists, stores, &OpenGate);
-    run.0.ok().context("the run was refused")
+    Ok(run.0?)
 }
 
 /// Prints the groups.

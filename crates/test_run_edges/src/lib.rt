@@ -11,6 +11,8 @@ mod damage_tests;
 #[cfg(test)]
 mod edge_tests;
 #[cfg(test)]
+mod refusal_tests;
+#[cfg(test)]
 mod runs;
 #[cfg(test)]
 mod size_tests;
