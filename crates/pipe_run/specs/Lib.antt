@@ -4,6 +4,7 @@ pub mod Fed
 pub mod Answered
 pub mod Given
 pub mod Ending
+pub mod EndedRun
 pub mod Sources
 pub mod Stacking
 pub mod Feeding
