@@ -1,7 +1,7 @@
 """Tries the edits of crates/NAME/more-edits, which the gate leaves out: the prover must refuse each.
 
 usage: scripts/more_edits.py [NAME..]; without a name the edits of all crates are tried.
-`rt must-fail` tries what stands in must-fail/. So it runs in a copy of the tree, beside the tree, where each crate's more-edits/ stands as its must-fail/. Libraries that are built are hard links there, and so need no new proof; others are proved first.
+`rt ci NAME..` tries what stands in must-fail/. So it runs in a copy of the tree where each crate's more-edits/ stands as its must-fail/. What an earlier `rt ci` proved on this machine is kept, in whatever folder it ran, and needs no new proof; the rest is proved first.
 It prints the lines of rt, and last 'N refused, M not'. The status is 0 where each edit is refused, and none of the named crates is without.
 """
 
@@ -15,32 +15,19 @@ import tempfile
 from edits import MORE, TRIED, files_in
 
 ROOT = os.path.dirname(os.path.dirname(os.path.abspath(__file__)))
-BESIDE = os.path.dirname(ROOT)
 SAID = re.compile(r"rt: must-fail (\w+/[\w.-]+): (refused, as it must be)?")
 
 
-def linked(source, to):
-    """Another name of a file, or a copy where the system gives none. rt writes a library anew, and never into its file."""
-    try:
-        os.link(source, to)
-    except OSError:
-        shutil.copy2(source, to)
-
-
 def copy_tree(to):
-    """Copies the tree without what git and checks keep, and links the libraries that are built."""
+    """Copies the tree without what git and checks keep, and without edits."""
     shutil.copytree(ROOT, to, symlinks=True, ignore=shutil.ignore_patterns(".git", "out", TRIED, MORE))
-    for crate in os.listdir(os.path.join(ROOT, "crates")):
-        built = os.path.join(ROOT, "crates", crate, "out", "rlib")
-        if os.path.isdir(built):
-            shutil.copytree(built, os.path.join(to, "crates", crate, "out", "rlib"), copy_function=linked)
 
 
 def try_all(tree, names):
     """Runs rt over the named crates of a tree, prints what it says, and answers its status and what it said of each edit: whether it was refused."""
     said = {}
     how = {"cwd": tree, "stdin": subprocess.DEVNULL, "stdout": subprocess.PIPE, "stderr": subprocess.STDOUT}
-    with subprocess.Popen(["rt", TRIED, *names], text=True, errors="replace", **how) as rt:
+    with subprocess.Popen(["rt", "ci", *names], text=True, errors="replace", **how) as rt:
         for line in rt.stdout:
             print(line, end="", flush=True)
             match = SAID.match(line)
@@ -65,7 +52,7 @@ def main():
     wanted = [f"{crate}/{edit}" for crate, edits in found.items() for edit in edits]
     status, said = 0, {}
     if wanted:
-        with tempfile.TemporaryDirectory(prefix="more-edits-", dir=BESIDE if os.access(BESIDE, os.W_OK) else None) as room:
+        with tempfile.TemporaryDirectory(prefix="more-edits-") as room:
             tree = os.path.join(room, "tree")
             copy_tree(tree)
             for crate in found:
