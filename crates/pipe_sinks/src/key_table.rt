@@ -148,8 +148,9 @@ impl KeyTable {
         ensures err { OnErr result (HasGroups self.old self.new self.old.groups) }
         ensures other_err { OnErr result (HasGroups other.old other.new other.old.groups) }
     {
-        self.keyed
-            .make_room(other.keyed.held(), other.keyed.key_bytes())?;
+        let groups = other.keyed.held();
+        let key_bytes = other.keyed.key_bytes();
+        self.keyed.make_room(groups, key_bytes)?;
         take_all(&mut self.keyed, &mut other.keyed);
         other.keyed.clear();
         Ok(())

@@ -1,11 +1,9 @@
 -- The rows of a chunk that are taken one by one, and of chunks.
-use Rattle.std.proofs.Common.{Option, Some, true, false, ◌≡◌, ◌∙◌, ℕ, ◌+◌, ◌<◌, ◌^◌, suc, List, [], ◌∷◌, ◌++◌, length, map, get_or, refl, sym, ap, subst, arith, ◌≤◌}
-use Rattle.std.specs.List.{All, range_with_len}
+use Rattle.std.proofs.Common.{Option, Some, true, false, ◌≡◌, ◌∙◌, ℕ, ◌+◌, ◌<◌, ◌^◌, suc, List, [], ◌∷◌, ◌++◌, length, map, refl, sym, ap, subst, arith}
 use Rattle.std.proofs.lemmas.List.{append_assoc, append-nil, length-append, length-map, map-append}
-use Rattle.std.proofs.lemmas.List.Elements.{All-append, All-cons, All-map, All-nil}
-use Rattle.std.proofs.lemmas.List.FromFn.{get_or-range_with_len, length-map-range_with_len, length-range_with_len, map-range_with_len_more}
+use Rattle.std.proofs.lemmas.List.Elements.{All-append, All-cons, All-nil}
+use Rattle.std.proofs.lemmas.List.FromFn.{length-map-range_with_len, map-range_with_len_more}
 use Rattle.std.proofs.lemmas.List.Sums.{sum_by-cons, sum_by_push}
-use Rattle.std.proofs.lemmas.Option.{unwrap_or-slice_get}
 use Rattle.pipe_columns.specs.declared.data_chunk.DataChunk.{DataChunk}
 use Rattle.pipe_columns.specs.declared.place.Place.{Place}
 use Rattle.pipe_columns.specs.Frame.{fields_of, FitsSchema, frame_of, FrameData, HoldsTypes}
@@ -17,16 +15,12 @@ use Rattle.pipe_model.specs.Answer.{answer}
 use Rattle.pipe_model.specs.Groupable.{IsGroupable}
 use Rattle.pipe_model.proofs.RowPlaces.{rows-distinct}
 use Rattle.pipe_model.specs.Rows.{AreChunksOf, chunk_rows, row_of, rows, rows_from, total_height}
-use Rattle.pipe_aggs.specs.CheckedQuery.{input_types, IsSound}
+use Rattle.pipe_aggs.specs.CheckedQuery.{IsSound}
 use Rattle.pipe_aggs.specs.QueryTrees.{query_tree}
 use Rattle.pipe_aggs.specs.declared.query.Query.{Query}
-use Rattle.pipe_inputs.specs.ChunkRows.{no_row}
-use Rattle.pipe_inputs.specs.RowTypes.{IsRowOf}
-use Rattle.pipe_inputs.proofs.CellFacts.{row_at-chunk}
 use Rattle.pipe_inputs.proofs.TypeFacts as TypeFacts
 use Rattle.pipe_spill.specs.SpillRow.{AreRows, IsRow, spilled}
 use Rattle.pipe_spill.specs.declared.spill_row.SpillRow.{SpillRow}
-use Rattle.pipe_spill.proofs.SpilledRows.{spilled_is_row}
 use Rattle.pipe_groups.specs.Given.{in_order, IsFrameOfGroups}
 use Rattle.pipe_groups.specs.Placed.{rows_by_place}
 use Rattle.pipe_groups.specs.QueryRows.{ArePlaced, HoldRowsOf}

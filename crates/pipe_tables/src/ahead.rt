@@ -3,8 +3,8 @@
 ghost use Rattle.std.specs.Prelude.{◌≡◌, All};
 ghost use Rattle.pipe_spill.specs.KeyTypes.{AreOfTypes};
 
-use crate::hash_table::AggHashTable;
 use crate::by_hash::ByHash;
+use crate::hash_table::AggHashTable;
 use crate::hints::Hints;
 use pipe_chains::hash_bytes;
 use pipe_columns::DataType;

@@ -5,8 +5,8 @@ ghost use Rattle.pipe_groups.specs.Groups.{cover, Covers, HasGroups as SameGroup
 ghost use Rattle.pipe_keyed.specs.Tables.{HasGroups};
 ghost use Rattle.pipe_tables.specs.Tables.{cover_rows};
 
-use crate::hash_table::AggHashTable;
 use crate::by_hash::ByHash;
+use crate::hash_table::AggHashTable;
 use crate::hints::Hints;
 use crate::spot::find_near;
 use pipe_chains::hash_bytes;

@@ -67,8 +67,7 @@ loop-row-preserved c =
     let shape = c.loop-row.invariant.0.shape ∙ c.requires.shape in
     let row : spilled c.loop-row.table.shape.key_types (row_at c.in_ok-rows.rows n) ≡ spilled (key_types q) (row_of q c.args.index frame n) =
     ap (λ (s : Shape). spilled s.key_types (row_at c.in_ok-rows.rows n)) shape ∙ ap (spilled (key_types q)) read in
-    let done = c.insert_lent.ensures.done c.in-Done.is in
-    (
+    let done = c.insert_lent.ensures.done c.in-Done.is in (
       took-row q c.args.index frame n c.args.table.now c.loop-row.table c.insert_lent.new.self
           (spilled c.loop-row.table.shape.key_types (row_at c.in_ok-rows.rows n)) c.loop-row.invariant.0 row done.1 (c.insert_lent.ensures.holds c.in-Done.is),
       done.2 ∙ c.loop-row.invariant.1,
