@@ -9,7 +9,7 @@ use Rattle.pipe_groups.specs.Groups.{Group}
 use Rattle.pipe_groups.specs.Holds.{Holds}
 use Rattle.pipe_groups.specs.Shape.{shape_of}
 use Rattle.pipe_groups.proofs.HoldFacts.{holds-none}
-use Rattle.pipe_tables.specs.Tables.{Table}
+use Rattle.pipe_keyed.specs.Tables.{Table}
 use Rattle.pipe_global.specs.Partition.{IsCounted, IsReplayed, IsRunnable, new_partition, no_store, store_of, with_frames}
 
 told-none : (told : Option (List (List ℕ))) → told ≡ with_frames told []

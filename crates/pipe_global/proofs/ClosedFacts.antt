@@ -21,7 +21,8 @@ use Rattle.pipe_spill.specs.declared.spill_row.SpillRow.{SpillRow}
 use Rattle.pipe_spill.proofs.SpilledRows.{spilled_are_rows}
 use Rattle.pipe_groups.specs.Holds.{Holds}
 use Rattle.pipe_groups.specs.Shape.{Shape}
-use Rattle.pipe_tables.specs.Tables.{lies_in, Table}
+use Rattle.pipe_keyed.specs.Tables.{Table}
+use Rattle.pipe_tables.specs.Tables.{lies_in}
 use Rattle.pipe_global.specs.declared.mark.Mark.{Mark}
 use Rattle.pipe_global.specs.Finishing.{AreOwn, CanFinish, CanGather, IsMarked, StandsForRows}
 use Rattle.pipe_global.specs.Partition.{bytes_of, IsReplayed, IsRunnable, marks_from, PartitionSeen, spilled_all, store_of, with_frames}

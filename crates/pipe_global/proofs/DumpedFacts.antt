@@ -14,7 +14,8 @@ use Rattle.pipe_spill.proofs.SpilledRows.{rows_have_inputs}
 use Rattle.pipe_groups.specs.Groups.{Group}
 use Rattle.pipe_groups.specs.Holds.{Holds}
 use Rattle.pipe_groups.proofs.HoldFacts.{holds-none}
-use Rattle.pipe_tables.specs.Tables.{lies_in, Table}
+use Rattle.pipe_keyed.specs.Tables.{Table}
+use Rattle.pipe_tables.specs.Tables.{lies_in}
 use Rattle.pipe_global.specs.declared.mark.Mark.{Mark}
 use Rattle.pipe_global.specs.Finishing.{AreOwn, CanFinish, CanGather, IsMarked}
 use Rattle.pipe_global.specs.Partition.{new_partition, PartitionSeen}

@@ -15,7 +15,8 @@ use Rattle.pipe_groups.specs.Groups.{Group, held_at}
 use Rattle.pipe_groups.specs.Holds.{Holds}
 use Rattle.pipe_groups.specs.Shape.{Shape}
 use Rattle.pipe_groups.proofs.HoldFacts.{holds-moved, holds-part}
-use Rattle.pipe_tables.specs.Tables.{HoldFewTogether, lies_in, Table}
+use Rattle.pipe_keyed.specs.Tables.{HoldFewTogether, Table}
+use Rattle.pipe_tables.specs.Tables.{lies_in}
 use Rattle.pipe_global.specs.declared.mark.Mark.{Mark}
 use Rattle.pipe_global.specs.Finishing.{AreOwn, CanFinish, GivesGroups, GivesOwn, GivesOwnPlaced, GivesPlaced, IsEmptied, IsMarked, KeepsRest, other_rows, own_rows, StandAsBefore, StandFor, StandMoved, StandsForRows}
 use Rattle.pipe_global.specs.Gathering.{HasGathered, HasGiven, HasGivenPlaced, HasTakenLocal, IsReady, without_groups}

@@ -16,7 +16,8 @@ use Rattle.pipe_spill.specs.declared.spill_row.SpillRow.{SpillRow}
 use Rattle.pipe_groups.specs.Holds.{Holds}
 use Rattle.pipe_groups.specs.Shape.{Shape}
 use Rattle.pipe_groups.proofs.HoldFacts.{holds-same}
-use Rattle.pipe_tables.specs.Tables.{lies_in, Table}
+use Rattle.pipe_keyed.specs.Tables.{Table}
+use Rattle.pipe_tables.specs.Tables.{lies_in}
 use Rattle.pipe_global.specs.declared.batch_error.BatchError.{BatchError}
 use Rattle.pipe_global.specs.declared.batch_error.BatchError.TheVariants as batch_error
 use Rattle.pipe_global.specs.declared.mark.Mark.{Mark}

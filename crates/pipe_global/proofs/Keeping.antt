@@ -19,7 +19,7 @@ use Rattle.pipe_plan.proofs.Replaying.{replay-push}
 use Rattle.pipe_spill.specs.SpillRow.{AreRows, HasValues, HaveInputs, joined_rows, Payload, payload_of, spilled}
 use Rattle.pipe_spill.proofs.SpilledRows.{rows_have_inputs, spilled_are_rows}
 use Rattle.pipe_groups.specs.Shape.{Shape}
-use Rattle.pipe_tables.specs.Tables.{Table}
+use Rattle.pipe_keyed.specs.Tables.{Table}
 use Rattle.pipe_global.specs.Moving.{CanMerge}
 use Rattle.pipe_global.specs.Next.{next_event, next_payload}
 use Rattle.pipe_global.specs.Partition.{IsCounted, IsReplayed, IsRunnable, no_store, PartitionSeen, payloads_of, spilled_all, StandsFor, store_of}

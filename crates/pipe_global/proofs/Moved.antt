@@ -12,7 +12,8 @@ use Rattle.pipe_groups.specs.Groups.{count_held, Group, held_at, is_covered, key
 use Rattle.pipe_groups.specs.Holds.{HoldFewer, Holds}
 use Rattle.pipe_groups.specs.Shape.{Shape}
 use Rattle.pipe_groups.proofs.HoldFacts.{holds-same}
-use Rattle.pipe_tables.specs.Tables.{cover_rows, HasGroups, is_full, passes, put_row, Table}
+use Rattle.pipe_keyed.specs.Tables.{HasGroups, put_row, Table}
+use Rattle.pipe_tables.specs.Tables.{cover_rows, is_full, passes}
 use Rattle.pipe_global.specs.Moving.{AreCovered, CanMerge, CanTake, HasMoved, KeepsCovered, TookRows}
 use Rattle.pipe_global.specs.Refused.{HoldsSame}
 use Rattle.pipe_global.proofs.Covering.{all-left, all-right, covered-keep, put-keys, rows-covered, rows-held, rows-keep}

@@ -18,7 +18,7 @@ use Rattle.pipe_spill.proofs.SpilledRows.{joined_spilled}
 use Rattle.pipe_groups.specs.Holds.{Holds}
 use Rattle.pipe_groups.specs.Shape.{Shape, shape_of}
 use Rattle.pipe_groups.proofs.HoldFacts.{holds-same}
-use Rattle.pipe_tables.specs.Tables.{Table}
+use Rattle.pipe_keyed.specs.Tables.{Table}
 use Rattle.pipe_global.specs.declared.mark.Mark.{Mark}
 use Rattle.pipe_global.specs.Partition.{bytes_of, marks_from, PartitionSeen, payloads_of, spilled_all, StandsFor, store_of, with_frames}
 use Rattle.pipe_global.specs.Steps.{IsDumped, IsMerged, next_mark, puts, with_payload}

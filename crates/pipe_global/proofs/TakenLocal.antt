@@ -9,7 +9,8 @@ use Rattle.pipe_spill.specs.declared.spill_row.SpillRow.{SpillRow}
 use Rattle.pipe_groups.specs.Groups.{AreJoined, count_held, Group, has_rows, held_at, held_groups}
 use Rattle.pipe_groups.specs.Holds.{FoundStands, Holds, of_key}
 use Rattle.pipe_groups.proofs.HoldFacts.{held_at-passing, holds-joined, holds-part}
-use Rattle.pipe_tables.specs.Tables.{do_all_lie, groups_in, HasGroups, KeepsShape, lies_in, Table}
+use Rattle.pipe_keyed.specs.Tables.{HasGroups, KeepsShape, Table}
+use Rattle.pipe_tables.specs.Tables.{do_all_lie, groups_in, lies_in}
 use Rattle.pipe_global.specs.Finishing.{IsRestOf, own_rows}
 use Rattle.pipe_global.specs.Gathering.{HasTakenLocal}
 use Rattle.pipe_global.specs.Partition.{PartitionSeen}

@@ -17,7 +17,8 @@ use Rattle.pipe_groups.specs.Groups.{count_held, Group, held_at, keys_of}
 use Rattle.pipe_groups.specs.Holds.{Holds}
 use Rattle.pipe_groups.specs.QueryRows.{ArePlaced}
 use Rattle.pipe_groups.specs.Shape.{Shape}
-use Rattle.pipe_tables.specs.Tables.{KeepsShape, lies_in, Table}
+use Rattle.pipe_keyed.specs.Tables.{KeepsShape, Table}
+use Rattle.pipe_tables.specs.Tables.{lies_in}
 use Rattle.pipe_global.specs.declared.batch_error.BatchError.{BatchError}
 use Rattle.pipe_global.specs.declared.batch_error.BatchError.TheVariants as batch_error
 use Rattle.pipe_global.specs.declared.mark.Mark.{Mark}

@@ -11,7 +11,7 @@ use Rattle.pipe_groups.specs.Given.{in_order, IsFrameOfGroups, slice_after}
 use Rattle.pipe_groups.specs.Groups.{count_held, keys_of}
 use Rattle.pipe_groups.specs.Holds.{Holds}
 use Rattle.pipe_groups.specs.QueryRows.{ArePlaced}
-use Rattle.pipe_tables.specs.Tables.{KeepsShape, Table}
+use Rattle.pipe_keyed.specs.Tables.{KeepsShape, Table}
 use Rattle.pipe_global.specs.declared.mark.Mark.{Mark}
 use Rattle.pipe_global.specs.Finishing.{AreOwn, CanGather, IsMarked, IsRestOf, KeepsRest, own_rows, StandMoved, StandsForRows}
 use Rattle.pipe_global.specs.Moving.{TookRows}

@@ -4,7 +4,7 @@ use Rattle.pipe_spill.specs.SpillRow.{AreRows}
 use Rattle.pipe_spill.specs.declared.spill_row.SpillRow.{SpillRow}
 use Rattle.pipe_groups.specs.Groups.{Group, is_covered}
 use Rattle.pipe_groups.specs.Holds.{HoldFewer, Holds}
-use Rattle.pipe_tables.specs.Tables.{KeepsShape, Table}
+use Rattle.pipe_keyed.specs.Tables.{KeepsShape, Table}
 
 -- a table of the same shape and limit, which holds more rows
 pub record TookRows (t new : Table) (rows : List SpillRow) : Type 0 where

@@ -16,7 +16,7 @@ use Rattle.pipe_spill.specs.SpillRow.{HasValues, Payload, payload_of, spilled}
 use Rattle.pipe_spill.specs.declared.spill_row.SpillRow.{SpillRow}
 use Rattle.pipe_groups.specs.Holds.{Holds}
 use Rattle.pipe_groups.specs.Shape.{shape_of}
-use Rattle.pipe_tables.specs.Tables.{Table}
+use Rattle.pipe_keyed.specs.Tables.{Table}
 use Rattle.pipe_global.specs.declared.mark.Mark.{Mark}
 
 -- its number of how many partitions, its table, waiting payloads and store, a mark for each frame that

@@ -2,7 +2,7 @@
 use Rattle.std.specs.Prelude.{◌≡◌, ◌≤◌, ℕ, Bool, List}
 use Rattle.pipe_plan.specs.Run.{StoreSeen}
 use Rattle.pipe_groups.specs.Groups.{held_at}
-use Rattle.pipe_tables.specs.Tables.{KeepsShape, Table}
+use Rattle.pipe_keyed.specs.Tables.{KeepsShape, Table}
 use Rattle.pipe_global.specs.Partition.{PartitionSeen}
 
 -- a table of the same shape and limit, which holds the same; its room may be another

@@ -7,7 +7,8 @@ use Rattle.pipe_plan.specs.WorkedRuns.{sum_by_number}
 use Rattle.pipe_spill.specs.SpillRow.{AreRows}
 use Rattle.pipe_spill.specs.Store.{HasHeld}
 use Rattle.pipe_spill.specs.declared.spill_row.SpillRow.{SpillRow}
-use Rattle.pipe_tables.specs.Tables.{lies_in, Table}
+use Rattle.pipe_keyed.specs.Tables.{Table}
+use Rattle.pipe_tables.specs.Tables.{lies_in}
 use Rattle.pipe_global.specs.Partition.{IsReplayed, IsRunnable, new_partition, PartitionSeen}
 
 -- two rows of a table's types, whose keys lie in partition 3 of 16

@@ -8,7 +8,7 @@ ghost use Rattle.pipe_spill.specs.SpillRow.{AreRows};
 ghost use Rattle.pipe_spill.specs.Store.{HasHeld};
 ghost use Rattle.pipe_spill.specs.declared.spill_row.SpillRow.{SpillRow};
 ghost use Rattle.pipe_groups.specs.Holds.{Holds};
-ghost use Rattle.pipe_tables.specs.Tables.{Table};
+ghost use Rattle.pipe_keyed.specs.Tables.{Table};
 ghost use Rattle.pipe_global.specs.Finishing.{AreOwn, CanFinish, StandsForRows};
 ghost use Rattle.pipe_global.specs.Partition.{IsReplayed, IsRunnable, PartitionSeen, spilled_all};
 

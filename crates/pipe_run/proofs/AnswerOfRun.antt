@@ -14,7 +14,7 @@ use Rattle.pipe_model.specs.Answer.{answer, answer_of}
 use Rattle.pipe_model.specs.Output.{output_schema}
 use Rattle.pipe_plan.specs.Run.{all_rows, Run}
 use Rattle.pipe_plan.specs.Replay.{replay}
-use Rattle.pipe_tables.specs.Tables.{Table}
+use Rattle.pipe_keyed.specs.Tables.{Table}
 use Rattle.pipe_global.specs.declared.batch_error.BatchError.{BatchError}
 use Rattle.pipe_global.specs.declared.batch_error.BatchError.TheVariants as batch_error
 use Rattle.pipe_global.specs.declared.mark.Mark.{Mark}

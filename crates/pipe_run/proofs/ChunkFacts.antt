@@ -34,7 +34,7 @@ use Rattle.pipe_groups.proofs.HoldFacts.{holds-moved}
 use Rattle.pipe_groups.proofs.KeyFacts.{held-counted}
 use Rattle.pipe_groups.proofs.FrameRows.{frame-fields}
 use Rattle.pipe_groups.proofs.PartsFacts.{part-answer, part-placed}
-use Rattle.pipe_tables.specs.Tables.{Table}
+use Rattle.pipe_keyed.specs.Tables.{Table}
 use Rattle.pipe_global.specs.Finishing.{GivesGroups, GivesOwn, GivesOwnPlaced, GivesPlaced, KeepsRest, own_rows, StandFor}
 use Rattle.pipe_global.specs.Partition.{PartitionSeen, spilled_all}
 use Rattle.pipe_run.specs.Given.{frame_of_keys, HasGiven, HasRows, IsSource, SourceSeen, StandsForPart}

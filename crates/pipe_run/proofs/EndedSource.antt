@@ -25,7 +25,7 @@ use Rattle.pipe_spill.specs.Store.{HasHeld}
 use Rattle.pipe_groups.specs.Holds.{Holds}
 use Rattle.pipe_groups.specs.Shape.{Shape, shape_of}
 use Rattle.pipe_model.specs.Output.{key_types}
-use Rattle.pipe_tables.specs.Tables.{Table}
+use Rattle.pipe_keyed.specs.Tables.{Table}
 use Rattle.pipe_global.specs.Partition.{IsReplayed, IsRunnable, no_store, PartitionSeen, spilled_all, store_of, with_frames}
 use Rattle.pipe_global.proofs.ClosedFacts.{finish-replayed, stands-replayed}
 use Rattle.pipe_run.specs.Fed.{AreWholePartitions, IsWholePartition}

@@ -23,7 +23,7 @@ use Rattle.pipe_groups.specs.Groups.{AreJoined}
 use Rattle.pipe_groups.specs.Holds.{Holds}
 use Rattle.pipe_groups.specs.Shape.{Shape, shape_of}
 use Rattle.pipe_groups.proofs.HoldFacts.{holds-joined}
-use Rattle.pipe_tables.specs.Tables.{HoldFewTogether, KeepsShape, Table}
+use Rattle.pipe_keyed.specs.Tables.{HoldFewTogether, KeepsShape, Table}
 use Rattle.pipe_global.specs.Partition.{IsRunnable, spilled_all}
 use Rattle.pipe_global.proofs.RunFacts.{length-kept}
 use Rattle.pipe_workers.specs.declared.paused.PausedWorker.{PausedWorker}

@@ -28,7 +28,8 @@ use Rattle.pipe_groups.specs.Holds.{HoldFewer, Holds}
 use Rattle.pipe_groups.specs.QueryRows.{ArePlacedRows}
 use Rattle.pipe_groups.specs.Shape.{Shape, shape_of}
 use Rattle.pipe_groups.proofs.HoldFacts.{held_at-passing, holds-joined, holds-none, holds-part}
-use Rattle.pipe_tables.specs.Tables.{HoldFewTogether, lies_in, Table}
+use Rattle.pipe_keyed.specs.Tables.{HoldFewTogether, Table}
+use Rattle.pipe_tables.specs.Tables.{lies_in}
 use Rattle.pipe_global.specs.declared.batch_error.BatchError.{BatchError}
 use Rattle.pipe_global.specs.declared.batch_error.BatchError.TheVariants as batch_error
 use Rattle.pipe_global.specs.declared.mark.Mark.{Mark}

@@ -18,7 +18,8 @@ use Rattle.pipe_aggs.specs.QueryTrees.{query_tree}
 use Rattle.pipe_groups.specs.Holds.{Holds}
 use Rattle.pipe_groups.specs.Shape.{shape_of}
 use Rattle.pipe_groups.proofs.HoldFacts.{holds-part, holds-same}
-use Rattle.pipe_tables.specs.Tables.{lies_in, Table}
+use Rattle.pipe_keyed.specs.Tables.{Table}
+use Rattle.pipe_tables.specs.Tables.{lies_in}
 use Rattle.pipe_global.specs.declared.batch_error.BatchError.{BatchError}
 use Rattle.pipe_global.specs.Finishing.{CanFinish, CanGather, IsCause, IsLeftOf, IsRestOf, KeepsRest, other_rows, own_rows, StandAsBefore, StandFor, StandMoved, StandsForRows, StandTogether}
 use Rattle.pipe_global.specs.Partition.{PartitionSeen, spilled_all}

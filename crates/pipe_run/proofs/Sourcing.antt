@@ -268,7 +268,7 @@ abbrev in_all : QueryTree → List Row → ℕ → Bool → List DataChunk
 in_all q rs n b = if b then (if is_used_up q.slice then [] else whole_chunk q rs n q.slice ∷ []) else chunks_from q rs n q.slice 0 n
 
 -- a source of which nothing was given has all chunks left
-pub all-left : (q : Query) (partitions : List PartitionSeen) (local : Rattle.pipe_tables.specs.Tables.Table) (rs : List Row)
+pub all-left : (q : Query) (partitions : List PartitionSeen) (local : Rattle.pipe_keyed.specs.Tables.Table) (rs : List Row)
     → chunks_left rs (record { asked = Rattle.pipe_run.specs.Sources.unasked q partitions local (query_tree q).slice; placed = []; is_given = false }) ≡ chunks_in_all (query_tree q) rs (length partitions)
 all-left q partitions local rs = by (query_tree q).keeps_order refl where
   no : (a : Bool) → (a || false) ≡ a

@@ -19,7 +19,7 @@ use Rattle.pipe_spill.specs.declared.spill_row.SpillRow.{SpillRow}
 use Rattle.pipe_groups.specs.Given.{slice_after}
 use Rattle.pipe_groups.specs.Holds.{Holds}
 use Rattle.pipe_groups.specs.Shape.{shape_of}
-use Rattle.pipe_tables.specs.Tables.{Table}
+use Rattle.pipe_keyed.specs.Tables.{Table}
 use Rattle.pipe_global.specs.Finishing.{CanFinish, own_rows, StandsForRows}
 use Rattle.pipe_global.specs.Partition.{PartitionSeen, spilled_all}
 use Rattle.pipe_run.specs.Ending.{AreKept}

@@ -12,7 +12,7 @@ use Rattle.pipe_model.specs.Partitions.{groups_in}
 use Rattle.pipe_model.specs.Query.{QueryTree}
 use Rattle.pipe_groups.specs.declared.placed_groups.PlacedGroups.{PlacedGroups}
 use Rattle.pipe_groups.specs.QueryRows.{ArePlacedRows}
-use Rattle.pipe_tables.specs.Tables.{Table}
+use Rattle.pipe_keyed.specs.Tables.{Table}
 use Rattle.pipe_global.specs.declared.batch_error.BatchError.{BatchError}
 use Rattle.pipe_global.specs.declared.batch_error.BatchError.TheVariants as batch_error
 use Rattle.pipe_global.specs.Partition.{PartitionSeen}

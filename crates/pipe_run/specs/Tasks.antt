@@ -3,7 +3,8 @@ use Rattle.std.specs.Prelude.{◌≡◌, ◌++◌, ◌∷◌, ℕ, filter, List,
 use Rattle.pipe_spill.specs.declared.spill_row.SpillRow.{SpillRow}
 use Rattle.pipe_groups.specs.declared.placed_groups.PlacedGroups.{PlacedGroups}
 use Rattle.pipe_groups.specs.Holds.{Holds}
-use Rattle.pipe_tables.specs.Tables.{lies_in, Table}
+use Rattle.pipe_keyed.specs.Tables.{Table}
+use Rattle.pipe_tables.specs.Tables.{lies_in}
 use Rattle.pipe_global.specs.declared.batch_error.BatchError.{BatchError}
 use Rattle.pipe_global.specs.Finishing.{GivesOwnPlaced, GivesPlaced, IsCause, KeepsRest, own_rows, StandFor}
 use Rattle.pipe_global.specs.Partition.{PartitionSeen}

@@ -6,7 +6,7 @@ ghost use Rattle.pipe_plan.specs.Whole.{all_kept};
 ghost use Rattle.pipe_groups.specs.Groups.{AreJoined};
 ghost use Rattle.pipe_groups.specs.Holds.{Holds};
 ghost use Rattle.pipe_groups.specs.Shape.{shape_of};
-ghost use Rattle.pipe_tables.specs.Tables.{HoldFewTogether, KeepsShape};
+ghost use Rattle.pipe_keyed.specs.Tables.{HoldFewTogether, KeepsShape};
 ghost use Rattle.pipe_global.specs.Partition.{IsRunnable, spilled_all};
 ghost use Rattle.pipe_run.specs.Fed.{HaveKept};
 ghost use Rattle.pipe_run.specs.Setting.{run_of};

@@ -22,10 +22,11 @@ use Rattle.pipe_spill.proofs.SpilledRows.{spilled_is_row}
 use Rattle.pipe_groups.specs.Holds.{HoldFewer, Holds}
 use Rattle.pipe_groups.specs.Shape.{Shape, shape_of}
 use Rattle.pipe_groups.proofs.HoldFacts.{holds-none}
-use Rattle.pipe_sinks.specs.ChunkTaking.{rows_to, spilled_to, TookRows}
+use Rattle.pipe_keyed.specs.TakenRows.{rows_to, spilled_to, TookRows}
+use Rattle.pipe_keyed.proofs.TookFacts.{took-more}
 use Rattle.pipe_sinks.specs.KeyRuns.{run_rows}
 use Rattle.pipe_sinks.specs.RunLayout.{HoldsChunks}
-use Rattle.pipe_sinks.specs.Tables.{Table}
+use Rattle.pipe_keyed.specs.Tables.{Table}
 
 -- the first items of a list, and those behind them
 take-both : {X : Type 0} (n m : ℕ) (xs : List X) → n ≤ length xs → take (n + m) xs ≡ take n xs ++ take m (drop n xs)
@@ -46,71 +47,13 @@ spilled_more q i frame n m rows is le =
     ∙ map-append (spilled (key_types q)) (rows_to q i frame n) (take m (drop n all))
     ∙ ap (λ (rs : List Row). spilled_to q i frame n ++ run_rows (key_types q) rs n m) (sym is)
 
-pub length-spilled_to : (q : QueryTree) (i : ℕ) (frame : FrameData) (n : ℕ) → length (spilled_to q i frame n) ≡ n
-length-spilled_to q i frame n = length-map (rows_to q i frame n) (spilled (key_types q)) ∙ length-map-range_with_len (λ m. row_of q i frame m) 0 n
-
--- the next rows are taken
-pub took-more : (q : QueryTree) (i : ℕ) (frame : FrameData) (n m : ℕ) (old now new : Table) (rows : List Row) (more : List SpillRow) → TookRows q i frame n old now → rows ≡ chunk_rows q i frame → n + m ≤ frame.height
+-- they are taken next
+pub took-run : (q : QueryTree) (i : ℕ) (frame : FrameData) (n m : ℕ) (old now new : Table) (rows : List Row) (more : List SpillRow) → TookRows q i frame n old now → rows ≡ chunk_rows q i frame → n + m ≤ frame.height
     → more ≡ run_rows (key_types q) rows n m → new.shape ≡ now.shape
     → ((taken : List SpillRow) → Holds now.shape.prototypes now.groups taken → Holds now.shape.prototypes new.groups (taken ++ more))
     → TookRows q i frame (n + m) old new
-took-more q i frame n m old now new rows more took is le are shape holds =
-    let front : List SpillRow = spilled_to q i frame n in
-    let P : Shape → Type 0 = λ s. (taken : List SpillRow) → Holds s.prototypes now.groups taken → Holds s.prototypes new.groups (taken ++ more) in
-    let step : P old.shape = subst P took.shape holds in
-    let longer : front ++ more ≡ spilled_to q i frame (n + m) = ap (λ (l : List SpillRow). front ++ l) are ∙ sym (spilled_more q i frame n m rows is le) in
-    record {
-      shape = shape ∙ took.shape;
-      holds = λ taken h.
-          subst (Holds old.shape.prototypes new.groups) (append_assoc taken front more ∙ ap (λ (l : List SpillRow). taken ++ l) longer)
-          (step (taken ++ front) (took.holds taken h));
-    }
-
--- none is taken yet
-pub took-none : (q : QueryTree) (i : ℕ) (frame : FrameData) (t : Table) → TookRows q i frame 0 t t
-took-none q i frame t = record { shape = refl; holds = λ taken h. subst (Holds t.shape.prototypes t.groups) (sym (append-nil taken)) h }
-
--- ---- each is a row of the query's types
-
-pub row-typed : (q : QueryTree) (i : ℕ) (frame : FrameData) (n : ℕ) (rs : List Row) → rs ≡ chunk_rows q i frame → All (IsRowOf q) rs
-    → i < 2 ^ 32 → frame.height < 2 ^ 32 → n < frame.height → IsRow (key_types q) (input_types q) (spilled (key_types q) (row_of q i frame n))
-row-typed q i frame n rs e all few small lt =
-    let long : n < length (chunk_rows q i frame) = omega (arith, length-map-range_with_len (λ m. row_of q i frame m) 0 frame.height, lt) in
-    let at : IsRowOf q (get_or (chunk_rows q i frame) n no_row) = subst (All (IsRowOf q)) e all n no_row long in
-    let is : IsRowOf q (row_of q i frame n) =
-    subst (IsRowOf q) (sym (unwrap_or-slice_get (chunk_rows q i frame) n no_row) ∙ row_at-chunk q i frame n lt) at in
-    spilled_is_row (key_types q) (input_types q) (row_of q i frame n) (record {
-      chunk = few;
-      row = omega (arith, lt, small);
-      key = record { of_types = is.key.fit; utf8 = is.key.utf8 };
-      inputs = record { of_types = is.inputs.fit; utf8 = is.inputs.utf8 };
-    })
-
--- and so are the first rows of the chunk
-pub rows-typed : (q : QueryTree) (i : ℕ) (frame : FrameData) (n : ℕ) (rs : List Row) → rs ≡ chunk_rows q i frame → All (IsRowOf q) rs
-    → i < 2 ^ 32 → frame.height < 2 ^ 32 → n ≤ frame.height → AreRows (key_types q) (input_types q) (spilled_to q i frame n)
-rows-typed q i frame n rs e all few small most =
-    let P : Row → Type 0 = λ r. IsRow (key_types q) (input_types q) (spilled (key_types q) r) in
-    All-map (IsRow (key_types q) (input_types q)) (spilled (key_types q)) (rows_to q i frame n)
-    (All-map P (row_of q i frame) (range_with_len 0 n)
-    (λ k d l.
-    let lt : k < n = omega (arith, l, length-range_with_len 0 n) in
-    subst (λ (m : ℕ). P (row_of q i frame m)) (sym (get_or-range_with_len 0 n k d lt ∙ omega arith))
-    (row-typed q i frame k rs e all few small (omega (arith, lt, most)))))
-
--- there is room for the next ones
-pub room-for : (q : QueryTree) (i : ℕ) (frame : FrameData) (n m : ℕ) (old now : Table) → TookRows q i frame n old now → old.shape ≡ shape_of q
-    → HoldFewer old.shape old.groups frame.height → AreRows (key_types q) (input_types q) (spilled_to q i frame n) → n + m ≤ frame.height
-    → HoldFewer now.shape now.groups m
-room-for q i frame n m old now took is h typed le =
-    let own : AreRows old.shape.key_types old.shape.input_types (spilled_to q i frame n) =
-    subst (λ (s : Shape). AreRows s.key_types s.input_types (spilled_to q i frame n)) (sym is) typed in
-    subst (λ (s : Shape). HoldFewer s now.groups m) (sym took.shape) (record {
-      rows = h.rows ++ spilled_to q i frame n;
-      holds = took.holds h.rows h.holds;
-      typed = All-append (IsRow old.shape.key_types old.shape.input_types) h.rows (spilled_to q i frame n) h.typed own;
-      few = omega (arith, h.few, length-append h.rows (spilled_to q i frame n), length-spilled_to q i frame n, le);
-    })
+took-run q i frame n m old now new rows more took is le are shape holds =
+    took-more q i frame n m old now new more took (spilled_more q i frame n m rows is le ∙ ap (λ (l : List SpillRow). spilled_to q i frame n ++ l) (sym are)) shape holds
 
 -- a table of no groups has room for as many rows as have places
 pub room-none : (s : Shape) (t : Table) (more : ℕ) → t.groups ≡ [] → more < 2 ^ 32 → HoldFewer s t.groups more

@@ -23,12 +23,13 @@ use Rattle.pipe_spill.specs.KeyTypes.{AreOfTypes}
 use Rattle.pipe_spill.specs.SpillRow.{AreRows, IsRow, spilled}
 use Rattle.pipe_groups.specs.Holds.{HoldFewer}
 use Rattle.pipe_groups.specs.Shape.{Shape, shape_of}
-use Rattle.pipe_sinks.specs.ChunkTaking.{AreKeysOf, spilled_to, TakesRows, TookRows}
+use Rattle.pipe_keyed.specs.TakenRows.{spilled_to, TookRows}
+use Rattle.pipe_sinks.specs.ChunkTaking.{AreKeysOf, TakesRows}
 use Rattle.pipe_sinks.specs.KeyRuns.{IsRun, run_rows}
 use Rattle.pipe_sinks.specs.Marks.{IsSole}
 use Rattle.pipe_sinks.specs.Runs.{IsKeyColumn}
-use Rattle.pipe_sinks.specs.Tables.{Table}
-use Rattle.pipe_sinks.proofs.ChunkFacts.{room-for, row-typed, rows-typed}
+use Rattle.pipe_keyed.specs.Tables.{Table}
+use Rattle.pipe_keyed.proofs.TookFacts.{room-for, row-typed, rows-typed}
 use Rattle.pipe_sinks.proofs.KeyRunFacts.{run-at}
 use Rattle.pipe_sinks.proofs.SoleFacts.{sole-key}
 

@@ -7,9 +7,10 @@ use Rattle.pipe_inputs.specs.ChunkRows.{row_at}
 use Rattle.pipe_groups.specs.Shape.{Shape}
 use Rattle.pipe_sinks.specs.declared.key_runs.KeyRun.{KeyRun}
 use Rattle.pipe_sinks.specs.KeyCuts.{AreCut}
-use Rattle.pipe_sinks.specs.Keyed.{IsAt}
+use Rattle.pipe_keyed.specs.Keyed.{IsAt}
 use Rattle.pipe_sinks.specs.KeyRuns.{IsRun}
-use Rattle.pipe_sinks.specs.Tables.{KeysStay, Table}
+use Rattle.pipe_keyed.specs.Tables.{Table}
+use Rattle.pipe_sinks.specs.Alike.{KeysStay}
 
 -- what stands for a run past the last
 abbrev pub no_run : KeyRun

@@ -40,7 +40,7 @@ use Rattle.pipe_groups.proofs.FrameRows.{answer_row-length, frame-fields}
 use Rattle.pipe_sinks.specs.PartPlaces.{part_places}
 use Rattle.pipe_sinks.specs.RunLayout.{AreTaken, GaveChunks, HoldsChunks, keys_in_order, spilled_rows}
 use Rattle.pipe_sinks.specs.Runs.{placed_rows}
-use Rattle.pipe_sinks.specs.Tables.{IsTable, Table}
+use Rattle.pipe_keyed.specs.Tables.{IsTable, Table}
 use Rattle.pipe_sinks.proofs.PartPlaceFacts.{rows-by_part}
 
 -- the rows of chunks are of the query's types

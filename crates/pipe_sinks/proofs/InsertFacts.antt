@@ -28,13 +28,14 @@ use Rattle.pipe_groups.proofs.RunFacts.{least-some, length-inputs}
 use Rattle.pipe_groups.proofs.ShapeFacts.{shape-takes}
 use Rattle.pipe_columns.specs.Frame.{FrameData}
 use Rattle.pipe_model.specs.Query.{QueryTree}
-use Rattle.pipe_sinks.specs.ChunkTaking.{spilled_to, TookRows}
-use Rattle.pipe_sinks.specs.Keyed.{IsAt}
-use Rattle.pipe_sinks.specs.Tables.{HasGroups, HoldAlike, IsTable, KeysStay, put_row, Table}
+use Rattle.pipe_keyed.specs.TakenRows.{spilled_to, TookRows}
+use Rattle.pipe_keyed.specs.Keyed.{IsAt}
+use Rattle.pipe_keyed.specs.Tables.{HasGroups, IsTable, put_row, Table}
+use Rattle.pipe_sinks.specs.Alike.{HoldAlike, KeysStay}
 use Rattle.pipe_sinks.specs.KeyRuns.{IsRun, run_rows}
-use Rattle.pipe_sinks.proofs.KeyFacts.{keys-set}
+use Rattle.pipe_keyed.proofs.KeyFacts.{keys-set}
 use Rattle.pipe_sinks.proofs.KeyRunFacts.{fresh-set, group-kinds, length-many, run-entries, run-keys, typed-inputs}
-use Rattle.pipe_sinks.proofs.TableFacts.{fresh-covered, table-put}
+use Rattle.pipe_keyed.proofs.TableFacts.{table-covered, table-put}
 
 -- a table, and one with room for a key
 pub record Covered (t u : Table) (k : List ℕ) (i : ℕ) : Type 0 where
@@ -48,12 +49,7 @@ module _ (t u : Table) (k : List ℕ) (i : ℕ) (h : Covered t u k i) where
 
   -- it is a table too
   pub covered-table : IsTable u
-  covered-table = record {
-    shape = rw h.is.1 h.table.shape;
-    apart = rw h.is.0 (apart-cover t.shape.prototypes k t.groups h.table.apart);
-    fresh = rw (h.is.0, h.is.1) (fresh-covered t.shape.prototypes k t.groups h.table.fresh);
-    rows = covered-few 0 h.table.rows;
-  }
+  covered-table = table-covered t u k h.table h.is
 
   -- which holds the same rows
   pub covered-holds : (rows : List SpillRow) → Holds t.shape.prototypes t.groups rows → Holds u.shape.prototypes u.groups rows
@@ -78,7 +74,7 @@ module _ (t u : Table) (k : List ℕ) (i : ℕ) (h : Covered t u k i) where
 
       -- a table is left, which holds the row too
       pub one-table : IsTable new
-      one-table = table-put u new r covered-table (covered-few 1 few) one (put-there, fed.1)
+      one-table = table-put u new r covered-table (covered-few 1 few) one (put-there, fed.1, fed.2)
 
       pub one-holds : (rows : List SpillRow) → Holds t.shape.prototypes t.groups rows → Holds t.shape.prototypes new.groups (rows ++ r ∷ [])
       one-holds rows holds =
@@ -199,7 +195,7 @@ alike-then t u v a b = record {
 
 -- a table in which a key has a group is covered by itself
 pub covered-self : (t : Table) (k : List ℕ) (i : ℕ) → IsTable t → IsAt t.groups k i → Covered t t k i
-covered-self t k i table at = record { table = table; is = (sym (cover-there k t.shape.prototypes t.groups (is_covered-at k t.groups i at.0 at.1)), refl); at = at }
+covered-self t k i table at = record { table = table; is = (sym (cover-there k t.shape.prototypes t.groups (is_covered-at k t.groups i at.0 at.1)), refl, refl); at = at }
 
 pub alike-few : (t u : Table) (n : ℕ) → HoldAlike t u → HoldFewer t.shape t.groups n → HoldFewer u.shape u.groups n
 alike-few t u n alike h = subst (λ s. HoldFewer s u.groups n) (sym alike.shape) (record { rows = h.rows; holds = alike.holds h.rows h.holds; typed = h.typed; few = h.few })

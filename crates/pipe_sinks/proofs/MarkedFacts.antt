@@ -17,9 +17,7 @@ use Rattle.pipe_columns.specs.declared.data_type.DataType.TheVariants as dt
 use Rattle.pipe_columns.specs.AnyValue.{fits, fits_number, is_signed, is_unsigned}
 use Rattle.pipe_columns.specs.Key.{text_code, value_code}
 use Rattle.pipe_spill.proofs.Escapes.{plain}
-use Rattle.pipe_sinks.specs.Marks.{begins, code_sought, is_narrow, is_wide, IsMarkedKey, IsSole, IsSoleValue, IsSought, mark_of, number_mark, sole_code}
-use Rattle.pipe_sinks.specs.declared.sought.Sought.{Sought}
-use Rattle.pipe_sinks.specs.declared.sought.Sought.TheVariants as sought
+use Rattle.pipe_sinks.specs.Marks.{begins, is_narrow, is_wide, IsSole, IsSoleValue, mark_of, number_mark, sole_code}
 
 -- ---- numbers
 
@@ -157,11 +155,6 @@ module _ (types : List DataType) (sole : IsSole types) where
   -- that of a text
   pub text-code : (s bytes : List ℕ) → bytes_eq bytes (1 ∷ text_code s) ≡ bytes_eq bytes (sole_code types (av.Text s))
   text-code s bytes = rw sole.is (ap (bytes_eq bytes) (sym (append-nil (1 ∷ text_code s))))
-
--- what is looked for is a code with its mark
-pub sought-marked : (types : List DataType) (s : Sought) (mark : ℕ) → IsSought types s mark → IsMarkedKey types (code_sought types s) mark
-sought-marked types (sought.Value v) mark h = record { value = v.now; fit = h.0; key_is = refl; mark_is = h.1 }
-sought-marked types (sought.Code bytes) mark h = h
 
 -- ---- texts
 

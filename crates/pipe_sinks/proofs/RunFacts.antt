@@ -17,10 +17,12 @@ use Rattle.pipe_groups.specs.Groups.{AreJoined}
 use Rattle.pipe_groups.specs.Holds.{HoldFewer, Holds}
 use Rattle.pipe_groups.specs.Shape.{Shape, shape_of}
 use Rattle.pipe_groups.proofs.HoldFacts.{holds-joined, holds-none}
-use Rattle.pipe_sinks.specs.ChunkTaking.{spilled_to, TookChunk}
+use Rattle.pipe_keyed.specs.TakenRows.{spilled_to}
+use Rattle.pipe_sinks.specs.ChunkTaking.{TookChunk}
 use Rattle.pipe_sinks.specs.Marks.{IsSole}
 use Rattle.pipe_sinks.specs.RunLayout.{AreKept, AreTaken, HasTaken, HoldsChunks, spilled_rows}
-use Rattle.pipe_sinks.specs.Tables.{HoldAlike, HoldFewTogether, Table}
+use Rattle.pipe_keyed.specs.Tables.{HasGroups, HoldFewTogether, Table}
+use Rattle.pipe_sinks.specs.Alike.{HoldAlike}
 use Rattle.pipe_sinks.proofs.PlacedFacts.{distinct-both, length-spilled, single-distinct, spilled-append}
 
 -- ---- nothing taken
@@ -151,9 +153,9 @@ kept-again q taken t (Some p) e h = absurd (cc)
 
 module _ (q : QueryTree) (n : ℕ) (xs : List DataChunk) (t : Table) (given : Option PlacedGroups) (h : HasTaken q n xs t given) where
   -- a sink whose table has the same groups has taken the same
-  pub run-same : (u : Table) (chunks : List DataChunk) → u.groups ≡ t.groups → u.shape ≡ t.shape → chunks ≡ xs → HasTaken q n chunks u given
-  run-same u chunks groups shape same =
-      let e : t ≡ u = λ i. record { shape = sym shape i; groups = sym groups i } in
+  pub run-same : (u : Table) (chunks : List DataChunk) → HasGroups t u t.groups → chunks ≡ xs → HasTaken q n chunks u given
+  run-same u chunks is same =
+      let e : t ≡ u = λ i. record { shape = sym is.1 i; limit = sym is.2 i; groups = sym is.0 i } in
       subst (λ (l : List DataChunk). HasTaken q n l u given) (sym same) (subst (λ (x : Table). HasTaken q n xs x given) e h)
 
   -- a sink that gave everything out has taken nothing

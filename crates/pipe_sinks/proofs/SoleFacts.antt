@@ -8,7 +8,7 @@ use Rattle.pipe_columns.specs.Key.{code}
 use Rattle.pipe_running.specs.declared.function.AggregateFunction.{AggregateFunction}
 use Rattle.pipe_spill.specs.KeyTypes.{AreOfTypes}
 use Rattle.pipe_groups.specs.Groups.{Group, new_group, no_group}
-use Rattle.pipe_sinks.specs.Keyed.{IsAt}
+use Rattle.pipe_keyed.specs.Keyed.{IsAt}
 use Rattle.pipe_sinks.specs.Marks.{IsMarkedKey, IsSole, IsSoleValue, mark_of, sole_code}
 
 -- a key of one value is its first value
@@ -30,7 +30,7 @@ module _ (types : List DataType) (k : List AnyValue) (v : AnyValue) (is : v ≡ 
 
   -- and it may be looked for by its mark
   pub sole-marked : (mark : ℕ) (key : List ℕ) → mark ≡ mark_of v → key ≡ code types k → IsMarkedKey types key mark
-  sole-marked mark key m e = record { value = v; fit = sole-fit; key_is = e ∙ sym sole-is; mark_is = m }
+  sole-marked mark key m e = record { sole = sole; value = v; fit = sole-fit; key_is = e ∙ sym sole-is; mark_is = m }
 
 -- a new group is the last one
 pub new-at : (ps : List AggregateFunction) (gs : List Group) (k : List ℕ) (now : List Group) (i : ℕ) → now ≡ gs ++ new_group ps k ∷ [] → i ≡ length gs → IsAt now k i

@@ -5,7 +5,7 @@ use Rattle.pipe_columns.specs.Frame.{HoldsTypes}
 use Rattle.pipe_groups.specs.Groups.{AreJoined}
 use Rattle.pipe_model.specs.Query.{QueryTree}
 use Rattle.pipe_sinks.specs.RunLayout.{HoldsChunks}
-use Rattle.pipe_sinks.specs.Tables.{HoldFewTogether, Table}
+use Rattle.pipe_keyed.specs.Tables.{HoldFewTogether, Table}
 
 -- a table may take over another that holds the rows of a chunk
 abbrev pub MayTakeOver : QueryTree → DataChunk → Table → Type 0

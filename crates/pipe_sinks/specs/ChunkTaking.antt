@@ -19,21 +19,8 @@ use Rattle.pipe_spill.specs.declared.spill_row.SpillRow.{SpillRow}
 use Rattle.pipe_groups.specs.Holds.{HoldFewer, Holds}
 use Rattle.pipe_groups.specs.Shape.{shape_of}
 use Rattle.pipe_sinks.specs.Marks.{IsSole}
-use Rattle.pipe_sinks.specs.Tables.{Table}
-
--- the first rows of a chunk
-abbrev pub rows_to : QueryTree → ℕ → FrameData → ℕ → List Row
-rows_to q i frame n = map (λ m. row_of q i frame m) (range_with_len 0 n)
-
--- what is spilled of them
-abbrev pub spilled_to : QueryTree → ℕ → FrameData → ℕ → List SpillRow
-spilled_to q i frame n = map (spilled (key_types q)) (rows_to q i frame n)
-
--- a table that took the first rows of a chunk
-pub record TookRows (q : QueryTree) (i : ℕ) (frame : FrameData) (n : ℕ) (old now : Table) : Type 0 where
-  pub shape : now.shape ≡ old.shape
-  pub holds : (taken : List SpillRow) → Holds old.shape.prototypes old.groups taken
-      → Holds old.shape.prototypes now.groups (taken ++ spilled_to q i frame n)
+use Rattle.pipe_keyed.specs.Tables.{Table}
+use Rattle.pipe_keyed.specs.TakenRows.{spilled_to, TookRows}
 
 -- values are the first ones of the keys of rows
 abbrev pub AreKeysOf : List Row → List AnyValue → Type 0

@@ -4,9 +4,9 @@ use Rattle.pipe_columns.specs.Key.{code}
 use Rattle.pipe_columns.specs.Row.{Row}
 use Rattle.pipe_inputs.specs.ChunkRows.{row_at}
 use Rattle.pipe_sinks.specs.declared.key_runs.KeyRun.{KeyRun}
-use Rattle.pipe_sinks.specs.Keyed.{IsAt}
+use Rattle.pipe_keyed.specs.Keyed.{IsAt}
 use Rattle.pipe_sinks.specs.KeyRuns.{IsRun}
-use Rattle.pipe_sinks.specs.Tables.{Table}
+use Rattle.pipe_keyed.specs.Tables.{Table}
 
 -- runs are the rows from one on up to another, and each has the group of its key in a table
 abbrev pub AreCut : Table → List Row → ℕ → List KeyRun → ℕ → Type 0

@@ -1,15 +1,13 @@
+pub mod Alike
 pub mod Apart
 pub mod ChunkTaking
 pub mod KeyCuts
 pub mod KeyRuns
-pub mod Keyed
-pub mod KeyedLayout
+pub mod MarkLaws
 pub mod Marks
-pub mod Merges
 pub mod PartPlaces
 pub mod RunLayout
 pub mod Runs
 pub mod SinkNames
 pub mod Slices
 pub mod TableLayout
-pub mod Tables

@@ -1,15 +1,12 @@
 -- Of the proofs alone: keys of one value, and the marks that they are found by.
-use Rattle.std.specs.Prelude.{◌≡◌, ◌-◌, ◌^◌, ◌==◌, ℕ, ℤ, pos, negsuc, nat_lt, Bool, true, false, if◌then◌else◌, List, [], ◌∷◌, map, All}
+use Rattle.std.specs.Prelude.{◌≡◌, ◌-◌, ◌^◌, ◌==◌, ℕ, ℤ, pos, negsuc, nat_lt, Bool, true, false, if◌then◌else◌, List, [], ◌∷◌}
 use Rattle.pipe_chains.specs.Hash.{hash_of}
 use Rattle.pipe_columns.specs.declared.any_value.AnyValue.{AnyValue}
 use Rattle.pipe_columns.specs.declared.any_value.AnyValue.TheVariants as av
 use Rattle.pipe_columns.specs.declared.data_type.DataType.{DataType}
 use Rattle.pipe_columns.specs.declared.data_type.DataType.TheVariants as dt
 use Rattle.pipe_columns.specs.Key.{code}
-use Rattle.pipe_groups.specs.Groups.{Group, keys_of}
 use Rattle.pipe_spill.specs.KeyTypes.{AreOfTypes}
-use Rattle.pipe_sinks.specs.declared.sought.Sought.{Sought}
-use Rattle.pipe_sinks.specs.declared.sought.Sought.TheVariants as sought
 
 -- whether a type has numbers of more than 64 bits
 abbrev pub is_wide : DataType → Bool
@@ -47,29 +44,19 @@ sole_code types v = code types (v ∷ [])
 abbrev pub IsSoleValue : List DataType → AnyValue → Type 0
 IsSoleValue types v = AreOfTypes types (v ∷ [])
 
--- the code of a value, and its mark
+-- the code of a value that may be the one key, and its mark
 pub record IsMarkedKey (types : List DataType) (key : List ℕ) (mark : ℕ) : Type 0 where
+  pub sole : IsSole types
   pub value : AnyValue
   pub fit : IsSoleValue types value
   pub key_is : key ≡ sole_code types value
   pub mark_is : mark ≡ mark_of value
 
--- each group has the code of a value as its key, and the mark of that value
-pub record AreMarked (types : List DataType) (gs : List Group) (marks : List ℕ) : Type 0 where
-  pub values : List AnyValue
-  pub fit : All (IsSoleValue types) values
-  pub keys : keys_of gs ≡ map (sole_code types) values
-  pub marked : marks ≡ map mark_of values
-
--- the code that is looked for
-abbrev pub code_sought : List DataType → Sought → List ℕ
-code_sought types (sought.Value v) = sole_code types v.now
-code_sought types (sought.Code bytes) = bytes.now
-
--- a value or a code that is looked for, and its mark
-abbrev pub IsSought : List DataType → Sought → ℕ → Type 0
-IsSought types (sought.Value v) mark = IsSoleValue types v.now × (mark ≡ mark_of v.now)
-IsSought types (sought.Code bytes) mark = IsMarkedKey types bytes.now mark
+-- a value that may be the one key is looked for by its mark
+pub record IsSought (types : List DataType) (value : AnyValue) (mark : ℕ) : Type 0 where
+  pub sole : IsSole types
+  pub fit : IsSoleValue types value
+  pub mark_is : mark ≡ mark_of value
 
 -- whether bytes begin with one
 abbrev pub begins : ℕ → List ℕ → Bool

@@ -18,7 +18,7 @@ use Rattle.pipe_groups.specs.QueryRows.{ArePlacedRows}
 use Rattle.pipe_groups.specs.Shape.{shape_of}
 use Rattle.pipe_sinks.specs.Marks.{IsSole}
 use Rattle.pipe_sinks.specs.Runs.{placed_rows}
-use Rattle.pipe_sinks.specs.Tables.{Table}
+use Rattle.pipe_keyed.specs.Tables.{Table}
 
 -- chunks of a query's columns, whose rows have places of their own and number fewer than 2^32
 pub record AreTaken (q : QueryTree) (taken : List DataChunk) : Type 0 where

@@ -8,7 +8,7 @@ ghost use Rattle.pipe_model.specs.Output.{key_types};
 ghost use Rattle.pipe_sinks.specs.Apart.{MayTakeOver, TookOver};
 ghost use Rattle.pipe_sinks.specs.Marks.{IsSole};
 ghost use Rattle.pipe_sinks.specs.RunLayout.{HoldsChunks};
-ghost use Rattle.pipe_sinks.specs.Tables.{HasGroups};
+ghost use Rattle.pipe_keyed.specs.Tables.{HasGroups};
 
 use crate::key_table::KeyTable;
 use pipe_aggs::CheckedQuery;

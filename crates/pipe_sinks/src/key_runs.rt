@@ -7,10 +7,11 @@ ghost use Rattle.pipe_groups.specs.GroupRuns.{keep_no_text};
 ghost use Rattle.pipe_groups.specs.Holds.{HoldFewer};
 ghost use Rattle.pipe_groups.specs.Shape.{shape_of};
 ghost use Rattle.pipe_model.specs.Output.{key_types};
-ghost use Rattle.pipe_sinks.specs.ChunkTaking.{AreGivenKeys, AreKeysOf, TakesRows, TookChunk, TookRows};
+ghost use Rattle.pipe_keyed.specs.TakenRows.{TookRows};
+ghost use Rattle.pipe_sinks.specs.ChunkTaking.{AreGivenKeys, AreKeysOf, TakesRows, TookChunk};
 ghost use Rattle.pipe_sinks.specs.KeyCuts.{AreCut};
 ghost use Rattle.pipe_sinks.specs.Marks.{IsSole};
-ghost use Rattle.pipe_sinks.specs.Tables.{HoldAlike};
+ghost use Rattle.pipe_sinks.specs.Alike.{HoldAlike};
 
 use crate::key_table::KeyTable;
 use pipe_aggs::CheckedQuery;

@@ -1,6 +1,6 @@
 //! A table of groups by key.
 
-ghost use Rattle.std.specs.Prelude.{◌≡◌, ◌<◌, ◌^◌, ◌∷◌, ◌++◌, [], IfOk, List, length, map, OnErr, OnOk, Some, true};
+ghost use Rattle.std.specs.Prelude.{◌≡◌, ◌<◌, ◌^◌, ◌∷◌, ◌++◌, [], IfOk, List, length, OnErr, OnOk, true};
 ghost use Rattle.pipe_columns.specs.Key.{code};
 ghost use Rattle.pipe_columns.specs.Slice.{sliced};
 ghost use Rattle.pipe_aggs.specs.QueryTrees.{query_tree};
@@ -9,34 +9,35 @@ ghost use Rattle.pipe_spill.specs.KeyTypes.{AreOfTypes};
 ghost use Rattle.pipe_spill.specs.SpillRow.{IsRow, spilled};
 ghost use Rattle.pipe_spill.specs.declared.spill_row.SpillRow.{SpillRow};
 ghost use Rattle.pipe_groups.specs.Given.{in_order, IsFrameOfGroups, slice_after};
-ghost use Rattle.pipe_groups.specs.Groups.{AreJoined, count_held};
 ghost use Rattle.pipe_groups.specs.GroupRuns.{keep_no_text};
 ghost use Rattle.pipe_groups.specs.Holds.{HoldFewer, Holds};
+ghost use Rattle.pipe_groups.specs.QueryRows.{ArePlaced};
 ghost use Rattle.pipe_groups.specs.Shape.{shape_of};
-ghost use Rattle.pipe_model.specs.Output.{key_types};
 ghost use Rattle.pipe_sinks.specs.Marks.{IsSole};
-ghost use Rattle.pipe_sinks.specs.Keyed.{IsAt};
+ghost use Rattle.pipe_keyed.specs.Keyed.{IsAt};
 ghost use Rattle.pipe_sinks.specs.KeyRuns.{IsRun, run_rows};
-ghost use Rattle.pipe_sinks.specs.Tables.{HasGroups, HoldAlike, HoldFewTogether, IsTable, KeysStay, TakesOne};
+ghost use Rattle.pipe_keyed.specs.Tables.{HasGroups, HoldFewTogether, IsTable, TakesOne};
+ghost use Rattle.pipe_sinks.specs.Alike.{HoldAlike, KeysStay, TookTable};
 
-use crate::keyed_groups::KeyedGroups;
-use crate::merge::take_all;
+use crate::by_value::ByValue;
+use crate::cover_lent::cover_lent;
 use pipe_aggs::CheckedQuery;
 use pipe_columns::{DataFrame, DataType};
 use pipe_groups::PlacedGroups;
 use pipe_inputs::ChunkRows;
+use pipe_keyed::{KeyedGroups, take_all};
 use std::alloc::{AllocError, Global};
 use std::marker::Model;
 
 /// Groups by key. Contracts see the groups in the order in which their keys came.
 #[derive(Drop)]
 pub(crate) struct KeyTable {
-    keyed: KeyedGroups,
+    keyed: KeyedGroups<ByValue>,
 }
 
 impl Model for KeyTable {
     ghost use Rattle.pipe_sinks.specs.TableLayout.{IsKept, table_in};
-    ghost use Rattle.pipe_sinks.specs.Tables.{Table};
+    ghost use Rattle.pipe_keyed.specs.Tables.{Table};
 
     ghost Value = { Table };
 
@@ -48,7 +49,6 @@ impl Model for KeyTable {
 impl KeyTable {
     /// A table of no rows for a query.
     pub(crate) fn new(alloc: Global, query: &CheckedQuery<'_>) -> Result<KeyTable, AllocError>
-        requires { IsSole (key_types (query_tree query.now)) }
         ensures shape { IfOk result (λ t. t.shape ≡ shape_of (query_tree query.now)) }
         ensures groups { IfOk result (λ t. t.groups ≡ []) }
     {
@@ -69,7 +69,7 @@ impl KeyTable {
     pub(crate) fn keep_no_text(&self) -> bool
         ensures { result ≡ keep_no_text self.now.shape.prototypes self.now.shape.input_types }
     {
-        self.keyed.keep_no_text()
+        self.keyed.groups().keep_no_text()
     }
 
     /// Takes row `row` of a chunk in, which is lent. The code of its key is made for a new key alone, in
@@ -95,7 +95,7 @@ impl KeyTable {
             → Holds self.old.shape.prototypes self.new.groups
             (taken ++ spilled self.old.shape.key_types (row_at rows.now row) ∷ [])) }
     {
-        let index = self.keyed.cover_lent(key, types, rows, row)?;
+        let index = cover_lent(&mut self.keyed, key, types, rows, row)?;
         self.keyed.feed_lent(index, rows, row)?;
         Ok(())
     }
@@ -117,7 +117,7 @@ impl KeyTable {
         ensures at { IfOk result (λ i. IsAt self.new.groups
             (code self.old.shape.key_types (row_at rows.now row).key) i) }
     {
-        let index = self.keyed.cover_lent(key, types, rows, row)?;
+        let index = cover_lent(&mut self.keyed, key, types, rows, row)?;
         Ok(index)
     }
 
@@ -143,15 +143,14 @@ impl KeyTable {
     pub(crate) fn combine(&mut self, other: &mut KeyTable) -> Result<(), AllocError>
         requires shape { other.old.shape ≡ self.old.shape }
         requires few { HoldFewTogether self.old other.old }
-        ensures joined { OnOk result (AreJoined self.old.shape.prototypes
-            self.old.groups other.old.groups self.new.groups) }
-        ensures shape { self.new.shape ≡ self.old.shape }
+        ensures took { OnOk result (TookTable self.old other.old self.new) }
         ensures emptied { OnOk result (HasGroups other.old other.new []) }
         ensures err { OnErr result (HasGroups self.old self.new self.old.groups) }
         ensures other_err { OnErr result (HasGroups other.old other.new other.old.groups) }
     {
-        self.keyed
-            .make_room(other.keyed.held(), other.keyed.key_bytes())?;
+        let groups = other.keyed.held();
+        let key_bytes = other.keyed.key_bytes();
+        self.keyed.make_room(groups, key_bytes)?;
         take_all(&mut self.keyed, &mut other.keyed);
         other.keyed.clear();
         Ok(())
@@ -176,10 +175,8 @@ impl KeyTable {
     /// Gives all groups in the order of their keys, each with the least place of its rows. None is
     /// left. Where memory is wanting, all stays as it was.
     pub(crate) fn finalize_placed(&mut self) -> Result<PlacedGroups, AllocError>
-        ensures frame { IfOk result (λ p.
-            IsFrameOfGroups self.old.shape (in_order self.old.groups) p.frame) }
-        ensures firsts { IfOk result (λ p.
-            map Some p.firsts ≡ map (λ g. g.first) (in_order self.old.groups)) }
+        ensures placed { IfOk result (λ p.
+            ArePlaced self.old.shape self.old.groups p.frame p.firsts) }
         ensures emptied { OnOk result (HasGroups self.old self.new []) }
         ensures err { OnErr result (HasGroups self.old self.new self.old.groups) }
         ensures table { IsTable self.old }

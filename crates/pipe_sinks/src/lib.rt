@@ -4,22 +4,19 @@
 mod add_chunk;
 mod by_partition;
 mod by_row;
+mod by_value;
+mod cover_lent;
 mod key_runs;
 mod key_sink;
 mod key_table;
-mod keyed_feed;
-mod keyed_finish;
-mod keyed_groups;
 mod laws;
-mod merge;
 mod paused;
 mod run_finish;
 mod run_sink;
 mod sink_run;
 mod slices;
 mod sole_key;
-mod sought;
-mod take;
+mod sole_mark;
 mod worked;
 
 pub use key_sink::KeySink;

@@ -35,7 +35,7 @@ use Rattle.pipe_groups.proofs.ShapeFacts.{shape-takes}
 use Rattle.pipe_tables.specs.After.{IsAfter, is_kept_of, kept_of, left_of, piece_for, pieces_for, spilled_to, waiting_of, with_all}
 use Rattle.pipe_tables.specs.Buffers.{buffer_of, buffered, fills, leaving, no_rows, rows_with}
 use Rattle.pipe_tables.specs.LocalTable.{holding, let_go, Local, overflowing, with_row}
-use Rattle.pipe_tables.specs.Tables.{put_row, TakesOne}
+use Rattle.pipe_keyed.specs.Tables.{put_row, TakesOne}
 use Rattle.pipe_tables.proofs.CountFacts.{count-put, gain}
 use Rattle.pipe_tables.proofs.HeldKeys.{held-kept, keeps-stays}
 use Rattle.pipe_tables.proofs.KeptRows.{kept-first, kept_of-more, one_if, sent-more, spilled_to-more, stays}

@@ -9,7 +9,8 @@ use Rattle.pipe_running.specs.declared.function.AggregateFunction.{AggregateFunc
 use Rattle.pipe_spill.specs.declared.spill_row.SpillRow.{SpillRow}
 use Rattle.pipe_groups.specs.Groups.{count_held, Group, has_rows, held_at, held_groups, is_held, put, with_row}
 use Rattle.pipe_tables.specs.LocalTable.{HoldsToLimit, IsToLimit}
-use Rattle.pipe_tables.specs.Tables.{HasGroups, is_full, passes, put_row, Table}
+use Rattle.pipe_keyed.specs.Tables.{HasGroups, put_row, Table}
+use Rattle.pipe_tables.specs.Tables.{is_full, passes}
 
 -- what a group counts
 abbrev pub one_if : Bool → ℕ

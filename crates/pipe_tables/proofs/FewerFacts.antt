@@ -11,7 +11,7 @@ use Rattle.pipe_groups.specs.Shape.{Shape}
 use Rattle.pipe_groups.proofs.HoldFacts.{holds-none}
 use Rattle.pipe_tables.specs.declared.insert_end.LentEnd.{LentEnd}
 use Rattle.pipe_tables.specs.declared.insert_end.LentEnd.TheVariants as end
-use Rattle.pipe_tables.specs.Tables.{HasGroups, Table}
+use Rattle.pipe_keyed.specs.Tables.{HasGroups, Table}
 
 pub fewer : (s : Shape) (gs : List Group) (more less : ℕ) → less ≤ more → HoldFewer s gs more → HoldFewer s gs less
 fewer s gs more less le h = record { rows = h.rows; holds = h.holds; typed = h.typed; few = omega (arith, h.few, le) }

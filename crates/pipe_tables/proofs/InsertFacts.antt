@@ -12,11 +12,11 @@ use Rattle.pipe_groups.proofs.FeedFacts.{counted-pushed, few-counted, few-feed, 
 use Rattle.pipe_groups.proofs.HoldFacts.{holds-row}
 use Rattle.pipe_groups.proofs.PutFacts.{put-at, put-new, put-pushed}
 use Rattle.pipe_groups.proofs.ShapeFacts.{shape-takes}
-use Rattle.pipe_tables.specs.Keyed.{IsAt}
+use Rattle.pipe_keyed.specs.Keyed.{IsAt}
 use Rattle.pipe_tables.specs.declared.hash_table.AggHashTable.TheInside.{Inside}
 use Rattle.pipe_tables.specs.TableLayout.{IsKept, table_in}
-use Rattle.pipe_tables.specs.Tables.{HasGroups, IsTable, put_row, Table, TakesOne}
-use Rattle.pipe_tables.proofs.TableFacts.{table-put}
+use Rattle.pipe_keyed.specs.Tables.{HasGroups, IsTable, put_row, Table, TakesOne}
+use Rattle.pipe_keyed.proofs.TableFacts.{table-put}
 
 -- what a feed of a group needs
 abbrev pub MayFeed : List Group → ℕ → SpillRow → Type 0

@@ -5,11 +5,11 @@ use Rattle.pipe_columns.specs.Key.{fold_bytes}
 use Rattle.pipe_chains.specs.Chains.{last_of}
 use Rattle.pipe_chains.proofs.Walks.{left-falls, left_of, OnChain, Walking, walking-end, walking-mark, walking-next, walking-start, walking-within}
 use Rattle.pipe_groups.specs.Groups.{AreJoined, Covers, Group, group_of, has_rows, HasGroups, held_at, keys_of, new_group, no_group, Seen}
-use Rattle.pipe_tables.specs.Merges.{IsTakenInto, MayMerge, MayTake}
+use Rattle.pipe_keyed.specs.Merges.{IsTakenInto, MayMerge, MayTake}
 use Rattle.pipe_tables.specs.Parts.{marks_in}
 use Rattle.pipe_tables.specs.Tables.{groups_in, lies_in}
-use Rattle.pipe_tables.proofs.AllFacts.{rowless-set}
-use Rattle.pipe_tables.proofs.MergeFacts.{HasRoom, may-take, merged-joined, merged-rest, Merging, merging-next, merging-start, room-next, room-one}
+use Rattle.pipe_keyed.proofs.AllFacts.{rowless-set}
+use Rattle.pipe_keyed.proofs.MergeFacts.{HasRoom, may-take, merged-joined, merged-rest, Merging, merging-next, merging-start, room-next, room-one}
 
 -- a group holds no row
 abbrev pub IsEmptied : List Group → ℕ → Type 0

@@ -8,8 +8,9 @@ use Rattle.pipe_spill.specs.SpillRow.{IsRow}
 use Rattle.pipe_spill.specs.declared.spill_row.SpillRow.{SpillRow}
 use Rattle.pipe_groups.specs.Groups.{AreJoined, Group, held_at, keys_of, RowlessAreFresh}
 use Rattle.pipe_groups.proofs.HoldFacts.{held_at-passing, holds-part}
-use Rattle.pipe_tables.specs.Tables.{groups_in, IsTable, lies_in, Table}
-use Rattle.pipe_tables.proofs.CombineFacts.{combined-kept, Combines, few}
+use Rattle.pipe_keyed.specs.Tables.{IsTable, Table}
+use Rattle.pipe_tables.specs.Tables.{groups_in, lies_in}
+use Rattle.pipe_keyed.proofs.CombineFacts.{combined-kept, Combines, few}
 
 -- rows that pass are no more than all
 fewer : (test : SpillRow → Bool) (rows : List SpillRow) → length (filter test rows) ≤ length rows

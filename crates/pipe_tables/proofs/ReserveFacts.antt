@@ -6,6 +6,8 @@ use Rattle.std.proofs.lemmas.List.Sums.{sum_by-cons}
 use Rattle.pipe_running.specs.declared.function.AggregateFunction.{AggregateFunction}
 use Rattle.pipe_spill.specs.declared.spill_row.SpillRow.{SpillRow}
 use Rattle.pipe_groups.specs.Groups.{cover, Covers, Group, HasGroups, Seen}
+use Rattle.pipe_keyed.specs.Tables.{HasGroups as AreGroups, IsTable, Table}
+use Rattle.pipe_keyed.proofs.TableFacts.{table-covered, table-same}
 use Rattle.pipe_tables.specs.Tables.{cover_rows}
 
 -- how many bytes the keys of rows have
@@ -43,3 +45,12 @@ module _ (rows : List SpillRow) (old now : Seen) (i : ℕ) (lt : i < length rows
     shape = has.1 ∙ c.shape;
     room = keeps _ _ room-both;
   }
+
+-- ---- tables
+
+-- with room for the key of each row a table is one
+pub table-rows : (rows : List SpillRow) (t u : Table) → IsTable t → AreGroups t u (cover_rows t.shape.prototypes rows t.groups) → IsTable u
+table-rows [] t u is new = table-same t u is new
+table-rows (r ∷ rs) t u is new =
+    let next : Table = record { shape = t.shape; limit = t.limit; groups = cover t.shape.prototypes r.key t.groups } in
+    table-rows rs next u (table-covered t next r.key is (refl, refl, refl)) new

@@ -4,7 +4,8 @@ use Rattle.std.specs.List.{IsDistinct}
 use Rattle.std.specs.Str.{bytes_eq}
 use Rattle.pipe_groups.specs.Groups.{count_held, Group, group_of, has_rows, is_covered, is_held, keys_of}
 use Rattle.pipe_groups.proofs.PutFacts.{is_held-at, is_held-new}
-use Rattle.pipe_tables.specs.Keyed.{IsAt, refuses}
+use Rattle.pipe_keyed.specs.Keyed.{IsAt}
+use Rattle.pipe_tables.specs.Spots.{refuses}
 use Rattle.pipe_tables.specs.Tables.{passes}
 
 -- a test and one that holds, or fails

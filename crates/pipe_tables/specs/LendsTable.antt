@@ -3,7 +3,7 @@ use Rattle.std.specs.Borrow.{Fml, Lends, MutBor}
 use Rattle.pipe_tables.specs.contracts.hash_table.AggHashTable as hash_table
 use Rattle.pipe_tables.specs.contracts.thread_local.ThreadLocalTable as thread_local
 use Rattle.pipe_tables.specs.LocalTable.{Local}
-use Rattle.pipe_tables.specs.Tables.{Table}
+use Rattle.pipe_keyed.specs.Tables.{Table}
 
 -- a local table with another table
 abbrev pub with_table : Local → Table → Local

@@ -6,8 +6,7 @@ pub mod Buffers
 pub mod Tables
 pub mod Taken
 pub mod OocState
-pub mod Keyed
-pub mod KeyedLayout
+pub mod Hashes
+pub mod Spots
 pub mod TableLayout
 pub mod Parts
-pub mod Merges

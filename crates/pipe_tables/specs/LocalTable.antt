@@ -3,7 +3,8 @@ use Rattle.std.specs.Prelude.{◌≡◌, ◌+◌, ◌≤◌, ◌||◌, ℕ, Bool
 use Rattle.pipe_spill.specs.declared.spill_row.SpillRow.{SpillRow}
 use Rattle.pipe_groups.specs.Groups.{count_held, Group, is_held}
 use Rattle.pipe_tables.specs.Buffers.{buffered, Buffers, leaving}
-use Rattle.pipe_tables.specs.Tables.{is_full, put_row, Table}
+use Rattle.pipe_keyed.specs.Tables.{put_row, Table}
+use Rattle.pipe_tables.specs.Tables.{is_full}
 
 -- what is held, the rows that wait in buffers, and whether a row ever overflowed
 pub record Local : Type 0 where

@@ -1,7 +1,7 @@
 -- Of the proofs alone: how a table is kept.
 use Rattle.pipe_tables.specs.declared.hash_table.AggHashTable.TheInside.{Inside}
 use Rattle.pipe_tables.specs.Parts.{ArePartsOf}
-use Rattle.pipe_tables.specs.Tables.{IsTable, Table}
+use Rattle.pipe_keyed.specs.Tables.{IsTable, Table}
 
 -- a table as contracts see it
 abbrev pub table_in : Inside → Table

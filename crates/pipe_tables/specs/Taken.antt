@@ -9,7 +9,7 @@ use Rattle.pipe_spill.specs.SpillRow.{AreRows, spilled}
 use Rattle.pipe_spill.specs.declared.spill_row.SpillRow.{SpillRow}
 use Rattle.pipe_groups.specs.Holds.{Holds}
 use Rattle.pipe_groups.specs.Shape.{shape_of}
-use Rattle.pipe_tables.specs.Tables.{Table}
+use Rattle.pipe_keyed.specs.Tables.{Table}
 
 -- a query, and the chunks that were taken for it, in order
 pub record QueryRun : Type 0 where

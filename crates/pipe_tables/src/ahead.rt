@@ -3,13 +3,14 @@
 ghost use Rattle.std.specs.Prelude.{◌≡◌, All};
 ghost use Rattle.pipe_spill.specs.KeyTypes.{AreOfTypes};
 
+use crate::by_hash::ByHash;
 use crate::hash_table::AggHashTable;
 use crate::hints::Hints;
-use crate::keyed_groups::KeyedGroups;
 use pipe_chains::hash_bytes;
 use pipe_columns::DataType;
 use pipe_groups::encode_row;
 use pipe_inputs::ChunkRows;
+use pipe_keyed::KeyedGroups;
 
 /// How many rows are looked at together.
 const TOGETHER: usize = 16;
@@ -21,7 +22,7 @@ const FEWEST: usize = 1 << 13;
 /// and then all groups, so that the processor waits for several at once. What it answers says nothing.
 #[inline(never)]
 fn look(
-    keyed: &KeyedGroups,
+    keyed: &KeyedGroups<ByHash>,
     hints: &Hints,
     types: &[DataType],
     rows: &ChunkRows<'_>,
@@ -43,7 +44,7 @@ fn look(
     }
     let mut seen = 0usize;
     for place in 0..count {
-        seen = seen.wrapping_add(keyed.groups.look(spots[place]));
+        seen = seen.wrapping_add(keyed.groups().look(spots[place]));
     }
     seen
 }

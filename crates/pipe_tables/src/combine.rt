@@ -2,13 +2,14 @@
 
 ghost use Rattle.std.specs.Prelude.{◌≡◌, ◌<◌, [], List, None, OnErr, OnOk, if◌then◌else◌, ℕ};
 ghost use Rattle.pipe_groups.specs.Groups.{AreJoined, held_at};
-ghost use Rattle.pipe_tables.specs.Tables.{groups_in, HasGroups, HoldFewTogether, KeepsShape, lies_in};
+ghost use Rattle.pipe_keyed.specs.Tables.{HasGroups, HoldFewTogether, KeepsShape};
+ghost use Rattle.pipe_tables.specs.Tables.{groups_in, lies_in};
 
 use crate::hash_table::AggHashTable;
-use crate::merge::take_all;
 use crate::merge_part::take_part;
 use crate::part_size::make_room_for_part;
 use crate::parts::parts_for;
+use pipe_keyed::take_all;
 use std::alloc::AllocError;
 
 impl AggHashTable {

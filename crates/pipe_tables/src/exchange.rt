@@ -1,7 +1,8 @@
 //! Tables that exchange their groups.
 
 ghost use Rattle.std.specs.Prelude.{◌≡◌, ◌<◌};
-ghost use Rattle.pipe_tables.specs.Tables.{do_all_lie, HasGroups};
+ghost use Rattle.pipe_keyed.specs.Tables.{HasGroups};
+ghost use Rattle.pipe_tables.specs.Tables.{do_all_lie};
 
 use crate::hash_table::AggHashTable;
 use pipe_spill::partition_of;

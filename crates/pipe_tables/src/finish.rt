@@ -4,7 +4,7 @@ ghost use Rattle.std.specs.Prelude.{◌≡◌, [], IfOk, map, OnErr, OnOk, Some}
 ghost use Rattle.pipe_columns.specs.Slice.{sliced};
 ghost use Rattle.pipe_groups.specs.Given.{in_order, IsFrameOfGroups, slice_after};
 ghost use Rattle.pipe_groups.specs.Groups.{count_held};
-ghost use Rattle.pipe_tables.specs.Tables.{HasGroups, IsTable};
+ghost use Rattle.pipe_keyed.specs.Tables.{HasGroups, IsTable};
 
 use crate::hash_table::AggHashTable;
 use pipe_columns::DataFrame;

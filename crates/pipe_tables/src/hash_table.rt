@@ -11,16 +11,18 @@ ghost use Rattle.pipe_groups.specs.Given.{in_order, IsFrameOfGroups, slice_after
 ghost use Rattle.pipe_groups.specs.Groups.{AreJoined, count_held, held_at, held_bytes, is_covered, is_held};
 ghost use Rattle.pipe_groups.specs.Holds.{Holds};
 ghost use Rattle.pipe_groups.specs.Shape.{shape_of};
-ghost use Rattle.pipe_tables.specs.Tables.{cover_rows, groups_in, HasGroups, HoldFewTogether, is_full, IsTable, KeepsShape, lies_in, put_row, TakesOne};
+ghost use Rattle.pipe_keyed.specs.Tables.{HasGroups, HoldFewTogether, IsTable, KeepsShape, put_row, TakesOne};
+ghost use Rattle.pipe_tables.specs.Tables.{cover_rows, groups_in, is_full, lies_in};
 ghost use Rattle.pipe_tables.specs.declared.insert_end.InsertEnd.TheVariants as end;
 
+use crate::by_hash::ByHash;
 use crate::hints::Hints;
 use crate::insert_end::LentEnd;
-use crate::keyed_groups::KeyedGroups;
 use crate::parts::Parts;
 use pipe_aggs::CheckedQuery;
 use pipe_columns::DataFrame;
 use pipe_inputs::ChunkRows;
+use pipe_keyed::KeyedGroups;
 use pipe_spill::SpillRow;
 use std::alloc::{AllocError, Global};
 use std::marker::Model;
@@ -29,7 +31,7 @@ use std::marker::Model;
 /// their keys came, those without rows among them, which are room that was reserved.
 #[derive(Drop)]
 pub struct AggHashTable {
-    pub(crate) keyed: KeyedGroups,
+    pub(crate) keyed: KeyedGroups<ByHash>,
     pub(crate) limit: Option<usize>,
     pub(crate) parts: Option<Parts>,
     pub(crate) hints: Hints,
@@ -37,7 +39,7 @@ pub struct AggHashTable {
 
 impl Model for AggHashTable {
     ghost use Rattle.pipe_tables.specs.TableLayout.{IsKept, table_in};
-    ghost use Rattle.pipe_tables.specs.Tables.{Table};
+    ghost use Rattle.pipe_keyed.specs.Tables.{Table};
 
     ghost Value = { Table };
 

@@ -7,7 +7,8 @@ ghost use Rattle.pipe_spill.specs.SpillRow.{IsRow, spilled};
 ghost use Rattle.pipe_spill.specs.declared.spill_row.SpillRow.{SpillRow};
 ghost use Rattle.pipe_groups.specs.Groups.{is_covered, is_held};
 ghost use Rattle.pipe_groups.specs.Holds.{Holds};
-ghost use Rattle.pipe_tables.specs.Tables.{HasGroups, is_full, put_row, TakesOne};
+ghost use Rattle.pipe_keyed.specs.Tables.{HasGroups, put_row, TakesOne};
+ghost use Rattle.pipe_tables.specs.Tables.{is_full};
 ghost use Rattle.pipe_tables.specs.declared.insert_end.InsertEnd.TheVariants as end;
 
 use crate::hash_table::AggHashTable;

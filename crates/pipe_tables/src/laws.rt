@@ -18,7 +18,7 @@ ghost use Rattle.pipe_groups.specs.Shape.{IsShape, Shape};
 ghost use Rattle.pipe_tables.specs.After.{IsAfter, kept_of, left_of, piece_for, pieces_for, spilled_to, with_all};
 ghost use Rattle.pipe_tables.specs.Buffers.{no_rows};
 ghost use Rattle.pipe_tables.specs.LocalTable.{let_go, Local, with_row};
-ghost use Rattle.pipe_tables.specs.Tables.{TakesOne};
+ghost use Rattle.pipe_keyed.specs.Tables.{TakesOne};
 
 /// A local table that is new is one after no row, and one after few rows has room for another. With
 /// one row more it is one after that row too, and what leaves is the next piece of the row's

@@ -2,6 +2,7 @@
 #![tactic(auto)]
 
 mod ahead;
+mod by_hash;
 mod combine;
 mod exchange;
 mod finish;
@@ -9,24 +10,18 @@ mod hash_table;
 mod hints;
 mod insert;
 mod insert_end;
-mod keyed_feed;
-mod keyed_finish;
-mod keyed_groups;
 mod laws;
 mod local_end;
 mod local_finish;
 mod local_rests;
-mod merge;
 mod merge_part;
 mod ooc_state;
 mod part_size;
 mod parts;
 mod query_groups;
 mod reserve;
-mod same_keys;
 mod spill_partitions;
 mod spot;
-mod take;
 mod thread_local;
 mod types;
 

@@ -7,7 +7,7 @@ ghost use Rattle.pipe_groups.specs.Given.{in_order, IsFrameOfGroups, slice_after
 ghost use Rattle.pipe_groups.specs.Groups.{AreJoined, count_held};
 ghost use Rattle.pipe_tables.specs.LendsTable.{LendsTable};
 ghost use Rattle.pipe_tables.specs.LocalTable.{NoneWaits};
-ghost use Rattle.pipe_tables.specs.Tables.{HasGroups, HoldFewTogether, KeepsShape};
+ghost use Rattle.pipe_keyed.specs.Tables.{HasGroups, HoldFewTogether, KeepsShape};
 
 use crate::hash_table::AggHashTable;
 use crate::thread_local::ThreadLocalTable;

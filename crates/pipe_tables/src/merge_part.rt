@@ -4,17 +4,18 @@ ghost use Rattle.std.specs.Prelude.{◌≡◌, List, None, Some, if◌then◌els
 ghost use Rattle.std.specs.List.{IsDistinct};
 ghost use Rattle.std.specs.Str.{bytes_eq};
 ghost use Rattle.pipe_groups.specs.Groups.{AreJoined, count_held, Covers, held_at, held_bytes, keys_of, RowlessAreFresh};
-ghost use Rattle.pipe_tables.specs.Merges.{MayMerge};
+ghost use Rattle.pipe_keyed.specs.Merges.{MayMerge};
 ghost use Rattle.pipe_tables.specs.Parts.{ArePartsOf};
 ghost use Rattle.pipe_tables.specs.Tables.{groups_in, lies_in};
 
-use crate::keyed_groups::KeyedGroups;
+use crate::by_hash::ByHash;
 use crate::parts::Parts;
+use pipe_keyed::KeyedGroups;
 
 /// Takes the rows of the groups of a partition of others in, along its chain. It takes no memory.
 pub(crate) fn take_part(
-    own: &mut KeyedGroups,
-    other: &mut KeyedGroups,
+    own: &mut KeyedGroups<ByHash>,
+    other: &mut KeyedGroups<ByHash>,
     parts: &Parts,
     partition: usize,
 )

@@ -5,8 +5,9 @@ ghost use Rattle.pipe_groups.specs.Groups.{Covers, count_held, HasGroups, held_b
 ghost use Rattle.pipe_tables.specs.Parts.{ArePartsOf};
 ghost use Rattle.pipe_tables.specs.Tables.{groups_in};
 
-use crate::keyed_groups::KeyedGroups;
+use crate::by_hash::ByHash;
 use crate::parts::Parts;
+use pipe_keyed::KeyedGroups;
 use std::alloc::AllocError;
 
 /// How many groups hold a row, and how many bytes their keys have.
@@ -33,7 +34,7 @@ impl PartSize {
 
 /// The size of a partition of groups. It looks at the groups of this partition alone.
 fn size_of_part(
-    keyed: &KeyedGroups,
+    keyed: &KeyedGroups<ByHash>,
     parts: &Parts,
     partition: usize,
 ) -> Result<PartSize, AllocError>
@@ -59,8 +60,8 @@ fn size_of_part(
 
 /// Makes room for the groups of a partition of others.
 pub(crate) fn make_room_for_part(
-    own: &mut KeyedGroups,
-    other: &KeyedGroups,
+    own: &mut KeyedGroups<ByHash>,
+    other: &KeyedGroups<ByHash>,
     parts: &Parts,
     partition: usize,
 ) -> Result<(), AllocError>

@@ -3,8 +3,9 @@
 ghost use Rattle.std.specs.Prelude.{◌≡◌, ◌<◌, IfOk, Some};
 ghost use Rattle.pipe_tables.specs.Parts.{ArePartsOf};
 
-use crate::keyed_groups::KeyedGroups;
+use crate::by_hash::ByHash;
 use pipe_chains::Chains;
+use pipe_keyed::KeyedGroups;
 use pipe_spill::partition_of;
 use std::alloc::AllocError;
 
@@ -17,12 +18,12 @@ pub(crate) struct Parts {
 
 impl Parts {
     /// The partitions of groups, out of so many.
-    pub(crate) fn of(keyed: &KeyedGroups, partitions: usize) -> Result<Parts, AllocError>
+    pub(crate) fn of(keyed: &KeyedGroups<ByHash>, partitions: usize) -> Result<Parts, AllocError>
         requires { 0 < partitions }
         ensures partitions { IfOk result (λ p. p.partitions ≡ partitions) }
         ensures parts { IfOk result (λ p. ArePartsOf keyed.now.groups (Some p)) }
     {
-        let mut chains = keyed.chains.split();
+        let mut chains = Chains::new(keyed.allocator());
         chains.reserve(keyed.len())?;
         for index in 0..keyed.len() {
             chains.push(partition_of(keyed.key(index), partitions) as u64)?;
@@ -34,7 +35,7 @@ impl Parts {
 /// What was kept of the partitions of groups, where it is of so many, and else made anew.
 pub(crate) fn parts_for(
     kept: Option<Parts>,
-    keyed: &KeyedGroups,
+    keyed: &KeyedGroups<ByHash>,
     partitions: usize,
 ) -> Result<Parts, AllocError>
     requires some { 0 < partitions }

@@ -10,7 +10,7 @@ ghost use Rattle.pipe_spill.specs.SpillRow.{AreRows, spilled};
 ghost use Rattle.pipe_spill.specs.declared.spill_row.SpillRow.{SpillRow};
 ghost use Rattle.pipe_groups.specs.Holds.{HoldFewer, Holds};
 ghost use Rattle.pipe_groups.specs.Shape.{shape_of};
-ghost use Rattle.pipe_tables.specs.Tables.{KeepsShape};
+ghost use Rattle.pipe_keyed.specs.Tables.{KeepsShape};
 ghost use Rattle.pipe_tables.specs.Taken.{HasTaken};
 
 use crate::hash_table::AggHashTable;

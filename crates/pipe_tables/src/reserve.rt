@@ -2,13 +2,15 @@
 
 ghost use Rattle.std.specs.Prelude.{◌≡◌, ◌+◌, ℕ, IfOk, length, OnErr, OnOk, sum_by};
 ghost use Rattle.pipe_groups.specs.Groups.{cover, Covers, HasGroups as SameGroups};
-ghost use Rattle.pipe_tables.specs.Tables.{cover_rows, HasGroups};
+ghost use Rattle.pipe_keyed.specs.Tables.{HasGroups};
+ghost use Rattle.pipe_tables.specs.Tables.{cover_rows};
 
+use crate::by_hash::ByHash;
 use crate::hash_table::AggHashTable;
 use crate::hints::Hints;
-use crate::keyed_groups::KeyedGroups;
 use crate::spot::find_near;
 use pipe_chains::hash_bytes;
+use pipe_keyed::KeyedGroups;
 use pipe_spill::SpillRow;
 use std::alloc::AllocError;
 
@@ -28,7 +30,7 @@ fn key_bytes_of(rows: &[SpillRow]) -> Result<usize, AllocError>
 
 /// Makes a group for a key that has none, for which there is room. It is looked for where the hint
 /// says, and the hint says where it is then.
-fn cover_near(keyed: &mut KeyedGroups, hints: &mut Hints, key: &[u8])
+fn cover_near(keyed: &mut KeyedGroups<ByHash>, hints: &mut Hints, key: &[u8])
     requires { Covers keyed.old 1 (length key.now) }
     ensures groups { SameGroups keyed.old keyed.new
         (cover keyed.old.shape.prototypes key.now keyed.old.groups) }
@@ -46,7 +48,7 @@ fn cover_near(keyed: &mut KeyedGroups, hints: &mut Hints, key: &[u8])
 }
 
 /// Makes a group for the key of each row that has none, for which there is room.
-fn cover_all(keyed: &mut KeyedGroups, hints: &mut Hints, rows: &[SpillRow])
+fn cover_all(keyed: &mut KeyedGroups<ByHash>, hints: &mut Hints, rows: &[SpillRow])
     requires { Covers keyed.old (length rows.now) (sum_by (λ r. length r.key) rows.now) }
     ensures { SameGroups keyed.old keyed.new
         (cover_rows keyed.old.shape.prototypes rows.now keyed.old.groups) }

@@ -5,13 +5,14 @@ ghost use Rattle.std.specs.List.{IsDistinct};
 ghost use Rattle.std.specs.Str.{bytes_eq};
 ghost use Rattle.pipe_groups.specs.Groups.{count_held, keys_of};
 ghost use Rattle.pipe_chains.specs.Hash.{hash_of};
-ghost use Rattle.pipe_tables.specs.Keyed.{IsFound, IsSpot};
+ghost use Rattle.pipe_keyed.specs.Keyed.{IsFound};
+ghost use Rattle.pipe_tables.specs.Spots.{IsSpot};
 ghost use Rattle.pipe_tables.specs.Tables.{passes};
 
+use crate::by_hash::ByHash;
 use crate::hints::Hints;
-use crate::keyed_groups::KeyedGroups;
-use crate::same_keys::are_same;
 use pipe_chains::hash_bytes;
+use pipe_keyed::{KeyCode, KeyedGroups, are_same};
 
 /// What a table has for a new row of a key.
 #[derive(Clone, Copy)]
@@ -34,11 +35,20 @@ fn passes(held: usize, limit: Option<usize>) -> bool
     }
 }
 
+/// The index of the group of a key, which has a hash. It is looked for along the chain.
+#[inline(never)]
+fn find_chained(keyed: &KeyedGroups<ByHash>, hash: u64, key: &[u8]) -> Option<usize>
+    requires { hash ≡ hash_of key.now }
+    ensures { IsFound keyed.now.groups key.now result }
+{
+    keyed.find(hash, &KeyCode { bytes: key })
+}
+
 /// The index of the group of a key, which has a hash. It is looked for where the hint says, and then
 /// along the chain.
 #[inline(always)]
 pub(crate) fn find_near(
-    keyed: &KeyedGroups,
+    keyed: &KeyedGroups<ByHash>,
     hints: &mut Hints,
     hash: u64,
     key: &[u8],
@@ -52,7 +62,7 @@ pub(crate) fn find_near(
             return Some(hint);
         }
     }
-    let found = keyed.find(hash, key);
+    let found = find_chained(keyed, hash, key);
     match found {
         Some(index) => hints.set(hash, index),
         None => hints.widen(keyed.len()),
@@ -63,7 +73,7 @@ pub(crate) fn find_near(
 /// What there is for a new row of a key. It takes no memory but for hints, which may be had or not.
 #[inline(always)]
 pub(crate) fn spot_for(
-    keyed: &KeyedGroups,
+    keyed: &KeyedGroups<ByHash>,
     hints: &mut Hints,
     limit: Option<usize>,
     key: &[u8],

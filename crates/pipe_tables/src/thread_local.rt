@@ -11,7 +11,7 @@ ghost use Rattle.pipe_groups.specs.Holds.{Holds};
 ghost use Rattle.pipe_groups.specs.Shape.{shape_of};
 ghost use Rattle.pipe_tables.specs.Buffers.{AreBuffers, buffer_of, is_taken, is_taken_lent, leaving, left_by, left_by_lent, no_rows};
 ghost use Rattle.pipe_tables.specs.LocalTable.{IsToLimit, keeps, let_go, overflowing, with_row};
-ghost use Rattle.pipe_tables.specs.Tables.{TakesOne};
+ghost use Rattle.pipe_keyed.specs.Tables.{TakesOne};
 
 use crate::hash_table::AggHashTable;
 use crate::insert_end::{InsertEnd, LentEnd};

@@ -10,13 +10,13 @@ impl AggHashTable {
     pub fn key_types(&self) -> &[DataType]
         ensures { result.now ≡ self.now.shape.key_types }
     {
-        self.keyed.groups.key_types()
+        self.keyed.groups().key_types()
     }
 
     /// The types of the aggregates' inputs.
     pub fn input_types(&self) -> &[DataType]
         ensures { result.now ≡ self.now.shape.input_types }
     {
-        self.keyed.groups.input_types()
+        self.keyed.groups().input_types()
     }
 }

@@ -25,7 +25,7 @@ use Rattle.pipe_groups.specs.Shape.{shape_of}
 use Rattle.pipe_tables.specs.After.{IsAfter, waiting_of}
 use Rattle.pipe_tables.specs.Buffers.{waiting_in, with_rows}
 use Rattle.pipe_tables.specs.LocalTable.{Local, with_buffers}
-use Rattle.pipe_tables.specs.Tables.{Table}
+use Rattle.pipe_keyed.specs.Tables.{Table}
 use Rattle.pipe_global.specs.Next.{next_event, next_payload}
 use Rattle.pipe_global.specs.Partition.{spilled_all}
 use Rattle.pipe_global.specs.Shares.{raised, share_of, SharesSeen}

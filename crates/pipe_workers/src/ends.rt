@@ -3,7 +3,7 @@
 ghost use Rattle.std.specs.Prelude.{◌≡◌, ◌||◌, [], OnErr, OnOk};
 ghost use Rattle.pipe_groups.specs.Groups.{AreJoined};
 ghost use Rattle.pipe_tables.specs.LocalTable.{NoneWaits};
-ghost use Rattle.pipe_tables.specs.Tables.{HasGroups, HoldFewTogether, KeepsShape};
+ghost use Rattle.pipe_keyed.specs.Tables.{HasGroups, HoldFewTogether, KeepsShape};
 
 use crate::groupby::GenericGroupby2;
 use crate::paused::PausedWorker;

@@ -16,7 +16,7 @@ use Rattle.pipe_groups.specs.Groups.{Group}
 use Rattle.pipe_groups.specs.Holds.{Holds}
 use Rattle.pipe_groups.specs.Shape.{shape_of}
 use Rattle.pipe_groups.proofs.HoldFacts.{holds-none}
-use Rattle.pipe_tables.specs.Tables.{Table}
+use Rattle.pipe_keyed.specs.Tables.{Table}
 use Rattle.pipe_global.specs.Closed.{AreClosed, IsClosed}
 use Rattle.pipe_global.specs.Finishing.{CanFinish}
 use Rattle.pipe_global.specs.Next.{next_event, next_payload}

@@ -11,7 +11,7 @@ ghost use Rattle.pipe_model.specs.Output.{key_types};
 ghost use Rattle.pipe_spill.specs.SpillRow.{HasValues, IsRow, spilled};
 ghost use Rattle.pipe_tables.specs.Buffers.{is_taken_lent, with_none};
 ghost use Rattle.pipe_tables.specs.LocalTable.{NoneWaits, with_buffers, with_row};
-ghost use Rattle.pipe_tables.specs.Tables.{TakesOne};
+ghost use Rattle.pipe_keyed.specs.Tables.{TakesOne};
 
 use crate::tables::table_tests::{assert_numbers, given};
 use pipe_aggs::{AExpr, Arena, CheckedQuery, IRAggExpr, Node, Query};

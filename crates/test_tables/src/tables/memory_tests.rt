@@ -2,7 +2,7 @@
 //! refused call is made again, and then each row counts once.
 
 ghost use Rattle.std.specs.Prelude.{◌≡◌};
-ghost use Rattle.pipe_tables.specs.Tables.{HoldFewTogether};
+ghost use Rattle.pipe_keyed.specs.Tables.{HoldFewTogether};
 
 use crate::tables::local_tests::{assert_waiting, chunk_of as rows_of_keys, query_of as counts};
 use crate::tables::placed_tests::ordered;

@@ -1,7 +1,7 @@
 //! A table that holds one key, and another of the same query, step by step.
 
 ghost use Rattle.std.specs.Prelude.{◌≡◌};
-ghost use Rattle.pipe_tables.specs.Tables.{HoldFewTogether};
+ghost use Rattle.pipe_keyed.specs.Tables.{HoldFewTogether};
 
 use crate::tables::test_rows::{chunk_of_numbers, counting};
 use crate::tables::two_tables::TwoTables;

@@ -7,7 +7,7 @@ ghost use Rattle.pipe_groups.specs.Holds.{HoldFewer};
 ghost use Rattle.pipe_groups.specs.Shape.{shape_of};
 ghost use Rattle.pipe_model.specs.Output.{key_types};
 ghost use Rattle.pipe_spill.specs.SpillRow.{HasValues};
-ghost use Rattle.pipe_tables.specs.Tables.{TakesOne};
+ghost use Rattle.pipe_keyed.specs.Tables.{TakesOne};
 
 use pipe_aggs::{AExpr, Arena, CheckedQuery, Node, Query};
 use pipe_columns::{AnyValue, Column, DataChunk, DataFrame, DataType, Field, Schema, Text};

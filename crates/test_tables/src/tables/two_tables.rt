@@ -6,7 +6,7 @@ ghost use Rattle.pipe_aggs.specs.QueryTrees.{query_tree};
 ghost use Rattle.pipe_groups.specs.Holds.{HoldFewer};
 ghost use Rattle.pipe_model.specs.Output.{key_types};
 ghost use Rattle.pipe_spill.specs.SpillRow.{AreRows};
-ghost use Rattle.pipe_tables.specs.Tables.{HoldFewTogether};
+ghost use Rattle.pipe_keyed.specs.Tables.{HoldFewTogether};
 
 use pipe_aggs::CheckedQuery;
 use pipe_columns::DataChunk;

@@ -8,7 +8,7 @@ use Rattle.pipe_columns.specs.Row.{Row}
 use Rattle.pipe_model.specs.Answer.{answer, answer_of}
 use Rattle.pipe_plan.specs.Run.{all_rows, Run, tells}
 use Rattle.pipe_spill.specs.Store.{HasHeld}
-use Rattle.pipe_tables.specs.Tables.{Table}
+use Rattle.pipe_keyed.specs.Tables.{Table}
 use Rattle.pipe_global.specs.Partition.{PartitionSeen}
 use Rattle.pipe_run.specs.Ending.{IsAnswerCause}
 use Rattle.pipe_run.specs.Given.{HasRows}

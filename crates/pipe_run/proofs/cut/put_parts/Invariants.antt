@@ -2,7 +2,7 @@ use Rattle.std.proofs.Common.{◌≡◌, ◌<◌, ℕ, List, None, length}
 use Rattle.std.specs.Prelude.{if◌then◌else◌}
 use Rattle.std.specs.List.{slice_index_or}
 use Rattle.pipe_groups.specs.Groups.{held_at}
-use Rattle.pipe_tables.specs.Tables.{Table}
+use Rattle.pipe_keyed.specs.Tables.{Table}
 use Rattle.pipe_run.specs.Tasks.{IsPartOf}
 use Rattle.pipe_run.proofs.SideBySide.{from_on}
 use Rattle.pipe_run.proofs.cut.put_parts.Given as goal

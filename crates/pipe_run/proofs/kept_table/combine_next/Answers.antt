@@ -1,5 +1,5 @@
 use Rattle.std.proofs.Common.{◌∙◌, ap, subst, sym}
-use Rattle.pipe_tables.specs.Tables.{HoldFewTogether, Table}
+use Rattle.pipe_keyed.specs.Tables.{HoldFewTogether, Table}
 use Rattle.pipe_run.proofs.kept_table.combine_next.Goals as goal
 
 pub combine-requires-clause-shape : goal.combine-requires-clause-shape

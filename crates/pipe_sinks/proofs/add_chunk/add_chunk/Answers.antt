@@ -3,7 +3,8 @@ use Rattle.pipe_aggs.specs.QueryTrees.{query_tree}
 use Rattle.pipe_groups.specs.Shape.{Shape}
 use Rattle.pipe_model.specs.Query.{QueryTree}
 use Rattle.pipe_sinks.specs.ChunkTaking.{TakesRows}
-use Rattle.pipe_sinks.proofs.ChunkFacts.{room-none, rows-typed, took-chunk, took-more, took-none}
+use Rattle.pipe_keyed.proofs.TookFacts.{rows-typed, took-none}
+use Rattle.pipe_sinks.proofs.ChunkFacts.{room-none, took-chunk, took-run}
 use Rattle.pipe_sinks.proofs.ChunkRunFacts.{one-run, room-now, row-is, row-key, rows-long, shape-now, sole-now, types-now}
 use Rattle.pipe_sinks.proofs.add_chunk.add_chunk.Goals as goal
 
@@ -123,7 +124,7 @@ loop-row-preserved c =
     let n = c.loop-row.row in
     let rows = c.in_ok-rows.rows in
     let one = one-run q rows n c.loop-row.table.shape.key_types (ap (λ (s : Shape). s.key_types) (shape-now c.args.query.now c.args.chunk.now c.in_ok-rows.rows c.args.table.now c.loop-row.table c.loop-row.row takes c.loop-row.invariant.shape)) (omega (arith, lt, rows-long c.args.query.now c.args.chunk.now c.in_ok-rows.rows c.args.table.now c.loop-row.table c.loop-row.row takes c.loop-row.invariant.shape)) in
-    took-more q c.args.chunk.now.chunk_index c.args.chunk.now.frame n 1 c.args.table.now c.loop-row.table c.insert_lent.new.self rows _ c.loop-row.invariant takes.rows_are (omega (arith, lt))
+    took-run q c.args.chunk.now.chunk_index c.args.chunk.now.frame n 1 c.args.table.now c.loop-row.table c.insert_lent.new.self rows _ c.loop-row.invariant takes.rows_are (omega (arith, lt))
     one c.insert_lent.ensures.shape c.in_ok-insert_lent.ensures.holds
 
 pub returns-clause-holds : goal.returns-clause-holds

@@ -1,5 +1,5 @@
 use Rattle.pipe_aggs.specs.QueryTrees.{query_tree}
-use Rattle.pipe_sinks.specs.ChunkTaking.{TookRows}
+use Rattle.pipe_keyed.specs.TakenRows.{TookRows}
 use Rattle.pipe_sinks.proofs.add_chunk.add_chunk.Given as goal
 
 -- the table took the rows so far

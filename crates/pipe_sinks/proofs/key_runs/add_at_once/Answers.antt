@@ -2,7 +2,7 @@ use Rattle.std.proofs.Common.{◌≡◌, ◌∙◌, true, sym, subst, arith}
 use Rattle.pipe_aggs.specs.QueryTrees.{query_tree}
 use Rattle.pipe_groups.specs.GroupRuns.{keep_no_text}
 use Rattle.pipe_groups.specs.Shape.{Shape}
-use Rattle.pipe_sinks.proofs.ChunkFacts.{rows-typed}
+use Rattle.pipe_keyed.proofs.TookFacts.{rows-typed}
 use Rattle.pipe_sinks.proofs.InsertFacts.{alike-few, alike-took}
 use Rattle.pipe_sinks.proofs.key_runs.add_at_once.Goals as goal
 

@@ -1,7 +1,7 @@
 use Rattle.std.proofs.Common.{◌≡◌, ◌-◌, ◌<◌, ◌≤◌, refl, sym, subst, arith}
 use Rattle.pipe_columns.specs.Key.{code}
 use Rattle.pipe_inputs.specs.ChunkRows.{row_at}
-use Rattle.pipe_sinks.specs.Keyed.{IsAt}
+use Rattle.pipe_keyed.specs.Keyed.{IsAt}
 use Rattle.pipe_groups.specs.Shape.{Shape}
 use Rattle.pipe_sinks.specs.KeyRuns.{IsRun}
 use Rattle.pipe_sinks.specs.declared.key_runs.KeyRun.{KeyRun}

@@ -1,6 +1,6 @@
 use Rattle.std.proofs.Common.{◌-◌, ◌≤◌}
 use Rattle.pipe_sinks.specs.KeyCuts.{AreCut}
-use Rattle.pipe_sinks.specs.Tables.{HoldAlike}
+use Rattle.pipe_sinks.specs.Alike.{HoldAlike}
 use Rattle.pipe_sinks.proofs.key_runs.cover_runs.Given as goal
 
 -- the rows so far are cut, and the table holds the same

@@ -4,10 +4,11 @@ use Rattle.pipe_aggs.specs.QueryTrees.{query_tree}
 use Rattle.pipe_groups.specs.GroupRuns.{keep_no_text}
 use Rattle.pipe_groups.specs.Shape.{Shape}
 use Rattle.pipe_model.specs.Query.{QueryTree}
-use Rattle.pipe_sinks.specs.ChunkTaking.{TookRows}
+use Rattle.pipe_keyed.specs.TakenRows.{TookRows}
 use Rattle.pipe_sinks.specs.KeyRuns.{run_rows}
 use Rattle.pipe_sinks.specs.declared.key_runs.KeyRun.{KeyRun}
-use Rattle.pipe_sinks.proofs.ChunkFacts.{took-more, took-none}
+use Rattle.pipe_keyed.proofs.TookFacts.{took-none}
+use Rattle.pipe_sinks.proofs.ChunkFacts.{took-run}
 use Rattle.pipe_sinks.proofs.CutFacts.{cut-end, cut-next, cut-stay, no_run}
 use Rattle.pipe_sinks.proofs.ChunkRunFacts.{room-now, rows-long, shape-now}
 use Rattle.pipe_sinks.proofs.key_runs.feed_runs.Goals as goal
@@ -53,7 +54,7 @@ loop-run-preserved c =
     let sum : n + len ≡ r.end = omega (arith, next.0) in
     record {
       took = subst (λ (m : ℕ). TookRows q c.args.chunk.now.chunk_index c.args.chunk.now.frame m c.args.table.now c.feed_run.new.self) sum
-          (took-more q c.args.chunk.now.chunk_index c.args.chunk.now.frame n len c.args.table.now c.loop-run.table c.feed_run.new.self rows _ c.loop-run.invariant.took c.requires.takes.rows_are (omega (arith, next.1.there, rows-long c.args.query.now c.args.chunk.now c.args.rows.now c.args.table.now c.loop-run.table c.loop-run.row c.requires.takes c.loop-run.invariant.took.shape))
+          (took-run q c.args.chunk.now.chunk_index c.args.chunk.now.frame n len c.args.table.now c.loop-run.table c.feed_run.new.self rows _ c.loop-run.invariant.took c.requires.takes.rows_are (omega (arith, next.1.there, rows-long c.args.query.now c.args.chunk.now c.args.rows.now c.args.table.now c.loop-run.table c.loop-run.row c.requires.takes c.loop-run.invariant.took.shape))
           (ap (λ (s : Shape). run_rows s.key_types rows n len) (shape-now c.args.query.now c.args.chunk.now c.args.rows.now c.args.table.now c.loop-run.table c.loop-run.row c.requires.takes c.loop-run.invariant.took.shape)) c.feed_run.ensures.shape c.feed_run.ensures.holds);
       cut = cut-stay c.loop-run.table c.feed_run.new.self rows r.end c.args.chunk.now.frame.height (drop (c.loop-run.run-index + 1) c.args.runs.now) c.feed_run.ensures.shape c.feed_run.ensures.stay next.3;
     }

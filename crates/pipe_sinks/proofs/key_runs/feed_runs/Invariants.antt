@@ -1,6 +1,6 @@
 use Rattle.std.proofs.Common.{drop}
 use Rattle.pipe_aggs.specs.QueryTrees.{query_tree}
-use Rattle.pipe_sinks.specs.ChunkTaking.{TookRows}
+use Rattle.pipe_keyed.specs.TakenRows.{TookRows}
 use Rattle.pipe_sinks.specs.KeyCuts.{AreCut}
 use Rattle.pipe_sinks.proofs.key_runs.feed_runs.Given as goal
 

@@ -12,7 +12,8 @@ use Rattle.pipe_inputs.specs.RowTypes.{IsRowOf}
 use Rattle.pipe_inputs.proofs.CellFacts.{row_at-chunk}
 use Rattle.pipe_spill.specs.SpillRow.{spilled}
 use Rattle.pipe_groups.specs.Shape.{Shape}
-use Rattle.pipe_tables.proofs.TakenFacts.{room-for-one, row-typed, rows-typed, took-more}
+use Rattle.pipe_keyed.proofs.TookFacts.{room-for, row-typed, rows-typed}
+use Rattle.pipe_tables.proofs.TakenFacts.{took-row}
 use Rattle.pipe_tables.proofs.query_groups.add_chunk.Goals as goal
 
 pub encode_row-requires-clause-there : goal.encode_row-requires-clause-there
@@ -44,7 +45,7 @@ insert_lent-requires-clause-typed c =
     let read : row_at c.in_ok-rows.rows n ≡ row_of q c.args.index frame n =
     ap (λ (rs : List Row). row_at rs n) c.in_ok-rows.ensures.rows ∙ row_at-chunk q c.args.index frame n lt in
     let typed = row-typed q c.args.index frame n c.in_ok-rows.rows c.in_ok-rows.ensures.rows c.in_ok-rows.ensures.typed (omega (arith, c.ranges.index.fits)) c.requires.height lt in
-    rw (c.loop-row.invariant.shape ∙ c.requires.shape, read) typed
+    rw (c.loop-row.invariant.0.shape ∙ c.requires.shape, read) typed
 
 pub insert_lent-requires-clause-few : goal.insert_lent-requires-clause-few
 insert_lent-requires-clause-few c =
@@ -53,7 +54,7 @@ insert_lent-requires-clause-few c =
     let n = c.loop-row.row in
     let lt : n < frame.height = omega (arith, c.height-height.ensures.height, c.loop-row-test.true) in
     let typed = rows-typed q c.args.index frame n c.in_ok-rows.rows c.in_ok-rows.ensures.rows c.in_ok-rows.ensures.typed (omega (arith, c.ranges.index.fits)) c.requires.height (omega (arith, lt)) in
-    room-for-one q c.args.index frame n c.args.table.now c.loop-row.table c.loop-row.invariant c.requires.shape c.requires.few typed lt
+    room-for q c.args.index frame n 1 c.args.table.now c.loop-row.table c.loop-row.invariant.0 c.requires.shape c.requires.few typed (omega (arith, lt))
 
 pub loop-row-preserved : goal.loop-row-preserved
 loop-row-preserved c =
@@ -63,12 +64,14 @@ loop-row-preserved c =
     let lt : n < frame.height = omega (arith, c.height-height.ensures.height, c.loop-row-test.true) in
     let read : row_at c.in_ok-rows.rows n ≡ row_of q c.args.index frame n =
     ap (λ (rs : List Row). row_at rs n) c.in_ok-rows.ensures.rows ∙ row_at-chunk q c.args.index frame n lt in
-    let shape = c.loop-row.invariant.shape ∙ c.requires.shape in
+    let shape = c.loop-row.invariant.0.shape ∙ c.requires.shape in
     let row : spilled c.loop-row.table.shape.key_types (row_at c.in_ok-rows.rows n) ≡ spilled (key_types q) (row_of q c.args.index frame n) =
     ap (λ (s : Shape). spilled s.key_types (row_at c.in_ok-rows.rows n)) shape ∙ ap (spilled (key_types q)) read in
-    let done = c.insert_lent.ensures.done c.in-Done.is in
-    took-more q c.args.index frame n c.args.table.now c.loop-row.table c.insert_lent.new.self
-    (spilled c.loop-row.table.shape.key_types (row_at c.in_ok-rows.rows n)) c.loop-row.invariant row done.1 done.2 (c.insert_lent.ensures.holds c.in-Done.is)
+    let done = c.insert_lent.ensures.done c.in-Done.is in (
+      took-row q c.args.index frame n c.args.table.now c.loop-row.table c.insert_lent.new.self
+          (spilled c.loop-row.table.shape.key_types (row_at c.in_ok-rows.rows n)) c.loop-row.invariant.0 row done.1 (c.insert_lent.ensures.holds c.in-Done.is),
+      done.2 ∙ c.loop-row.invariant.1,
+    )
 
 pub returns-clause-typed : goal.returns-clause-typed
 returns-clause-typed c =

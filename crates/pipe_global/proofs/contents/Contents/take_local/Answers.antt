@@ -1,7 +1,7 @@
 use Rattle.std.proofs.Common.{rules, ◌≡◌, ◌∙◌, refl, sym, subst}
 use Rattle.pipe_plan.specs.Stores.{store_seen}
 use Rattle.pipe_groups.specs.Groups.{count_held}
-use Rattle.pipe_tables.specs.Tables.{HoldFewTogether}
+use Rattle.pipe_keyed.specs.Tables.{HoldFewTogether}
 use Rattle.pipe_global.specs.Gathering.{HasTakenLocal}
 use Rattle.pipe_global.specs.Partition.{PartitionSeen}
 use Rattle.pipe_global.proofs.Finished.{few-together}

@@ -5,12 +5,13 @@ use Rattle.pipe_spill.specs.declared.spill_row.SpillRow.{SpillRow}
 use Rattle.pipe_groups.specs.GroupRuns.{keep_no_text}
 use Rattle.pipe_groups.specs.Groups.{keys_of}
 use Rattle.pipe_groups.specs.Holds.{HoldFewer, Holds}
-use Rattle.pipe_sinks.specs.Keyed.{IsAt}
+use Rattle.pipe_keyed.specs.Keyed.{IsAt}
 use Rattle.pipe_sinks.specs.KeyRuns.{IsRun, run_rows}
 use Rattle.pipe_sinks.specs.TableLayout.{table_in, table_of}
-use Rattle.pipe_sinks.specs.Tables.{KeysStay, Table}
+use Rattle.pipe_keyed.specs.Tables.{Table}
+use Rattle.pipe_sinks.specs.Alike.{KeysStay}
 use Rattle.pipe_sinks.proofs.InsertFacts.{Covered, covered-self, keys-stay, run-few, run-holds, run-plain, run-table, run-taken}
-use Rattle.pipe_sinks.proofs.KeyFacts.{keys-set}
+use Rattle.pipe_keyed.proofs.KeyFacts.{keys-set}
 use Rattle.pipe_sinks.proofs.key_table.KeyTable.feed_run.Goals as goal
 
 pub feed_run-requires-clause-within : goal.feed_run-requires-clause-within
@@ -64,7 +65,7 @@ invariant_of-self c =
     let few : HoldFewer t.shape t.groups c.args.len = subst (λ (x : Table). HoldFewer x.shape x.groups c.args.len) (sym c.self.view_is) c.requires.few in
     let run : IsRun t.shape rows c.args.row c.args.len = subst (λ (x : Table). IsRun x.shape rows c.args.row c.args.len) (sym c.self.view_is) c.requires.run in
     let plain : keep_no_text t.shape.prototypes t.shape.input_types ≡ true = subst (λ (x : Table). keep_no_text x.shape.prototypes x.shape.input_types ≡ true) (sym c.self.view_is) c.requires.plain in
-    run-table t t k c.args.index covered rows c.args.row c.args.len few run refl plain (table_of c.feed_run.new.self) c.feed_run.ensures.groups
+    run-table t t k c.args.index covered rows c.args.row c.args.len few run refl plain (table_of c.feed_run.new.self) (c.feed_run.ensures.groups.0, c.feed_run.ensures.groups.1, refl)
 
 pub returns-clause-stay : goal.returns-clause-stay
 returns-clause-stay c =
@@ -82,4 +83,4 @@ returns-clause-holds c =
     let run : IsRun t.shape rows c.args.row c.args.len = subst (λ (x : Table). IsRun x.shape rows c.args.row c.args.len) (sym c.self.view_is) c.requires.run in
     let plain : keep_no_text t.shape.prototypes t.shape.input_types ≡ true = subst (λ (x : Table). keep_no_text x.shape.prototypes x.shape.input_types ≡ true) (sym c.self.view_is) c.requires.plain in
     subst (λ (x : Table). (taken : List SpillRow) → Holds x.shape.prototypes x.groups taken → Holds x.shape.prototypes c.feed_run.new.self.groups (taken ++ run_rows x.shape.key_types rows c.args.row c.args.len)) c.self.view_is
-    (run-holds t t k c.args.index covered rows c.args.row c.args.len few run refl plain (table_of c.feed_run.new.self) c.feed_run.ensures.groups)
+    (run-holds t t k c.args.index covered rows c.args.row c.args.len few run refl plain (table_of c.feed_run.new.self) (c.feed_run.ensures.groups.0, c.feed_run.ensures.groups.1, refl))

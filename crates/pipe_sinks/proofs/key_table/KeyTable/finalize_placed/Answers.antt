@@ -1,7 +1,7 @@
 use Rattle.std.proofs.Common.{sym, subst}
 use Rattle.pipe_groups.specs.Shape.{IsShape, Shape}
 use Rattle.pipe_groups.proofs.GiveFacts.{can-give}
-use Rattle.pipe_sinks.proofs.TableFacts.{table-none}
+use Rattle.pipe_keyed.proofs.TableFacts.{table-none}
 use Rattle.pipe_sinks.proofs.key_table.KeyTable.finalize_placed.Goals as goal
 
 pub finalize_placed-requires-clause-gives : goal.finalize_placed-requires-clause-gives

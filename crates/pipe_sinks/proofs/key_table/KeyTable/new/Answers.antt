@@ -1,4 +1,4 @@
-use Rattle.pipe_sinks.proofs.TableFacts.{table-none}
+use Rattle.pipe_keyed.proofs.TableFacts.{table-none}
 use Rattle.pipe_sinks.proofs.key_table.KeyTable.new.Goals as goal
 
 pub invariant_of-result : goal.invariant_of-result

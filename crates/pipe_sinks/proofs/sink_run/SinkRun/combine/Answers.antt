@@ -38,7 +38,7 @@ invariant_of-self-2 c =
     let none : is_some c.self.inside.given ≡ false = sym c.is_some.ensures ∙ c.if-is_some.false in
     let none' : is_some c.other.inside.given ≡ false = sym c.is_some-else-is_some.ensures ∙ c.if-is_some-2.false in
     run-both _ _ xs c.self.inside.table c.self.inside.given c.self.invariant none ys c.other.inside.table more.chunks (kept-none _ _ _ _ none' more.kept) few
-    c.combine.new.self _ apart c.in_ok-combine.ensures.joined c.in_ok-combine.ensures.shape
+    c.combine.new.self _ apart c.in_ok-combine.ensures.took.joined c.in_ok-combine.ensures.took.shape
     (marked-append c.reserve.new.self.items c.other.inside.taken.items c.append.new.self.items (c.append.ensures.items ∙ rw c.unwrap.ensures refl) ∙ ap (λ (l : List DataChunk). l ++ ys) (ap marked c.in_ok-reserve.ensures.items))
 
 pub invariant_of-other-2 : goal.invariant_of-other-2

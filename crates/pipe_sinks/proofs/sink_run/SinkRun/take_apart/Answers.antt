@@ -5,7 +5,7 @@ use Rattle.pipe_aggs.specs.QueryTrees.{query_tree}
 use Rattle.pipe_model.specs.Rows.{total_height}
 use Rattle.pipe_sinks.specs.Runs.{Run}
 use Rattle.pipe_sinks.specs.RunLayout.{HoldsChunks}
-use Rattle.pipe_sinks.specs.Tables.{Table}
+use Rattle.pipe_keyed.specs.Tables.{Table}
 use Rattle.pipe_sinks.proofs.MarkFacts.{marked, marked-push}
 use Rattle.pipe_sinks.proofs.RunFacts.{kept-shape, later-apart, on-err, run-both, run-few, run-same, single-height, single-taken}
 use Rattle.pipe_sinks.proofs.sink_run.SinkRun.take_apart.Goals as goal
@@ -41,7 +41,7 @@ add_apart-requires-clause-few c =
 pub invariant_of-self-in_err-add_apart : goal.invariant_of-self-in_err-add_apart
 invariant_of-self-in_err-add_apart c =
     run-same _ _ (marked c.self.inside.taken.items) c.self.inside.table c.self.inside.given c.self.invariant c.add_apart.new.table _
-    c.in_err-add_apart.ensures.err.0 c.in_err-add_apart.ensures.err.1 (ap marked c.in_ok-reserve.ensures.items)
+    c.in_err-add_apart.ensures.err (ap marked c.in_ok-reserve.ensures.items)
 
 pub returns-in_err-add_apart-clause-err : goal.returns-in_err-add_apart-clause-err
 returns-in_err-add_apart-clause-err c =

@@ -1,12 +1,12 @@
 use Rattle.std.proofs.Common.{sym, subst, ◌∙◌}
 use Rattle.pipe_groups.specs.Shape.{IsShape, Shape}
-use Rattle.pipe_tables.proofs.CombineFacts.{both-at-hand, combined-kept, few}
-use Rattle.pipe_tables.proofs.TableFacts.{table-none}
+use Rattle.pipe_keyed.proofs.CombineFacts.{both-at-hand, combined-kept, few}
+use Rattle.pipe_keyed.proofs.TableFacts.{table-none}
 use Rattle.pipe_tables.proofs.hash_table.AggHashTable.combine.Goals as goal
 
 pub invariant_of-self-2 : goal.invariant_of-self-2
 invariant_of-self-2 c =
-    let both = (both-at-hand _ _ _ _ c.self.view_is c.other.view_is c.self.invariant c.other.invariant c.requires.shape c.requires.few) in
+    let both = (both-at-hand _ _ _ _ c.self.view_is c.other.view_is c.self.invariant.table c.other.invariant.table c.requires.shape c.requires.few) in
     let held = few _ _ _ _ both in
     record {
       table = combined-kept _ _ _ _ both _ c.other.inside.keyed.groups held.others

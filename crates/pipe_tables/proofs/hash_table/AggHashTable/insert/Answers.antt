@@ -1,6 +1,6 @@
 use Rattle.std.proofs.Common.{refl, ◌∙◌}
 use Rattle.pipe_tables.proofs.InsertFacts.{at-hand, feeds-at, feeds-new, insert-done, insert-holds, insert-kept, puts-at, puts-new}
-use Rattle.pipe_tables.proofs.KeyFacts.{parts-set}
+use Rattle.pipe_tables.proofs.StayFacts.{parts-set}
 use Rattle.pipe_tables.proofs.hash_table.AggHashTable.insert.Goals as goal
 
 pub feed-requires-clause-few : goal.feed-requires-clause-few

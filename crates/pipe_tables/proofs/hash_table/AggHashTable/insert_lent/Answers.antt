@@ -1,8 +1,8 @@
 use Rattle.std.proofs.Common.{◌≡◌, refl, sym, ◌∙◌}
 use Rattle.pipe_tables.specs.declared.insert_end.LentEnd.TheVariants.{Done, Memory}
 use Rattle.pipe_tables.proofs.InsertFacts.{at-hand, feeds-at, insert-done, insert-holds, insert-kept, puts-at, puts-last, takes-new}
-use Rattle.pipe_tables.proofs.KeyFacts.{parts-same, parts-set}
-use Rattle.pipe_tables.proofs.TableFacts.{table-same}
+use Rattle.pipe_tables.proofs.StayFacts.{parts-same, parts-set}
+use Rattle.pipe_keyed.proofs.TableFacts.{table-same}
 use Rattle.pipe_tables.proofs.hash_table.AggHashTable.insert_lent.Goals as goal
 use Rattle.pipe_tables.proofs.hash_table.AggHashTable.insert_lent.Goals.{in-Ok, in-Err}
 

@@ -1,4 +1,4 @@
-use Rattle.pipe_tables.proofs.TableFacts.{table-none}
+use Rattle.pipe_keyed.proofs.TableFacts.{table-none}
 use Rattle.pipe_tables.proofs.hash_table.AggHashTable.new.Goals as goal
 
 pub invariant_of-result : goal.invariant_of-result

@@ -1,5 +1,5 @@
 use Rattle.std.proofs.Common.{refl, ◌∙◌}
-use Rattle.pipe_tables.proofs.TableFacts.{table-rows}
+use Rattle.pipe_tables.proofs.ReserveFacts.{table-rows}
 use Rattle.pipe_tables.proofs.hash_table.AggHashTable.reserve.Goals as goal
 
 pub invariant_of-self-2 : goal.invariant_of-self-2

@@ -18,7 +18,7 @@ use Rattle.pipe_groups.specs.Shape.{IsShape, shape_of}
 use Rattle.pipe_plan.specs.declared.limits.Limits.{Limits}
 use Rattle.pipe_tables.specs.After.{IsAfter, waiting_of}
 use Rattle.pipe_tables.specs.LocalTable.{Local, with_row}
-use Rattle.pipe_tables.specs.Tables.{TakesOne}
+use Rattle.pipe_keyed.specs.Tables.{TakesOne}
 use Rattle.pipe_tables.proofs.AfterFacts.{after-next, after-none, after-room}
 use Rattle.pipe_tables.proofs.ChunkValues.{chunk-values}
 use Rattle.test_tables.proofs.tables.local_tests.fed.Goals as goal

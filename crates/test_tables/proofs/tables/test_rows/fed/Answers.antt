@@ -5,7 +5,7 @@ use Rattle.pipe_columns.specs.Row.{Row}
 use Rattle.pipe_aggs.specs.QueryTrees.{query_tree}
 use Rattle.pipe_model.specs.Query.{QueryTree}
 use Rattle.pipe_model.specs.Rows.{chunk_rows, row_of}
-use Rattle.pipe_tables.specs.Tables.{Table}
+use Rattle.pipe_keyed.specs.Tables.{Table}
 use Rattle.pipe_tables.proofs.ChunkValues.{chunk-values}
 use Rattle.pipe_tables.proofs.FewerFacts.{fewer, TookFew, took-at_most, took-more}
 use Rattle.test_tables.proofs.tables.test_rows.fed.Goals as goal

@@ -4,8 +4,9 @@ use Rattle.pipe_groups.specs.Groups.{cover, Group}
 use Rattle.pipe_groups.specs.Holds.{HoldFewer}
 use Rattle.pipe_groups.specs.Shape.{Shape}
 use Rattle.pipe_groups.proofs.KeepFacts.{few-cover}
-use Rattle.pipe_tables.specs.Tables.{cover_rows, Table}
-use Rattle.pipe_tables.proofs.KeyFacts.{either-end}
+use Rattle.pipe_keyed.specs.Tables.{Table}
+use Rattle.pipe_tables.specs.Tables.{cover_rows}
+use Rattle.pipe_keyed.proofs.KeyFacts.{either-end}
 use Rattle.test_tables.proofs.tables.two_tables.cover.Goals as goal
 
 -- with room for the keys of rows groups hold the same

@@ -1,0 +1,9 @@
+pub mod AllFacts
+pub mod CombineFacts
+pub mod FindFacts
+pub mod KeyFacts
+pub mod MergeFacts
+pub mod PushFacts
+pub mod SameKeys
+pub mod TableFacts
+pub mod TookFacts

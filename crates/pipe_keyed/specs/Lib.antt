@@ -1,0 +1,5 @@
+pub mod Keyed
+pub mod KeyedLayout
+pub mod Merges
+pub mod Tables
+pub mod TakenRows

@@ -1,0 +1,24 @@
+//! What lies below groups that are found by marks.
+
+ghost use Rattle.std.specs.Prelude.{◌≡◌};
+
+use crate::keyed_groups::KeyedGroups;
+use crate::marking::Marking;
+use pipe_groups::Groups;
+use std::alloc::Global;
+
+impl<M: Marking> KeyedGroups<M> {
+    /// The groups alone.
+    #[inline(always)]
+    pub fn groups(&self) -> &Groups
+        ensures shape { result.now.shape ≡ self.now.shape }
+        ensures groups { result.now.groups ≡ self.now.groups }
+    {
+        &self.groups
+    }
+
+    /// Where the memory comes from.
+    pub fn allocator(&self) -> Global {
+        self.chains.allocator()
+    }
+}

@@ -1,0 +1,48 @@
+//! How groups that are found by their keys become a frame.
+
+ghost use Rattle.std.specs.Prelude.{◌≡◌, [], All, IfOk, OnErr, OnOk};
+ghost use Rattle.std.specs.List.{IsDistinct};
+ghost use Rattle.std.specs.Str.{bytes_eq};
+ghost use Rattle.pipe_columns.specs.Slice.{sliced};
+ghost use Rattle.pipe_groups.specs.Given.{CanGive, in_order, IsFrameOfGroups, slice_after};
+ghost use Rattle.pipe_groups.specs.QueryRows.{ArePlaced};
+ghost use Rattle.pipe_groups.specs.Groups.{count_held, HasGroups, held_groups, keys_of};
+
+use crate::keyed_groups::KeyedGroups;
+use crate::marking::Marking;
+use pipe_columns::DataFrame;
+use pipe_groups::PlacedGroups;
+use std::alloc::AllocError;
+
+impl<M: Marking> KeyedGroups<M> {
+    /// The frame of the groups that hold rows, in the order of their keys, under a slice.
+    pub fn finalize(&mut self, slice: &mut Option<(usize, usize)>) -> Result<DataFrame, AllocError>
+        requires apart { IsDistinct bytes_eq (keys_of self.old.groups) }
+        requires gives { All (CanGive self.old.shape) (held_groups self.old.groups) }
+        ensures frame { IfOk result (λ f. IsFrameOfGroups self.old.shape
+            (sliced slice.old (in_order self.old.groups)) f) }
+        ensures emptied { OnOk result (HasGroups self.old self.new []) }
+        ensures slice { OnOk result
+            (slice.new ≡ slice_after (count_held self.old.groups) slice.old) }
+        ensures err { OnErr result (HasGroups self.old self.new self.old.groups) }
+        ensures slice_err { OnErr result (slice.new ≡ slice.old) }
+    {
+        let frame = self.groups.finalize(slice)?;
+        self.chains.clear();
+        Ok(frame)
+    }
+
+    /// The frame of all groups that hold rows, in the order of their keys, with their first places.
+    pub fn finalize_placed(&mut self) -> Result<PlacedGroups, AllocError>
+        requires apart { IsDistinct bytes_eq (keys_of self.old.groups) }
+        requires gives { All (CanGive self.old.shape) (held_groups self.old.groups) }
+        ensures placed { IfOk result (λ p.
+            ArePlaced self.old.shape self.old.groups p.frame p.firsts) }
+        ensures emptied { OnOk result (HasGroups self.old self.new []) }
+        ensures err { OnErr result (HasGroups self.old self.new self.old.groups) }
+    {
+        let placed = self.groups.finalize_placed()?;
+        self.chains.clear();
+        Ok(placed)
+    }
+}

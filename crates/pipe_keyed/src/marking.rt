@@ -1,0 +1,14 @@
+//! Ways in which keys are marked.
+
+ghost use Rattle.std.specs.Prelude.{◌≡◌, List, ℕ};
+ghost use Rattle.pipe_columns.specs.declared.data_type.DataType.{DataType};
+
+/// A way in which the codes of keys of some types are marked.
+pub trait Marking {
+    /// A mark is that of a code.
+    ghost marks: { List DataType → List ℕ → ℕ → Type 0 };
+
+    /// A code has one mark.
+    ghost once: { (types : List DataType) (code : List ℕ) (a b : ℕ) → marks types code a
+        → marks types code b → a ≡ b };
+}

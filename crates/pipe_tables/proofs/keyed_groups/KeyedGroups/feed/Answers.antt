@@ -1,6 +1,0 @@
-use Rattle.std.proofs.Common.{refl}
-use Rattle.pipe_tables.proofs.KeyFacts.{marked-set}
-use Rattle.pipe_tables.proofs.keyed_groups.KeyedGroups.feed.Goals as goal
-
-pub invariant_of-self : goal.invariant_of-self
-invariant_of-self c = marked-set c.self.inside.groups.groups _ c.args.index _ c.feed.ensures.groups.0 refl _ c.self.invariant

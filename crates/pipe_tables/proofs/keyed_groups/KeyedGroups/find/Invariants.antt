@@ -1,9 +1,0 @@
-use Rattle.pipe_chains.proofs.Walks.{left_of, OnChain}
-use Rattle.pipe_tables.proofs.FindFacts.{IsOther}
-use Rattle.pipe_tables.proofs.keyed_groups.KeyedGroups.find.Given as goal
-
-abbrev pub invariant-loop-at : goal.invariant-loop-at
-invariant-loop-at l = OnChain (IsOther l.self-inside.groups.groups l.key) l.hash l.self-inside.chains.marks l.at
-
-abbrev pub decreases-loop-at : goal.decreases-loop-at
-decreases-loop-at l = left_of l.at

@@ -1,5 +1,0 @@
-use Rattle.pipe_tables.proofs.AllFacts.{TakesAll}
-use Rattle.pipe_tables.proofs.merge.take_all.Given as goal
-
-abbrev pub invariant-loop-from : goal.invariant-loop-from
-invariant-loop-from l = TakesAll l.initial.own l.initial.other l.own l.other l.from
