@@ -1,5 +1,5 @@
 -- A run that is fed what was read, round by round.
-use Rattle.std.proofs.Common.{◌≡◌, ◌∙◌, ◌+◌, ◌<◌, ◌^◌, ◌++◌, ℕ, Bool, true, false, if◌then◌else◌, List, [], length, Option, Some, None, refl, sym, ap, subst, arith, length-append, ⊎_elim}
+use Rattle.std.proofs.Common.{◌≡◌, ◌∙◌, ◌+◌, ◌<◌, ◌^◌, ◌++◌, ℕ, Bool, if◌then◌else◌, List, [], length, Option, Some, None, refl, sym, ap, subst, arith, length-append, ⊎_elim}
 use Rattle.std.specs.Prelude.{get_or}
 use Rattle.std.specs.Option.{IfSome}
 use Rattle.std.specs.List.{All, slice_index_or}
@@ -13,7 +13,6 @@ use Rattle.pipe_columns.specs.declared.schema.Field.{Field}
 use Rattle.pipe_columns.specs.Causes.{Rose}
 use Rattle.pipe_columns.specs.Frame.{FitsSchema}
 use Rattle.pipe_csv.specs.declared.csv_error.CsvError.{CsvError}
-use Rattle.pipe_csv.specs.declared.csv_error.CsvError.TheVariants as csv_error
 use Rattle.pipe_io.specs.Files.{Files}
 use Rattle.pipe_model.specs.Rows.{total_height}
 use Rattle.pipe_plan.specs.Run.{StoreSeen}
@@ -74,35 +73,7 @@ ends-behind before None first old taken err chunks rows h ends = tt
 ends-behind before (Some files) first old taken err chunks rows h ends =
     told-alike (stop_of err) (end_of (left_of files first)) (end_behind before (left_of files old)) (ap end_of h ∙ ends-then before taken (left_of files old) chunks rows) ends
 
--- files that stop behind few chunks end the reading there
-few-stop : (before : Counted) (stop : Stop) (chunks : List DataChunk) (left : CsvChunks) → are_few_behind before chunks ≡ true → left ≡ record { chunks = chunks; stop = Some stop } → end_behind before left ≡ Some stop
-few-stop before stop chunks left few is = ap (end_behind before) is ∙ ap (λ (b : Bool). if b then Some stop else Some too_large) few
-
--- and behind many they are too large
-many-stop : (before : Counted) (stop : Stop) (chunks : List DataChunk) (left : CsvChunks) → are_few_behind before chunks ≡ false → left ≡ record { chunks = chunks; stop = Some stop } → end_behind before left ≡ Some too_large
-many-stop before stop chunks left many is = ap (end_behind before) is ∙ ap (λ (b : Bool). if b then Some stop else Some too_large) many
-
--- so an error behind few chunks tells why the reading ends
-pub ends-few : (before : Counted) (err : CsvError) (chunks : List DataChunk) (left : CsvChunks) (most : ℕ) → are_few_behind before chunks ≡ true → StopsWithin most err chunks left → EndsWith before left err
-ends-few before (csv_error.Missing file) chunks left most few h = few-stop before _ chunks left few h.0
-ends-few before (csv_error.Header file) chunks left most few h = few-stop before _ chunks left few h.0
-ends-few before (csv_error.Width file row) chunks left most few h = few-stop before _ chunks left few h.0
-ends-few before (csv_error.Field file row column) chunks left most few h = few-stop before _ chunks left few h.0
-ends-few before csv_error.TooLarge chunks left most few h = few-stop before _ chunks left few h.0
-ends-few before csv_error.Input chunks left most few h = tt
-ends-few before csv_error.Memory chunks left most few h = tt
-
--- and one that tells a stop behind many chunks tells that they are too large
-pub ends-many : (before : Counted) (err : CsvError) (chunks : List DataChunk) (left : CsvChunks) (most : ℕ) → are_few_behind before chunks ≡ false → (err ≡ csv_error.Input → ⊥) → (err ≡ csv_error.Memory → ⊥) → StopsWithin most err chunks left → EndsWith before left csv_error.TooLarge
-ends-many before (csv_error.Missing file) chunks left most many input memory h = many-stop before _ chunks left many h.0
-ends-many before (csv_error.Header file) chunks left most many input memory h = many-stop before _ chunks left many h.0
-ends-many before (csv_error.Width file row) chunks left most many input memory h = many-stop before _ chunks left many h.0
-ends-many before (csv_error.Field file row column) chunks left most many input memory h = many-stop before _ chunks left many h.0
-ends-many before csv_error.TooLarge chunks left most many input memory h = many-stop before _ chunks left many h.0
-ends-many before csv_error.Input chunks left most many input memory h = absurd (input refl)
-ends-many before csv_error.Memory chunks left most many input memory h = absurd (memory refl)
-
--- where files are told, they end as what is left of them does
+-- where files are told, an error that tells why the reading of any files ends, of which so much is left, tells it of these
 pub ends-told : (before : Counted) (told : Option Files) (first : ReaderState) (most : ℕ) (err now : CsvError) (chunks : List DataChunk) → ((left : CsvChunks) (most : ℕ) → StopsWithin most err chunks left → EndsWith before left now)
     → IfSome told (λ files. StopsWithin most err chunks (left_of files first)) → EndsBehind before told first now
 ends-told before None first most err now chunks each h = tt
