@@ -22,6 +22,7 @@ NOBODY = 65534
 AS_NOBODY = ["setpriv", f"--reuid={NOBODY}", f"--regid={NOBODY}", "--clear-groups", "--no-new-privs"]
 SECONDS = 60
 LONGEST = 200
+MEGABYTE = 1 << 20
 
 
 # ---- what a case says
@@ -70,11 +71,13 @@ def fault_of(case):
 # ---- one run
 
 
-def feed(path, text):
-    """Writes a text into a named pipe, once it is opened to be read."""
+def feed(path, text, count):
+    """Writes a text into a named pipe, once it is opened to be read, and behind it blanks up to so many bytes."""
     try:
         with open(os.open(path, os.O_WRONLY), "wb") as pipe:
             pipe.write(text)
+            for done in range(len(text), count, MEGABYTE):
+                pipe.write(b" " * min(MEGABYTE, count - done))
     except BrokenPipeError:
         pass
 
@@ -89,9 +92,11 @@ def make(case, folder):
         path = os.path.join(folder, name)
         if kind == "folder":
             os.mkdir(path)
-        elif kind == "pipe":
+        elif kind in ("pipe", "long"):
+            count, name = name.split(" ", 1) if kind == "long" else (0, name)
+            path = os.path.join(folder, name)
             os.mkfifo(path)
-            feeders[path] = threading.Thread(target=feed, args=(path, read(os.path.join(case, "fed", name))))
+            feeders[path] = threading.Thread(target=feed, args=(path, read(os.path.join(case, "fed", name)), int(count)))
         elif kind == "closed":
             os.close(os.open(path, os.O_CREAT, 0o600))
             closed.append(path)

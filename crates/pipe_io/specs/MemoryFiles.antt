@@ -4,11 +4,13 @@ use Rattle.std.specs.declared.alloc.Global.{Global}
 use Rattle.pipe_columns.specs.Calls.{Calls}
 use Rattle.pipe_io.specs.Files.{Files}
 
--- named files, what is left of the one that is begun, and the calls of begin and read together
+-- named files, what is left of the one that is begun, the calls of begin and read together, and the
+-- names that were tried
 pub record HeldFiles : Type 0 where
   pub files : Files
   pub left : Option (List ℕ)
   pub calls : Calls
+  pub tried : List (List ℕ)
 
 -- the names and bytes of a list of files
 abbrev pub entries : List (List ℕ × Vec ℕ Global) → Files
@@ -29,3 +31,7 @@ begun_of s = is_some s.left
 -- how many calls failed
 abbrev pub faults_of : HeldFiles → ℕ
 faults_of s = s.calls.faults
+
+-- the names that were tried
+abbrev pub tried_of : HeldFiles → List (List ℕ)
+tried_of s = s.tried

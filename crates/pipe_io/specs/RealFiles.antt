@@ -1,10 +1,11 @@
 -- What contracts see of the real files and standard input.
-use Rattle.std.specs.Prelude.{ℕ, Bool}
+use Rattle.std.specs.Prelude.{ℕ, Bool, List}
 
--- whether a file or standard input is begun, and how many calls failed
+-- whether a file or standard input is begun, how many calls failed, and the names that were tried
 pub record SystemFiles : Type 0 where
   pub begun : Bool
   pub faults : ℕ
+  pub tried : List (List ℕ)
 
 -- whether a file or standard input is begun
 abbrev pub begun_of : SystemFiles → Bool
@@ -13,3 +14,7 @@ begun_of s = s.begun
 -- how many calls failed
 abbrev pub faults_of : SystemFiles → ℕ
 faults_of s = s.faults
+
+-- the names that were tried
+abbrev pub tried_of : SystemFiles → List (List ℕ)
+tried_of s = s.tried

@@ -1,6 +1,6 @@
 //! Where named files come from.
 
-ghost use Rattle.std.specs.Prelude.{◌≡◌, ◌<◌, List, ℕ, Bool, Option, true, false, length, OnOk, OnErr, IsErrOf, []};
+ghost use Rattle.std.specs.Prelude.{◌≡◌, ◌<◌, ◌++◌, ◌∷◌, List, ℕ, Bool, Option, true, false, length, OnOk, OnErr, IsErrOf, []};
 ghost use Rattle.std.specs.Io.{ReadsAtMost};
 ghost use Rattle.std.specs.Io.KnownBytes.{ReadConsumes};
 ghost use Rattle.std.specs.Thread.{IsSync};
@@ -36,6 +36,9 @@ pub trait InputFiles {
     /// How often the input failed.
     ghost faults: { Self → ℕ };
 
+    /// The name of each file that was to be begun, in order.
+    ghost tried: { Self → List (List ℕ) };
+
     /// Begins the first file of the name at its first byte.
     fn begin(&mut self, name: &Text) -> Result<(), InputError>
         ensures told { told self.new ≡ told self.old }
@@ -44,6 +47,7 @@ pub trait InputFiles {
         ensures missing { IsErrOf result input_error.NoFile → HasNone (told self.old) name.now }
         ensures no_fault { IsErrOf result input_error.NoFile → faults self.new ≡ faults self.old }
         ensures refused { OnErr result (begun self.new ≡ false) }
+        ensures tried { tried self.new ≡ tried self.old ++ name.now ∷ [] }
         ensures cause { HasCause (faults self.old) (faults self.new)
             (IsErrOf result input_error.Failed) };
 
@@ -62,6 +66,7 @@ pub trait InputFiles {
         ensures bound { ReadsAtMost result into.new }
         ensures bytes { ReadConsumes (left self.old) (left self.new) result into.new }
         ensures found { IsErrOf result input_error.NoFile → ⊥ }
+        ensures tried { tried self.new ≡ tried self.old }
         ensures cause { HasCause (faults self.old) (faults self.new)
             (IsErrOf result input_error.Failed) };
     /// Gives the next bytes of the begun file as `read` does, of which so many threads at most may
@@ -80,6 +85,7 @@ pub trait InputFiles {
         ensures bound { ReadsAtMost result into.new }
         ensures bytes { ReadConsumes (left self.old) (left self.new) result into.new }
         ensures found { IsErrOf result input_error.NoFile → ⊥ }
+        ensures tried { tried self.new ≡ tried self.old }
         ensures cause { HasCause (faults self.old) (faults self.new)
             (IsErrOf result input_error.Failed) }
     {

@@ -10,6 +10,8 @@ mod parts;
 mod piece;
 mod real_files;
 mod real_output;
+mod tried;
+mod tried_name;
 mod whole_file;
 
 pub use input::{InputError, InputFiles};
@@ -18,4 +20,5 @@ pub use memory_output::MemoryOutput;
 pub use output::{Output, OutputError, write_all};
 pub use real_files::RealFiles;
 pub use real_output::RealOutput;
+pub use tried::TriedNames;
 pub use whole_file::{FileEnd, MOST_FILE_BYTES, end_of, read_begun, read_file};

@@ -1,27 +1,29 @@
 //! Files in memory, which fail at listed calls.
 
-ghost use Rattle.std.specs.Prelude.{◌≡◌, ◌-◌, min, take, drop, ◌<◌, IfSome, IfNone, length, None, Some, List, ℕ, ◌↔◌, OnOk, OnErr, IsErrOf, IsTrue, true, false, []};
+ghost use Rattle.std.specs.Prelude.{◌≡◌, ◌++◌, ◌∷◌, ◌-◌, min, take, drop, ◌<◌, IfSome, IfNone, length, None, Some, List, ℕ, ◌↔◌, OnOk, OnErr, IsErrOf, IsTrue, true, false, []};
 ghost use Rattle.std.specs.Io.{ReadsAtMost};
 ghost use Rattle.std.specs.Io.KnownBytes.{ReadConsumes};
 ghost use Rattle.pipe_columns.specs.Calls.{after_call, is_listed, no_calls};
 ghost use Rattle.pipe_columns.specs.Causes.{HasCause};
 ghost use Rattle.pipe_io.specs.FilePlace.{rest_of};
 ghost use Rattle.pipe_io.specs.Files.{HasNone, IsRead, file_of};
-ghost use Rattle.pipe_io.specs.MemoryFiles.{begun_of, entries, faults_of, left_of, told_of};
+ghost use Rattle.pipe_io.specs.MemoryFiles.{begun_of, entries, faults_of, left_of, told_of, tried_of};
 ghost use Rattle.pipe_io.specs.declared.input.InputError.TheVariants as input_error;
 
 use crate::input::{InputError, InputFiles};
+use crate::tried::TriedNames;
 use pipe_columns::{FailingCalls, Text};
 use std::marker::Model;
 
 /// Named bytes, of which one file at a time is read. Contracts see the files, what is left of the
-/// begun one, and the calls.
+/// begun one, the calls, and the names that were tried.
 #[derive(Drop)]
 pub struct MemoryFiles {
     files: Vec<(Text, Vec<u8>)>,
     calls: FailingCalls,
     current: Option<usize>,
     at: usize,
+    tried: TriedNames,
 }
 
 impl Model for MemoryFiles {
@@ -35,6 +37,7 @@ impl Model for MemoryFiles {
       files = entries s.files.items;
       left = option_and_then (rest_of s.files.items s.at) s.current;
       calls = s.calls;
+      tried = s.tried;
     } };
 }
 
@@ -44,12 +47,14 @@ impl MemoryFiles {
         ensures files { result.files ≡ entries files.items }
         ensures idle { result.left ≡ None }
         ensures calls { result.calls ≡ no_calls failing.items }
+        ensures untried { result.tried ≡ [] }
     {
         MemoryFiles {
             files,
             calls: FailingCalls::new(failing),
             current: None,
             at: 0,
+            tried: TriedNames::none(),
         }
     }
 }
@@ -63,6 +68,8 @@ impl InputFiles for MemoryFiles {
 
     ghost faults = { faults_of };
 
+    ghost tried = { tried_of };
+
     fn begin(&mut self, name: &Text) -> Result<(), InputError>
         ensures told { told_of self.new ≡ told_of self.old }
         ensures started { OnOk result (begun_of self.new ≡ true) }
@@ -71,6 +78,7 @@ impl InputFiles for MemoryFiles {
         ensures no_fault { IsErrOf result input_error.NoFile
             → faults_of self.new ≡ faults_of self.old }
         ensures refused { OnErr result (begun_of self.new ≡ false) }
+        ensures tried { tried_of self.new ≡ tried_of self.old ++ name.now ∷ [] }
         ensures cause { HasCause (faults_of self.old) (faults_of self.new)
             (IsErrOf result input_error.Failed) }
         ensures fails_exactly { IsErrOf result input_error.Failed
@@ -79,6 +87,7 @@ impl InputFiles for MemoryFiles {
         ensures calls { self.new.calls ≡ after_call self.old.calls }
     {
         self.current = None;
+        self.tried.add(name);
         if self.calls.count() {
             return Err(InputError::Failed);
         }
@@ -100,6 +109,7 @@ impl InputFiles for MemoryFiles {
         ensures bound { ReadsAtMost result into.new }
         ensures bytes { ReadConsumes (left_of self.old) (left_of self.new) result into.new }
         ensures found { IsErrOf result input_error.NoFile → ⊥ }
+        ensures tried { tried_of self.new ≡ tried_of self.old }
         ensures cause { HasCause (faults_of self.old) (faults_of self.new)
             (IsErrOf result input_error.Failed) }
         ensures fails_exactly { IsErrOf result input_error.Failed

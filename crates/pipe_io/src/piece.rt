@@ -47,6 +47,7 @@ pub(crate) fn read_behind<I: InputFiles>(
         (take n (drop filled bytes.new))) }
     ensures end { IfOk result (λ n. n ≡ 0 → IsAtEnd (I.left input.new)) }
     ensures found { IsErrOf result input_error.NoFile → ⊥ }
+    ensures tried { I.tried input.new ≡ I.tried input.old }
     ensures cause { HasCause (I.faults input.old) (I.faults input.new)
         (IsErrOf result input_error.Failed) }
 {

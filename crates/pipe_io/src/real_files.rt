@@ -1,9 +1,10 @@
 //! The real files, and standard input as `-`.
 
-ghost use Rattle.std.specs.Prelude.{◌≡◌, false};
+ghost use Rattle.std.specs.Prelude.{◌≡◌, [], false};
 
 use crate::input::{InputError, InputFiles};
 use crate::parts::read_in_parts;
+use crate::tried::TriedNames;
 use pipe_columns::Text;
 use std::fs::{self, File, Files};
 use std::io::{ErrorKind, Read};
@@ -11,7 +12,7 @@ use std::marker::Model;
 use std::thread::Threads;
 
 /// The files of a runtime, and a reader for the name `-`. It tells none of their bytes. Contracts
-/// see whether one is begun, and the count of faults.
+/// see whether one is begun, the count of faults, and the names that were tried.
 #[derive(Drop)]
 pub struct RealFiles<'a, R: Files<File = File>, S> {
     rt: &'a R,
@@ -19,6 +20,7 @@ pub struct RealFiles<'a, R: Files<File = File>, S> {
     reads_stdin: bool,
     file: Option<File>,
     faults: u64,
+    tried: TriedNames,
 }
 
 impl<'a, R: Files<File = File>, S> Model for RealFiles<'a, R, S> {
@@ -27,7 +29,11 @@ impl<'a, R: Files<File = File>, S> Model for RealFiles<'a, R, S> {
 
     ghost Value = { SystemFiles };
 
-    ghost view = { λ s. record { begun = s.reads_stdin || is_some s.file; faults = s.faults } };
+    ghost view = { λ s. record {
+      begun = s.reads_stdin || is_some s.file;
+      faults = s.faults;
+      tried = s.tried;
+    } };
 }
 
 impl<'a, R: Files<File = File>, S: Read + Drop> RealFiles<'a, R, S> {
@@ -35,6 +41,7 @@ impl<'a, R: Files<File = File>, S: Read + Drop> RealFiles<'a, R, S> {
     pub fn new(rt: &'a R, stdin: S) -> RealFiles<'a, R, S>
         ensures idle { result.begun ≡ false }
         ensures no_fault { result.faults ≡ 0 }
+        ensures untried { result.tried ≡ [] }
     {
         RealFiles {
             rt,
@@ -42,13 +49,14 @@ impl<'a, R: Files<File = File>, S: Read + Drop> RealFiles<'a, R, S> {
             reads_stdin: false,
             file: None,
             faults: 0,
+            tried: TriedNames::none(),
         }
     }
 }
 
 impl<'a, R: Files<File = File>, S: Read + Drop> InputFiles for RealFiles<'a, R, S> {
     ghost use Rattle.std.specs.Prelude.{None};
-    ghost use Rattle.pipe_io.specs.RealFiles.{begun_of, faults_of};
+    ghost use Rattle.pipe_io.specs.RealFiles.{begun_of, faults_of, tried_of};
 
     ghost told = { λ s. None };
 
@@ -58,9 +66,12 @@ impl<'a, R: Files<File = File>, S: Read + Drop> InputFiles for RealFiles<'a, R, 
 
     ghost faults = { faults_of };
 
+    ghost tried = { tried_of };
+
     fn begin(&mut self, name: &Text) -> Result<(), InputError> {
         self.file = None;
         self.reads_stdin = false;
+        self.tried.add(name);
         if name.as_str() == "-" {
             self.reads_stdin = true;
             return Ok(());

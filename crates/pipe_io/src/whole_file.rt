@@ -1,6 +1,6 @@
 //! A file, read whole.
 
-ghost use Rattle.std.specs.Prelude.{◌≡◌, ◌<◌, ◌≤◌, ◌^◌, ◌+◌, List, ℕ, length, IfOk, IsErrOf, Some, take, true, vec_len};
+ghost use Rattle.std.specs.Prelude.{◌≡◌, ◌<◌, ◌≤◌, ◌^◌, ◌+◌, ◌++◌, ◌∷◌, [], List, ℕ, length, IfOk, IsErrOf, Some, take, true, vec_len};
 ghost use Rattle.pipe_columns.specs.Causes.{HasCause};
 ghost use Rattle.pipe_io.specs.Files.{HasNone, IsLarger, IsRead, IsWhole};
 ghost use Rattle.pipe_io.specs.declared.whole_file.FileEnd.TheVariants as file_end;
@@ -53,6 +53,7 @@ pub fn read_file<I: InputFiles>(
     ensures no_fault { IsErrOf result file_end.Missing → I.faults input.new ≡ I.faults input.old }
     ensures large { IsErrOf result file_end.TooLarge
         → IsLarger (I.told input.old) name.now MOST_FILE_BYTES }
+    ensures tried { I.tried input.new ≡ I.tried input.old ++ name.now ∷ [] }
     ensures cause { HasCause (I.faults input.old) (I.faults input.new)
         (IsErrOf result file_end.Failed) }
 {
@@ -80,6 +81,7 @@ pub fn read_begun<I: InputFiles>(
     ensures missing { IsErrOf result file_end.Missing → ⊥ }
     ensures large { IsErrOf result file_end.TooLarge
         → IsLarger (I.told input.old) name.now MOST_FILE_BYTES }
+    ensures tried { I.tried input.new ≡ I.tried input.old }
     ensures cause { HasCause (I.faults input.old) (I.faults input.new)
         (IsErrOf result file_end.Failed) }
 {

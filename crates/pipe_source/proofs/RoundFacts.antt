@@ -1,5 +1,5 @@
 -- Chunks that are read of one file after another.
-use Rattle.std.proofs.Common.{◌≡◌, ◌∙◌, ◌≤◌, ◌<◌, ◌+◌, ◌-◌, ◌*◌, ℕ, zero, suc, List, [], ◌∷◌, ◌++◌, length, map, min, Option, Some, None, refl, sym, ap, arith, subst, append_assoc, zero-mul}
+use Rattle.std.proofs.Common.{◌≡◌, ◌∙◌, ◌≤◌, ◌<◌, ◌+◌, ◌-◌, ◌*◌, ℕ, zero, suc, List, [], ◌∷◌, ◌++◌, length, map, min, Option, Some, None, refl, sym, ap, arith, subst, append_assoc, zero-mul, ◌⊎◌, ⊎_elim}
 use Rattle.std.specs.Option.{IfSome}
 use Rattle.std.specs.List.{All, range_with_len}
 use Rattle.std.proofs.lemmas.List.{append-nil, length-append, length-map}
@@ -173,49 +173,37 @@ pub none-ahead : (what : Reading) (told : Option Files) (first last : SourcePlac
 none-ahead what None first last ahead s h = tt
 none-ahead what (Some files) first last ahead s h = s ∙ h
 
--- a stop behind some chunks is one within more of them
-stop-then : (n : ℕ) (stop : Stop) (more : List DataChunk) (whole rest : CsvChunks) → whole ≡ chunks_then more rest → rest ≡ stopped stop → length more < n → HasStop n stop whole
-stop-then n stop more whole rest w r l =
-    let same : whole ≡ chunks_then more (stopped stop) = w ∙ ap (chunks_then more) r in
-    let count : length (more ++ []) ≡ length more = ap length (append-nil more) in
-    rw same (refl, omega (arith, count))
+-- a stop behind chunks that were read, which are few
+stop-then : (n : ℕ) (stop : Stop) (before more now : List DataChunk) (first last : CsvChunks) → first ≡ chunks_then more last → now ≡ before ++ more → last ≡ stopped stop → length now < n → HasStop n stop now (chunks_then before first)
+stop-then n stop before more now first last f p l few = (
+  ap (chunks_then before) (f ∙ ap (chunks_then more) l) ∙ ap (λ (cs : List DataChunk). record { chunks = before ++ cs; stop = Some stop }) (append-nil more)
+      ∙ ap (λ (cs : List DataChunk). record { chunks = cs; stop = Some stop }) (sym p),
+  few,
+)
 
-stops-then : (e : CsvError) (n : ℕ) (more : List DataChunk) (whole rest : CsvChunks) → whole ≡ chunks_then more rest → length more < n → StopsAt e rest → StopsWithin n e whole
-stops-then (ce.Missing file) n more whole rest w l s = stop-then n _ more whole rest w s l
-stops-then (ce.Header file) n more whole rest w l s = stop-then n _ more whole rest w s l
-stops-then (ce.Width file row) n more whole rest w l s = stop-then n _ more whole rest w s l
-stops-then (ce.Field file row column) n more whole rest w l s = stop-then n _ more whole rest w s l
-stops-then ce.Input n more whole rest w l s = tt
-stops-then ce.TooLarge n more whole rest w l s = stop-then n _ more whole rest w s l
-stops-then ce.Memory n more whole rest w l s = tt
+stops-then : (e : CsvError) (n : ℕ) (before more now : List DataChunk) (first last : CsvChunks) → first ≡ chunks_then more last → now ≡ before ++ more → length now < n → StopsAt e last → StopsWithin n e now (chunks_then before first)
+stops-then (ce.Missing file) n before more now first last f p few s = stop-then n _ before more now first last f p s few
+stops-then (ce.Header file) n before more now first last f p few s = stop-then n _ before more now first last f p s few
+stops-then (ce.Width file row) n before more now first last f p few s = stop-then n _ before more now first last f p s few
+stops-then (ce.Field file row column) n before more now first last f p few s = stop-then n _ before more now first last f p s few
+stops-then ce.Input n before more now first last f p few s = tt
+stops-then ce.TooLarge n before more now first last f p few s = stop-then n _ before more now first last f p s few
+stops-then ce.Memory n before more now first last f p few s = tt
+
+-- where memory wants nothing is said, and else no chunk came behind those that were read
+stops-kept : (e : CsvError) (n : ℕ) (now new : List DataChunk) (whole : CsvChunks) → (e ≡ ce.Memory) ⊎ (new ≡ now) → StopsWithin n e now whole → StopsWithin n e new whole
+stops-kept e n now new whole kept h = ⊎_elim
+    (λ memory. subst (λ (x : CsvError). StopsWithin n x new whole) (sym memory) tt)
+    (λ same. subst (λ (cs : List DataChunk). StopsWithin n e cs whole) (sym same) h)
+    kept
 
 -- the files stop behind what was read
-pub stops-behind : (what : Reading) (told : Option Files) (first last : SourcePlace) (before now : List DataChunk) (count : ℕ) (ahead : Option KeptText) (e : CsvError)
-    → HasReadOn what told first before now ahead → StandsAt what told first ahead last → length now < count → IfSome told (λ files. StopsAt e (left_of files (state_behind what last)))
-    → IfSome told (λ files. StopsWithin (count - length before) e (left_of files (state_behind what first)))
-stops-behind what None first last before now count ahead e r s l h = tt
-stops-behind what (Some files) first last before now count ahead e r s l h =
-    let many : length now ≡ length before + length r.more = ap length r.pushed ∙ length-append before r.more in
-    stops-then e (count - length before) r.more _ _ (r.left ∙ ap (chunks_then r.more) s) (omega arith) h
-
--- and behind the first chunks that were read of a text
-pub stops-first : (told : Option Files) (more : List DataChunk) (whole rest : Files → CsvChunks) (count : ℕ) (e : CsvError)
-    → IfSome told (λ files. whole files ≡ chunks_then more (rest files)) → length more < count → IfSome told (λ files. StopsWithin (count - length more) e (rest files)) → IfSome told (λ files. StopsWithin count e (whole files))
-stops-first None more whole rest count e w l h = tt
-stops-first (Some files) more whole rest count e w l h = within e h where
-  stop : (s : Stop) → HasStop (count - length more) s (rest files) → HasStop count s (whole files)
-  stop s k =
-      let many : length (more ++ (rest files).chunks) ≡ length more + length (rest files).chunks = length-append more (rest files).chunks in
-      rw w (k.0, omega (arith, many, k.1))
-
-  within : (e : CsvError) → StopsWithin (count - length more) e (rest files) → StopsWithin count e (whole files)
-  within (ce.Missing file) k = stop _ k
-  within (ce.Header file) k = stop _ k
-  within (ce.Width file row) k = stop _ k
-  within (ce.Field file row column) k = stop _ k
-  within ce.Input k = tt
-  within ce.TooLarge k = stop _ k
-  within ce.Memory k = tt
+pub stops-behind : (what : Reading) (told : Option Files) (first last : SourcePlace) (before now new : List DataChunk) (count : ℕ) (ahead : Option KeptText) (e : CsvError)
+    → HasReadOn what told first before now ahead → StandsAt what told first ahead last → length now < count → (e ≡ ce.Memory) ⊎ (new ≡ now) → IfSome told (λ files. StopsAt e (left_of files (state_behind what last)))
+    → IfSome told (λ files. StopsWithin count e new (chunks_then before (left_of files (state_behind what first))))
+stops-behind what None first last before now new count ahead e r s few kept h = tt
+stops-behind what (Some files) first last before now new count ahead e r s few kept h =
+    stops-kept e count now new _ kept (stops-then e count before r.more now _ _ (r.left ∙ ap (chunks_then r.more) s) r.pushed few h)
 
 -- ---- a round
 
@@ -291,10 +279,9 @@ told-first None what n old new chunks reading k a w c = tt
 told-first (Some files) what n old new chunks reading k a w c = rw c (chunks-given files what n old new reading k a w)
 
 -- and what stops behind it stops the round
-pub round-stops : (told : Option Files) (what : Reading) (k : KeptText) (n count : ℕ) (chunks : List DataChunk) (e : CsvError) → IsReading what → IsKept what k → n ≡ length k.starts.items - k.chunk → chunks ≡ chunks_at what k n → length chunks < count
-    → IfSome told (λ files. StopsWithin (count - length chunks) e (left_of files (state_behind what (place_past k)))) → IfSome told (λ files. StopsWithin count e (left_of files (state_of what k)))
-round-stops told what k n count chunks e reading kept all c few h =
-    stops-first told chunks (λ files. left_of files (state_of what k)) (λ files. left_of files (state_behind what (place_past k))) count e (given told) few h where
-      given : (told : Option Files) → IfSome told (λ files. left_of files (state_of what k) ≡ chunks_then chunks (left_of files (state_behind what (place_past k))))
-      given None = tt
-      given (Some files) = rw c (past-given files what k n reading kept all)
+pub round-stops : (told : Option Files) (what : Reading) (k : KeptText) (n count : ℕ) (chunks now : List DataChunk) (e : CsvError) → IsReading what → IsKept what k → n ≡ length k.starts.items - k.chunk → chunks ≡ chunks_at what k n
+    → IfSome told (λ files. StopsWithin count e now (chunks_then chunks (left_of files (state_behind what (place_past k))))) → IfSome told (λ files. StopsWithin count e now (left_of files (state_of what k)))
+round-stops None what k n count chunks now e reading kept all c h = tt
+round-stops (Some files) what k n count chunks now e reading kept all c h =
+    let given : left_of files (state_of what k) ≡ chunks_then chunks (left_of files (state_behind what (place_past k))) = rw c (past-given files what k n reading kept all) in
+    subst (StopsWithin count e now) (sym given) h

@@ -1,9 +1,10 @@
 //! What reads the chunks of named files, one after another.
 
-ghost use Rattle.std.specs.Prelude.{◌≡◌, ◌⊎◌, ◌<◌, ◌≤◌, ◌+◌, ◌%◌, ◌^◌, [], IfErr, IfOk, IfSome, IsErrOf, List, OnErr, Some, All, length, vec_len};
+ghost use Rattle.std.specs.Prelude.{◌≡◌, ◌⊎◌, ◌<◌, ◌≤◌, ◌+◌, ◌%◌, ◌^◌, [], IfErr, IfOk, IfSome, IsErrAnd, IsErrOf, List, OnErr, Some, All, length, true, vec_len};
 ghost use Rattle.pipe_columns.specs.Causes.{HasCause};
 ghost use Rattle.pipe_columns.specs.Frame.{FitsSchema};
 ghost use Rattle.pipe_io.specs.Files.{Files};
+ghost use Rattle.pipe_io.specs.Tried.{AreTried, TriedFront};
 ghost use Rattle.pipe_source.specs.CsvChunks.{chunks_then, csv_chunks, narrowed, no_more, source_fields};
 ghost use Rattle.pipe_source.specs.Next.{IsLoadedNext};
 ghost use Rattle.pipe_source.specs.Rounds.{StopsWithin};
@@ -62,6 +63,7 @@ impl ChunkReader {
         requires size { 0 < options.chunk_size }
         ensures left { (files : Files)
             → left_of files result ≡ csv_chunks files names.items schema options }
+        ensures names { result.names ≡ names.items }
         ensures schema { result.schema ≡ schema }
         ensures options { result.options ≡ options }
         ensures fields { given_fields result ≡ source_fields options schema }
@@ -94,6 +96,7 @@ impl ChunkReader {
         ensures left { IfOk result (λ r. (files : Files)
             → left_of files r
             ≡ narrowed options wanted.items (csv_chunks files names.items schema options)) }
+        ensures names { IfOk result (λ r. r.names ≡ names.items) }
         ensures schema { IfOk result (λ r. r.schema ≡ schema) }
         ensures wanted { IfOk result (λ r. r.wanted ≡ wanted.items) }
         ensures options { IfOk result (λ r. r.options ≡ options) }
@@ -124,6 +127,9 @@ impl ChunkReader {
             (λ b. IsLoadedNext b (I.told input.old) self.old self.new) }
         ensures stopped { IfErr result (λ e. IfSome (I.told input.old)
             (λ files. StopsAt e (left_of files self.old))) }
+        ensures tried { TriedFront (I.tried input.old) (I.tried input.new) self.old.names }
+        ensures gone { IfOk result (λ b. b ≡ true
+            → AreTried (I.tried input.old) (I.tried input.new) self.old.names self.new.names) }
         ensures as_before { OnErr result (self.new ≡ self.old) }
         ensures cause { HasCause (I.faults input.old) (I.faults input.new)
             (IsErrOf result csv_error.Input) }
@@ -150,6 +156,7 @@ impl ChunkReader {
             → Gives (Some c) (left_of files self.old) (left_of files self.new)) }
         ensures as_before { OnErr result (self.new ≡ self.old) }
         ensures memory { IfErr result (λ e. e ≡ csv_error.Memory) }
+        ensures names { self.new.names ≡ self.old.names }
         ensures schema { self.new.schema ≡ self.old.schema }
         ensures wanted { self.new.wanted ≡ self.old.wanted }
         ensures options { self.new.options ≡ self.old.options }
@@ -170,8 +177,8 @@ impl ChunkReader {
     }
 
     /// The next chunk. A file is read whole when its first chunk is wanted, and begun only where
-    /// rows are still wanted. A refused call leaves what is left; where memory wants for a chunk, the
-    /// text is kept.
+    /// rows are still wanted, each once, in order. A refused call leaves what is left; where memory
+    /// wants for a chunk, the text is kept.
     pub fn next_chunk<I: InputFiles>(
         &mut self,
         alloc: Global,
@@ -185,6 +192,9 @@ impl ChunkReader {
         ensures refused { OnErr result (IfSome (I.told input.old)
             (λ files. left_of files self.new ≡ left_of files self.old)) }
         ensures as_before { IfErr result (λ e. (e ≡ csv_error.Memory) ⊎ (self.new ≡ self.old)) }
+        ensures tried { TriedFront (I.tried input.old) (I.tried input.new) self.old.names }
+        ensures gone { IfOk result (λ o. IfSome o (λ _.
+            AreTried (I.tried input.old) (I.tried input.new) self.old.names self.new.names)) }
         ensures cause { HasCause (I.faults input.old) (I.faults input.new)
             (IsErrOf result csv_error.Input) }
         ensures schema { self.new.schema ≡ self.old.schema }
@@ -226,8 +236,8 @@ impl ChunkReader {
     }
 
     /// The next so many chunks, as so many calls of `next_chunk` would give them, read side by side
-    /// in threads. There are fewer only where none is left. Where a call would be refused, that
-    /// alone is answered, and the reader is as before.
+    /// in threads. There are fewer only where none is left. Where a call would be refused, that is
+    /// answered, with the chunks before it where the files stop there, and the reader is as before.
     pub fn get_round<I: InputFiles, H: Threads + Sync>(
         &mut self,
         rt: &H,
@@ -235,7 +245,7 @@ impl ChunkReader {
         input: &mut I,
         count: usize,
         threads: usize,
-    ) -> Result<Vec<DataChunk>, CsvError>
+    ) -> Result<Vec<DataChunk>, (CsvError, Vec<DataChunk>)>
         requires { 0 < threads }
         ensures told { I.told input.new ≡ I.told input.old }
         ensures given { IfOk result (λ v. IfSome (I.told input.old) (λ files.
@@ -244,10 +254,13 @@ impl ChunkReader {
         ensures over { IfOk result (λ v. length v.items < count
             → IfSome (I.told input.old) (λ files. left_of files self.new ≡ no_more)) }
         ensures stopped { IfErr result (λ e. IfSome (I.told input.old)
-            (λ files. StopsWithin count e (left_of files self.old))) }
+            (λ files. StopsWithin count e.0 e.1.items (left_of files self.old))) }
+        ensures tried { TriedFront (I.tried input.old) (I.tried input.new) self.old.names }
+        ensures gone { IfOk result (λ v. count ≤ length v.items
+            → AreTried (I.tried input.old) (I.tried input.new) self.old.names self.new.names) }
         ensures as_before { OnErr result (self.new ≡ self.old) }
         ensures cause { HasCause (I.faults input.old) (I.faults input.new)
-            (IsErrOf result csv_error.Input) }
+            (IsErrAnd result (λ e. e.0 ≡ csv_error.Input)) }
         ensures fields { given_fields self.new ≡ given_fields self.old }
         ensures fit { IfOk result (λ v.
             All (λ c. FitsSchema (given_fields self.old) c.frame) v.items) }
@@ -257,7 +270,7 @@ impl ChunkReader {
             .what
             .chunks_of(rt, alloc, &self.text, some, threads, &mut self.spent)
         else {
-            return Err(CsvError::Memory);
+            return Err((CsvError::Memory, Vec::new(alloc)));
         };
         if some == count {
             self.text.advance(some, self.what.options.chunk_size);
@@ -282,7 +295,7 @@ impl ChunkReader {
                 self.text.advance(some, self.what.options.chunk_size);
                 Ok(chunks)
             }
-            Err(error) => Err(error),
+            Err(error) => Err((error, chunks)),
         }
     }
 }

@@ -1,8 +1,10 @@
 //! A source of the chunks of named files of an input.
 
-ghost use Rattle.std.specs.Prelude.{◌≡◌, ◌⊎◌, ◌<◌, ◌≤◌, codes, length, vec_len, IfErr, IfOk, IfSome, IsErrOf, OnErr};
+ghost use Rattle.std.specs.Prelude.{◌≡◌, ◌⊎◌, ◌<◌, ◌≤◌, codes, length, vec_len, IfErr, IfOk, IfSome, IsErrAnd, IsErrOf, OnErr};
 ghost use Rattle.pipe_columns.specs.Causes.{HasCause};
 ghost use Rattle.pipe_columns.specs.Chunks.{GaveFirst};
+ghost use Rattle.pipe_columns.specs.declared.source.SourceResult.TheVariants as source;
+ghost use Rattle.pipe_io.specs.Tried.{AreTried, TriedFront};
 ghost use Rattle.pipe_csv.specs.declared.csv_error.CsvError.TheVariants as csv_error;
 ghost use Rattle.pipe_source.specs.CsvChunks.{chunks_then, csv_chunks, narrowed, no_more};
 ghost use Rattle.pipe_source.specs.Reader.{StopsAt, left_of};
@@ -38,6 +40,8 @@ impl<'a, I: InputFiles> CsvSource<'a, I> {
         ensures same_input { result.input.ghost_name ≡ input.entry.ghost_name }
         ensures told { I.told result.input.now ≡ I.told input.old }
         ensures faults { I.faults result.input.now ≡ I.faults input.old }
+        ensures tried { I.tried result.input.now ≡ I.tried input.old }
+        ensures names { result.reader.names ≡ names.items }
         ensures left { IfSome (I.told input.old) (λ files.
             left_of files result.reader ≡ csv_chunks files names.items schema options) }
     {
@@ -65,6 +69,8 @@ impl<'a, I: InputFiles> CsvSource<'a, I> {
             (λ s. s.input.ghost_name ≡ input.entry.ghost_name) }
         ensures told { IfOk result (λ s. I.told s.input.now ≡ I.told input.old) }
         ensures faults { IfOk result (λ s. I.faults s.input.now ≡ I.faults input.old) }
+        ensures tried { IfOk result (λ s. I.tried s.input.now ≡ I.tried input.old) }
+        ensures names { IfOk result (λ s. s.reader.names ≡ names.items) }
         ensures left { IfOk result (λ s. IfSome (I.told input.old) (λ files.
             left_of files s.reader
             ≡ narrowed options wanted.items (csv_chunks files names.items schema options))) }
@@ -79,13 +85,14 @@ impl<'a, I: InputFiles> CsvSource<'a, I> {
 
     /// The next so many chunks, as so many calls of `get_batches` would give them, read side by
     /// side in threads. There are fewer only where none is left. Where a call would be refused,
-    /// that alone is answered, and the source is as before.
+    /// that is answered, with the chunks before it where the files stop there, and the source is as
+    /// before.
     pub fn get_round<H: Threads + Sync>(
         &mut self,
         rt: &H,
         count: usize,
         threads: usize,
-    ) -> Result<Vec<DataChunk>, CsvError>
+    ) -> Result<Vec<DataChunk>, (CsvError, Vec<DataChunk>)>
         requires { 0 < threads }
         ensures given { IfOk result (λ v. IfSome (I.told self.old.input.now) (λ files.
             left_of files self.old.reader
@@ -95,11 +102,16 @@ impl<'a, I: InputFiles> CsvSource<'a, I> {
             → IfSome (I.told self.old.input.now)
             (λ files. left_of files self.new.reader ≡ no_more)) }
         ensures stopped { IfErr result (λ e. IfSome (I.told self.old.input.now)
-            (λ files. StopsWithin count e (left_of files self.old.reader))) }
+            (λ files. StopsWithin count e.0 e.1.items (left_of files self.old.reader))) }
+        ensures tried { TriedFront (I.tried self.old.input.now) (I.tried self.new.input.now)
+            self.old.reader.names }
+        ensures gone { IfOk result (λ v. count ≤ length v.items
+            → AreTried (I.tried self.old.input.now) (I.tried self.new.input.now)
+            self.old.reader.names self.new.reader.names) }
         ensures as_before { OnErr result (self.new.reader ≡ self.old.reader) }
         ensures told { I.told self.new.input.now ≡ I.told self.old.input.now }
         ensures cause { HasCause (I.faults self.old.input.now) (I.faults self.new.input.now)
-            (IsErrOf result csv_error.Input) }
+            (IsErrAnd result (λ e. e.0 ≡ csv_error.Input)) }
         ensures same_input { self.new.input.ghost_name ≡ self.old.input.ghost_name }
     {
         self.reader
@@ -126,6 +138,11 @@ impl<I: InputFiles> Source for CsvSource<'_, I> {
             (λ files. left_of files self.new.reader ≡ left_of files self.old.reader)) }
         ensures as_before { IfErr result (λ e.
             (e ≡ csv_error.Memory) ⊎ (self.new.reader ≡ self.old.reader)) }
+        ensures tried { TriedFront (I.tried self.old.input.now) (I.tried self.new.input.now)
+            self.old.reader.names }
+        ensures gone { IfOk result (λ r. (r ≡ source.Finished)
+            ⊎ AreTried (I.tried self.old.input.now) (I.tried self.new.input.now)
+            self.old.reader.names self.new.reader.names) }
         ensures told { I.told self.new.input.now ≡ I.told self.old.input.now }
         ensures cause { HasCause (I.faults self.old.input.now) (I.faults self.new.input.now)
             (IsErrOf result csv_error.Input) }

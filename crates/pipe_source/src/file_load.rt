@@ -1,9 +1,10 @@
 //! Files that are read whole, up to the first that has rows.
 
-ghost use Rattle.std.specs.Prelude.{◌≡◌, ◌≤◌, ◌<◌, ◌^◌, ◌↔◌, IfErr, IfOk, IsErrOf, length, true};
+ghost use Rattle.std.specs.Prelude.{◌≡◌, ◌≤◌, ◌<◌, ◌^◌, ◌↔◌, ◌+◌, ◌++◌, ◌∷◌, [], drop, IfErr, IfOk, IfSome, IsErrOf, length, true};
 ghost use Rattle.pipe_columns.specs.Causes.{HasCause};
 ghost use Rattle.pipe_csv.specs.declared.csv_error.CsvError.TheVariants as csv_error;
 ghost use Rattle.pipe_io.specs.Files.{HasNone, IsLarger, IsWhole};
+ghost use Rattle.pipe_io.specs.Tried.{AreTried, TriedFront};
 ghost use Rattle.pipe_io.specs.declared.whole_file.FileEnd.TheVariants as file_end;
 ghost use Rattle.pipe_source.specs.CsvChunks.{is_any_wanted, is_numbered, wanted_after};
 ghost use Rattle.pipe_source.specs.Found.{Finds, StopsFrom};
@@ -55,6 +56,7 @@ pub(crate) fn read_text<I: InputFiles, L: Looks>(
     ensures missing { IsErrOf result file_end.Missing → HasNone (I.told input.old) name.now }
     ensures large { IsErrOf result file_end.TooLarge
         → IsLarger (I.told input.old) name.now MOST_FILE_BYTES }
+    ensures tried { I.tried input.new ≡ I.tried input.old ++ name.now ∷ [] }
     ensures cause { HasCause (I.faults input.old) (I.faults input.new)
         (IsErrOf result file_end.Failed) }
 {
@@ -86,6 +88,7 @@ fn load_file<I: InputFiles, L: Looks>(
         (λ f. IsLoaded options.now fields.now at (I.told input.old) name.now f) }
     ensures stop { IfErr result
         (λ e. StopsTold e options.now fields.now at (I.told input.old) name.now) }
+    ensures tried { I.tried input.new ≡ I.tried input.old ++ name.now ∷ [] }
     ensures cause { HasCause (I.faults input.old) (I.faults input.new)
         (IsErrOf result csv_error.Input) }
 {
@@ -132,6 +135,9 @@ pub(crate) fn find_rows<I: InputFiles, L: Looks>(
         Finds options.now fields.now (I.told input.old) names.now last o) }
     ensures stop { IfErr result (λ e.
         StopsFrom e options.now fields.now (I.told input.old) names.now last) }
+    ensures tried { TriedFront (I.tried input.old) (I.tried input.new) (drop last.file names.now) }
+    ensures gone { IfOk result (λ o. IfSome o (λ found. AreTried (I.tried input.old)
+        (I.tried input.new) (drop last.file names.now) (drop (found.0 + 1) names.now))) }
     ensures cause { HasCause (I.faults input.old) (I.faults input.new)
         (IsErrOf result csv_error.Input) }
 {

@@ -48,6 +48,7 @@ pub(crate) trait Looks {
         ensures read { IfOk result (λ r.
             IsRead (I.told input.old) name.now (I.left input.new) (take r.1 r.0.items)) }
         ensures found { IsErrOf result input_error.NoFile → ⊥ }
+        ensures tried { I.tried input.new ≡ I.tried input.old }
         ensures cause { HasCause (I.faults input.old) (I.faults input.new)
             (IsErrOf result input_error.Failed) };
 

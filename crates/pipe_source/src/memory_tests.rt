@@ -156,7 +156,7 @@ fn add_round<H: Threads + Sync>(
             }
             Ok(chunks.len() >= 3)
         }
-        Err(CsvError::Memory) => {
+        Err((CsvError::Memory, _)) => {
             so_far.refused = true;
             Ok(true)
         }

@@ -3,6 +3,7 @@
 ghost use Rattle.std.specs.Prelude.{◌≡◌, ◌<◌, ◌*◌, IfErr, IfOk, IfSome, IsErrOf};
 ghost use Rattle.pipe_columns.specs.Causes.{HasCause};
 ghost use Rattle.pipe_csv.specs.declared.csv_error.CsvError.TheVariants as csv_error;
+ghost use Rattle.pipe_io.specs.Tried.{AreTried, TriedFront};
 ghost use Rattle.pipe_source.specs.Kept.{IsKept, IsPlace, IsReading, chunk_at, state_behind};
 ghost use Rattle.pipe_source.specs.Next.{IsNextText};
 ghost use Rattle.pipe_source.specs.Reader.{StopsAt, left_of};
@@ -63,6 +64,11 @@ impl Reading {
         ensures found { IfOk result (λ o. IsNextText self.now (I.told input.old) last o) }
         ensures stopped { IfErr result (λ e. IfSome (I.told input.old)
             (λ files. StopsAt e (left_of files (state_behind self.now last)))) }
+        ensures tried { TriedFront (I.tried input.old) (I.tried input.new)
+            (state_behind self.now last).names }
+        ensures gone { IfOk result (λ o. IfSome o (λ k. AreTried (I.tried input.old)
+            (I.tried input.new) (state_behind self.now last).names
+            (state_behind self.now k.at).names)) }
         ensures cause { HasCause (I.faults input.old) (I.faults input.new)
             (IsErrOf result csv_error.Input) }
     {

@@ -18,7 +18,7 @@ struct Hinted {
 }
 
 impl InputFiles for Hinted {
-    ghost use Rattle.pipe_io.specs.MemoryFiles.{begun_of, faults_of, left_of, told_of};
+    ghost use Rattle.pipe_io.specs.MemoryFiles.{begun_of, faults_of, left_of, told_of, tried_of};
 
     ghost told = { λ h. told_of h.files };
 
@@ -27,6 +27,8 @@ impl InputFiles for Hinted {
     ghost begun = { λ h. begun_of h.files };
 
     ghost faults = { λ h. faults_of h.files };
+
+    ghost tried = { λ h. tried_of h.files };
 
     fn begin(&mut self, name: &Text) -> Result<(), InputError> {
         self.files.begin(name)

@@ -1,11 +1,12 @@
 //! Chunks that are read side by side.
 
-ghost use Rattle.std.specs.Prelude.{◌≡◌, ◌≤◌, ◌<◌, ◌+◌, ◌-◌, ◌++◌, ◌∷◌, [], All, IfErr, IfOk, IfSome, IsErrOf, List, Ok, OnOk, length, map, slice_index_or, ℕ, ◌*◌};
+ghost use Rattle.std.specs.Prelude.{◌≡◌, ◌≤◌, ◌<◌, ◌+◌, ◌++◌, ◌∷◌, [], All, ◌⊎◌, IfErr, IfOk, IfSome, IsErrOf, List, Ok, OnOk, length, map, slice_index_or, ℕ, ◌*◌};
 ghost use Rattle.pipe_columns.specs.declared.data_chunk.DataChunk.{DataChunk};
 ghost use Rattle.pipe_columns.specs.Causes.{HasCause};
 ghost use Rattle.pipe_columns.specs.Frame.{FitsSchema};
 ghost use Rattle.pipe_csv.specs.declared.csv_error.CsvError.TheVariants as csv_error;
-ghost use Rattle.pipe_source.specs.CsvChunks.{no_more};
+ghost use Rattle.pipe_io.specs.Tried.{AreTried, TriedFront};
+ghost use Rattle.pipe_source.specs.CsvChunks.{chunks_then, no_more};
 ghost use Rattle.pipe_source.specs.Kept.{IsKept, IsPlace, IsReading, chunk_at, chunks_at, state_behind};
 ghost use Rattle.pipe_source.specs.Reader.{StopsAt, left_of};
 ghost use Rattle.pipe_source.specs.ReadOn.{HasReadNextText, HasReadOn, state_ahead};
@@ -174,6 +175,13 @@ impl Reading {
             chunks.old.items chunks.new.items count o) }
         ensures stopped { IfErr result (λ e. IfSome (I.told input.old)
             (λ files. StopsAt e (left_of files (state_behind self.now last)))) }
+        ensures kept { IfErr result (λ e. (e ≡ csv_error.Memory)
+            ⊎ (chunks.new.items ≡ chunks.old.items)) }
+        ensures tried { TriedFront (I.tried input.old) (I.tried input.new)
+            (state_behind self.now last).names }
+        ensures gone { IfOk result (λ o. IfSome o (λ k. AreTried (I.tried input.old)
+            (I.tried input.new) (state_behind self.now last).names
+            (state_behind self.now k.at).names)) }
         ensures cause { HasCause (I.faults input.old) (I.faults input.new)
             (IsErrOf result csv_error.Input) }
     {
@@ -199,7 +207,8 @@ impl Reading {
     }
 
     /// Adds chunks of the files behind a place, so many in all at most, and tells what is left of
-    /// the text that was read last, if one was. There are fewer only where none is left.
+    /// the text that was read last, if one was. There are fewer only where none is left. Where the
+    /// files stop, the chunks before the stop are added.
     pub(crate) fn read_on<I: InputFiles, H: Threads + Sync>(
         &self,
         rt: &H,
@@ -223,8 +232,13 @@ impl Reading {
             → IfSome (I.told input.old)
             (λ files. left_of files (state_ahead self.now first o) ≡ no_more)) }
         ensures stopped { IfErr result (λ e. IfSome (I.told input.old)
-            (λ files. StopsWithin (count - length chunks.old.items) e
-            (left_of files (state_behind self.now first)))) }
+            (λ files. StopsWithin count e chunks.new.items
+            (chunks_then chunks.old.items (left_of files (state_behind self.now first))))) }
+        ensures tried { TriedFront (I.tried input.old) (I.tried input.new)
+            (state_behind self.now first).names }
+        ensures gone { IfOk result (λ o. count ≤ length chunks.new.items
+            → AreTried (I.tried input.old) (I.tried input.new)
+            (state_behind self.now first).names (state_ahead self.now first o).names) }
         ensures cause { HasCause (I.faults input.old) (I.faults input.new)
             (IsErrOf result csv_error.Input) }
     {

@@ -67,7 +67,7 @@ fn show_round<I: InputFiles, H: Threads + Sync>(
             show_chunks(shown, &chunks)?;
             Ok(chunks.len() >= count)
         }
-        Err(CsvError::Input) => Ok(true),
+        Err((CsvError::Input, _)) => Ok(true),
         Err(_) => Err(AllocError),
     }
 }

@@ -195,8 +195,8 @@ pub(crate) fn show_chunks(shown: &mut String, chunks: &[DataChunk]) -> Result<()
     Ok(())
 }
 
-/// Shows the next round of so many chunks, whose memory the next one takes, or the refusal at which
-/// the reading ends; whether more may come. An input that failed is asked again.
+/// Shows the next round of so many chunks, whose memory the next one takes, or the chunks before the
+/// refusal at which the reading ends, and that; whether more may come. An input that failed is asked again.
 fn show_round<H: Threads + Sync>(
     rt: &H,
     alloc: Global,
@@ -217,9 +217,10 @@ fn show_round<H: Threads + Sync>(
             }
             Ok(is_whole)
         }
-        Err(pipe_csv::CsvError::Input) => Ok(true),
-        Err(pipe_csv::CsvError::Memory) => Err(AllocError),
-        Err(error) => {
+        Err((pipe_csv::CsvError::Input, _)) => Ok(true),
+        Err((pipe_csv::CsvError::Memory, _)) => Err(AllocError),
+        Err((error, chunks)) => {
+            show_chunks(shown, &chunks)?;
             write!(shown, "{error:?}")?;
             Ok(false)
         }
@@ -311,7 +312,7 @@ fn rounds_are_calls(rt: HostRuntime) -> Result<(), Fail> {
     Ok(())
 }
 
-/// Files that stop a round, and what rounds of two chunks give before it.
+/// Files that stop a round, and what rounds give before it.
 const STOPS: [(&str, &str); 3] = [
     (
         "k,v\n1,5\n2,x\n",
@@ -324,20 +325,27 @@ const STOPS: [(&str, &str); 3] = [
     ("k\n", "[0 k 1 v 5][1 k 2 v 6]Header { file: 2 }"),
 ];
 
-/// The rounds of two chunks of two files, of which the second has a text.
-fn rounds_to<H: Threads + Sync>(rt: &H, alloc: Global, second: &str) -> Result<String, Fail> {
+/// The rounds of so many chunks of two files, of which the second has a text.
+fn rounds_to<H: Threads + Sync>(
+    rt: &H,
+    alloc: Global,
+    second: &str,
+    count: usize,
+) -> Result<String, Fail> {
     let files = [("a", "k,v\n1,5\n2,6\n"), ("b", second)];
     let reader = reader_of(alloc, &["a", "b"], plain(1, None))?;
     let input = memory_files(alloc, &files, &[])?;
-    read_rounds(rt, alloc, reader, input, 2, 2)
+    read_rounds(rt, alloc, reader, input, count, 2)
 }
 
 #[test]
 fn rounds_up_to_a_stop(rt: HostRuntime) -> Result<(), Fail> {
     let alloc = rt.alloc();
     for stop in STOPS {
-        let shown = rounds_to(&rt, alloc, stop.0)?;
-        assert!(rt; shown.as_str() == stop.1);
+        for count in 1..4 {
+            let shown = rounds_to(&rt, alloc, stop.0, count)?;
+            assert!(rt; shown.as_str() == stop.1);
+        }
     }
     Ok(())
 }

@@ -37,7 +37,7 @@ impl Recorded {
 }
 
 impl InputFiles for Recorded {
-    ghost use Rattle.pipe_io.specs.MemoryFiles.{begun_of, faults_of, left_of, told_of};
+    ghost use Rattle.pipe_io.specs.MemoryFiles.{begun_of, faults_of, left_of, told_of, tried_of};
 
     ghost told = { λ r. told_of r.files };
 
@@ -46,6 +46,8 @@ impl InputFiles for Recorded {
     ghost begun = { λ r. begun_of r.files };
 
     ghost faults = { λ r. faults_of r.files };
+
+    ghost tried = { λ r. tried_of r.files };
 
     fn begin(&mut self, name: &Text) -> Result<(), InputError> {
         if let Ok(copy) = name.try_clone(self.alloc) {

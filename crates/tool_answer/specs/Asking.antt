@@ -30,6 +30,12 @@ stop_due (refused r) files = None
 stop_due (asks p q) files = end_of (input_chunks files p q)
 stop_due (makes p m) files = None
 
+-- the names of the files that are read for what is asked, in order
+abbrev pub files_asked : Asked → List (List ℕ)
+files_asked (refused r) = []
+files_asked (asks p q) = files_named p.words
+files_asked (makes p m) = []
+
 -- the run of a query by a plan, over chunks and stores; while it is open, more chunks may follow
 abbrev pub asked_run : PlanSeen → QueryTree → Bool → List DataChunk → List StoreSeen → Run
 asked_run p q is_open chunks made = record {

@@ -40,6 +40,7 @@ pub fn reader_of(
     ensures left { IfOk result (λ r. (files : Files) → left_of files r
         ≡ narrowed r.options wanted.items
         (csv_chunks files (files_named words.items) schema r.options)) }
+    ensures names { IfOk result (λ r. r.names ≡ files_named words.items) }
     ensures schema { IfOk result (λ r. r.schema ≡ schema) }
     ensures fields { IfOk result (λ r. given_fields r ≡ chosen wanted.items schema) }
     ensures options { IfOk result (λ r. r.options ≡ record {

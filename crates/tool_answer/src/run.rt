@@ -4,11 +4,13 @@ ghost use Rattle.std.specs.Prelude.{◌≡◌, [], All, IfErr, IfOk, IsErrOf, No
 ghost use Rattle.pipe_aggs.specs.Faults.{first_fault};
 ghost use Rattle.pipe_aggs.specs.QueryTrees.{query_tree};
 ghost use Rattle.pipe_columns.specs.Causes.{Rose};
+ghost use Rattle.pipe_io.specs.Tried.{TriedFront};
 ghost use Rattle.pipe_model.specs.Output.{key_types};
 ghost use Rattle.pipe_run.specs.Refusals.{limits_fit};
 ghost use Rattle.pipe_words.specs.Plans.{CanRun, plan_seen};
 ghost use Rattle.tool_words.specs.Asked.{asks, does_keep};
 ghost use Rattle.pipe_plan.specs.Stores.{stores_seen};
+ghost use Rattle.tool_answer.specs.Asking.{files_asked};
 ghost use Rattle.tool_answer.specs.Ended.{IsMade, IsSound};
 ghost use Rattle.tool_answer.specs.Faults.{IsCaused};
 ghost use Rattle.tool_answer.specs.Inside.{IsOfRun};
@@ -96,6 +98,8 @@ pub fn run_question<
     ensures of_run { IfErr result.0 (λ f. IsOfRun f) }
     ensures failed { IsErrOf result.0 fault.InputFailed
         → Rose (I.faults input.old) (I.faults input.new) }
+    ensures tried { TriedFront (I.tried input.old) (I.tried input.new)
+        (files_asked (asks (plan_seen question.plan) (query_tree question.query))) }
     ensures stopped { IfErr result.0 (λ _. HaveFront (plan_seen question.plan)
         (query_tree question.query) (stores_seen S.held S.told S.faults S.sure result.1.items)) }
     ensures in_memory { question.plan.spill_dir ≡ None

@@ -4,12 +4,13 @@ ghost use Rattle.std.specs.Prelude.{◌≡◌, ◌≢◌, ◌⊎◌, ◌++◌, A
 ghost use Rattle.std.specs.Io.KnownBytes.{Appends};
 ghost use Rattle.pipe_columns.specs.Causes.{HasCause, Rose};
 ghost use Rattle.pipe_io.specs.Output.{WroteFront};
+ghost use Rattle.pipe_io.specs.Tried.{TriedFront};
 ghost use Rattle.pipe_aggs.specs.Faults.{first_fault};
 ghost use Rattle.pipe_aggs.specs.QueryTrees.{query_tree};
 ghost use Rattle.pipe_model.specs.Output.{key_types};
 ghost use Rattle.pipe_words.specs.Plans.{CanRun, plan_seen};
 ghost use Rattle.tool_words.specs.Asked.{asked, asks, does_keep, is_refused, reads_none};
-ghost use Rattle.tool_answer.specs.Asking.{due_paths, has_folder};
+ghost use Rattle.tool_answer.specs.Asking.{due_paths, files_asked, has_folder};
 ghost use Rattle.tool_answer.specs.Ended.{IsSound};
 ghost use Rattle.tool_answer.specs.Formats.{text_in};
 ghost use Rattle.tool_answer.specs.Faults.{IsCaused};
@@ -115,6 +116,8 @@ fn answer_question<
         result.journals result.stores) }
     ensures input_failed { result.fault ≡ Some fault.InputFailed
         → Rose (I.faults input.old) (I.faults input.new) }
+    ensures tried { TriedFront (I.tried input.old) (I.tried input.new)
+        (files_asked (asks (plan_seen question.plan) (query_tree question.query))) }
     ensures output_failed { result.fault ≡ Some fault.OutputFailed
         → Rose (O.faults output.old) (O.faults output.new) }
     ensures begun { result.fault ≡ Some fault.OutputFailed
@@ -178,6 +181,8 @@ fn run<I: InputFiles, O: Output, M: StoreMaker, G: Gate + Sync, H: Threads + Wai
         (λ f. IsLeft f (asked words.now) (I.told input.old) result.journals result.stores) }
     ensures input_failed { result.fault ≡ Some fault.InputFailed
         → Rose (I.faults input.old) (I.faults input.new) }
+    ensures tried { TriedFront (I.tried input.old) (I.tried input.new)
+        (files_asked (asked words.now)) }
     ensures output_failed { result.fault ≡ Some fault.OutputFailed
         → Rose (O.faults output.old) (O.faults output.new) }
     ensures begun { result.fault ≡ Some fault.OutputFailed → IsBegun (asked words.now)
@@ -245,6 +250,11 @@ pub fn run_tool<
     ensures too_large { result.status ≡ TOO_LARGE
         → IsDue TOO_LARGE (asked words.now) (I.told input.old) }
     ensures as_due { EndsAsDue result.status (asked words.now) (I.told input.old) }
+
+    // The files that the words name are begun one after another, each once at most for each time that
+    // it is named, and no others: so none is begun again to learn an error.
+    ensures tried { TriedFront (I.tried input.old) (I.tried input.new)
+        (files_asked (asked words.now)) }
 
     // A fault of reading or writing comes only where its count rose.
     ensures input_failed { result.status ≡ INPUT_FAILED

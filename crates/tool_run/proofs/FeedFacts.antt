@@ -28,10 +28,11 @@ use Rattle.pipe_run.specs.Setting.{run_of, Setting}
 use Rattle.pipe_run.proofs.Feeding.{height-append}
 use Rattle.pipe_source.specs.CsvChunks.{chunks_then, CsvChunks, Stop, too_large}
 use Rattle.pipe_source.specs.Reader.{left_of, ReaderState}
+use Rattle.pipe_source.specs.Rounds.{StopsWithin}
 use Rattle.tool_run.specs.declared.counted.Counted.{Counted}
 use Rattle.tool_run.specs.Answering.{HaveFront}
 use Rattle.tool_run.specs.Reading.{AreAll, are_few, EndsBy, end_of, stop_of}
-use Rattle.tool_run.specs.Rounds.{AreTaken, are_few_behind, EndsBehind, end_behind, HasNone}
+use Rattle.tool_run.specs.Rounds.{AreTaken, are_few_behind, EndsBehind, EndsWith, end_behind, HasNone}
 
 -- ---- what was read
 
@@ -71,6 +72,12 @@ pub ends-behind : (before : Counted) (told : Option Files) (first old : ReaderSt
 ends-behind before None first old taken err chunks rows h ends = tt
 ends-behind before (Some files) first old taken err chunks rows h ends =
     told-alike (stop_of err) (end_of (left_of files first)) (end_behind before (left_of files old)) (ap end_of h ∙ ends-then before taken (left_of files old) chunks rows) ends
+
+-- where files are told, an error that tells why the reading of any files ends, of which so much is left, tells it of these
+pub ends-told : (before : Counted) (told : Option Files) (first : ReaderState) (most : ℕ) (err now : CsvError) (chunks : List DataChunk) → ((left : CsvChunks) (most : ℕ) → StopsWithin most err chunks left → EndsWith before left now)
+    → IfSome told (λ files. StopsWithin most err chunks (left_of files first)) → EndsBehind before told first now
+ends-told before None first most err now chunks each h = tt
+ends-told before (Some files) first most err now chunks each h = each (left_of files first) most h
 
 -- ---- why a run is refused
 

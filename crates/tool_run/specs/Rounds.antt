@@ -29,9 +29,11 @@ abbrev pub end_behind : Counted → CsvChunks → Option Stop
 end_behind before read =
     if are_few_behind before read.chunks then read.stop else Some too_large
 
--- where files are told, an error that tells a stop tells why the reading of what was left ends, behind
--- others
+-- an error that tells a stop tells why the reading of what was left ends, behind others
+abbrev pub EndsWith : Counted → CsvChunks → CsvError → Type 0
+EndsWith before left e = IfSome (stop_of e) (λ stop. end_behind before left ≡ Some stop)
+
+-- where files are told, an error does so
 abbrev pub EndsBehind : Counted → Option Files → ReaderState → CsvError → Type 0
 EndsBehind before told first e =
-    IfSome told (λ files. IfSome (stop_of e)
-    (λ stop. end_behind before (left_of files first) ≡ Some stop))
+    IfSome told (λ files. EndsWith before (left_of files first) e)

@@ -3,6 +3,7 @@
 ghost use Rattle.std.specs.Prelude.{◌≡◌, ◌<◌, [], IfErr, IfOk, true};
 ghost use Rattle.pipe_columns.specs.Causes.{Rose};
 ghost use Rattle.pipe_plan.specs.Stores.{stores_seen};
+ghost use Rattle.pipe_io.specs.Tried.{TriedFront};
 ghost use Rattle.pipe_csv.specs.declared.csv_error.CsvError.TheVariants as csv_error;
 ghost use Rattle.pipe_run.specs.Feeding.{NoneFell};
 ghost use Rattle.pipe_run.specs.Refusals.{AllFit};
@@ -55,6 +56,7 @@ pub(crate) fn feed_files<
         (stores_seen S.held S.told S.faults S.sure e.1.items) e.0) }
     ensures failed { IfErr result (λ e. e.0 ≡ error.Read csv_error.Input
         → Rose (I.faults input.old) (I.faults input.new)) }
+    ensures tried { TriedFront (I.tried input.old) (I.tried input.new) reader.old.names }
     ensures back { IfErr result (λ e. HaveFront run.entry.setting
         (stores_seen S.held S.told S.faults S.sure e.1.items)) }
 {

@@ -3,6 +3,7 @@
 ghost use Rattle.std.specs.Prelude.{◌≡◌, ◌<◌, [], IfErr, IfOk};
 ghost use Rattle.pipe_columns.specs.Causes.{Rose};
 ghost use Rattle.pipe_plan.specs.Stores.{stores_seen};
+ghost use Rattle.pipe_io.specs.Tried.{TriedFront};
 ghost use Rattle.pipe_csv.specs.declared.csv_error.CsvError.TheVariants as csv_error;
 ghost use Rattle.pipe_source.specs.Reader.{given_fields};
 ghost use Rattle.tool_run.specs.Answering.{HaveFront, IsAnsweredFrom, IsRunEnd};
@@ -21,7 +22,8 @@ use std::sync::Wait;
 use std::thread::Threads;
 
 /// Feeds all chunks that a reader has left into a run that was fed none, so many at a time, which are
-/// read in so many threads, and ends the run. The stores come back in order.
+/// read in so many threads, and ends the run. Of their files each is begun once at most, in order. The
+/// stores come back in order.
 pub fn run_files<
     'a,
     S: SpillStore + Drop + Send,
@@ -49,6 +51,7 @@ pub fn run_files<
         (stores_seen S.held S.told S.faults S.sure result.1.items) e) }
     ensures failed { IfErr result.0 (λ e. e ≡ error.Read csv_error.Input
         → Rose (I.faults input.old) (I.faults input.new)) }
+    ensures tried { TriedFront (I.tried input.old) (I.tried input.new) reader.old.names }
     ensures back { IfErr result.0 (λ _. HaveFront run.entry.setting
         (stores_seen S.held S.told S.faults S.sure result.1.items)) }
 {

@@ -28,6 +28,7 @@ loop-turn-preserved g c =
     record {
       told = search rules;
       started = search rules;
+      tried = search rules;
       later = search rules;
       within = rw is c.in-Ok.ensures.fits;
       read = rw is read;

@@ -9,6 +9,7 @@ invariant-loop-turn g l =
     record {
       told : input.told l.input ≡ input.told l.fn.input;
       started : input.begun l.input ≡ true;
+      tried : input.tried l.input ≡ input.tried l.fn.input;
       later : input.faults l.fn.input ≤ input.faults l.input;
       within : l.filled ≤ length l.bytes.items;
       read : IsRead (input.told l.fn.input) l.fn.name (input.left l.input) (take l.filled l.bytes.items);

@@ -1,4 +1,5 @@
-use Rattle.std.proofs.Common.{◌≡◌, ◌≤◌}
+use Rattle.std.proofs.Common.{◌≡◌, ◌≤◌, drop}
+use Rattle.pipe_io.specs.Tried.{AreTried}
 use Rattle.pipe_source.specs.Found.{ArePassed}
 use Rattle.pipe_source.proofs.file_load.find_rows.Given as goal
 
@@ -9,5 +10,6 @@ invariant-loop-i g l =
     record {
       told : input.told l.input ≡ input.told l.fn.input;
       later : input.faults l.fn.input ≤ input.faults l.input;
+      tried : AreTried (input.tried l.fn.input) (input.tried l.input) (drop l.last.file l.names) (drop l.i l.names);
       passed : ArePassed l.options l.fields (input.told l.fn.input) l.names l.last l.i;
     }

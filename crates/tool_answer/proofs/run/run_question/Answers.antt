@@ -1,9 +1,12 @@
-use Rattle.std.proofs.Common.{◌≡◌, ◌∙◌, arith, refl, rules, sym, true}
+use Rattle.std.proofs.Common.{◌≡◌, ◌∙◌, arith, List, ℕ, refl, rules, subst, sym, true}
 use Rattle.std.proofs.lemmas.List.{length-map}
 use Rattle.pipe_aggs.specs.QueryTrees.{query_tree}
 use Rattle.narrow_query.specs.Names.{covers}
+use Rattle.pipe_io.specs.Tried.{TriedFront}
+use Rattle.pipe_io.proofs.TriedFacts.{front-none}
 use Rattle.pipe_words.specs.Plans.{plan_seen}
 use Rattle.pipe_plan.specs.Stores.{stores_seen}
+use Rattle.tool_words.specs.Asked.{files_named}
 use Rattle.tool_answer.proofs.NarrowFacts.{keeps-narrow, named-many, reader-is}
 use Rattle.tool_answer.proofs.RunFacts.{began-narrow, begun-front, end-comes, err-at, fault-of-run, front-made, has-run, has-run-sound, input-fault, never-seen, ok-at, plan-fits, run-caused, run-front, run-sound}
 use Rattle.tool_answer.proofs.run.run_question.Goals as goal
@@ -115,3 +118,20 @@ returns-clause-in_memory g c =
     let began = began-narrow store.held store.told store.faults store.sure (plan_seen c.args.question.plan) q n.query n.wanted.items c.args.stores.items c.in-Ok-begin_run.run' c.requires.made c.requires.count c.in-Ok.ensures.query c.in-Ok-begin_run.ensures.setting in
     let never = never-seen store.held store.told store.faults store.sure store.never_failed c.run_files-ended.result.1.items in
     run-sound (plan_seen c.args.question.plan) q n.wanted.items covered (stores_seen store.held store.told store.faults store.sure c.args.stores.items) (stores_seen store.held store.told store.faults store.sure c.run_files-ended.result.1.items) c.in-Ok-begin_run.run' began (err-at c.run_files-ended.result.0 c.in-Err-ended.error _ c.in-Err-ended.is c.run_files-ended.ensures.back) never
+
+pub returns-in_default-clause-tried : goal.returns-in_default-clause-tried
+returns-in_default-clause-tried g c = front-none _ _ (files_named (plan_seen c.args.question.plan).words) refl
+
+pub returns-in-Err-clause-tried : goal.returns-in-Err-clause-tried
+returns-in-Err-clause-tried g c = front-none _ _ (files_named (plan_seen c.args.question.plan).words) refl
+
+pub returns-in_default-reader_of-clause-tried : goal.returns-in_default-reader_of-clause-tried
+returns-in_default-reader_of-clause-tried g c = front-none _ _ (files_named (plan_seen c.args.question.plan).words) refl
+
+pub returns-in-Ok-ended-clause-tried : goal.returns-in-Ok-ended-clause-tried
+returns-in-Ok-ended-clause-tried g c =
+    subst (TriedFront (g.I.InputFiles.tried c.args.input.now) (g.I.InputFiles.tried c.run_files-ended.new.input)) c.in-Ok-reader_of.ensures.names c.run_files-ended.ensures.tried
+
+pub returns-clause-tried : goal.returns-clause-tried
+returns-clause-tried g c =
+    subst (TriedFront (g.I.InputFiles.tried c.args.input.now) (g.I.InputFiles.tried c.run_files-ended.new.input)) c.in-Ok-reader_of.ensures.names c.run_files-ended.ensures.tried

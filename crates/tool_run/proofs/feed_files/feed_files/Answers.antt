@@ -4,11 +4,13 @@ use Rattle.pipe_columns.specs.declared.data_chunk.DataChunk.{DataChunk}
 use Rattle.pipe_columns.specs.declared.schema.Field.{Field}
 use Rattle.pipe_columns.specs.Frame.{FitsSchema}
 use Rattle.pipe_io.specs.Files.{Files}
+use Rattle.pipe_io.specs.Tried.{AreTried, TriedFront}
+use Rattle.pipe_io.proofs.TriedFacts.{front-then, tried-none, tried-then}
 use Rattle.pipe_model.specs.Rows.{total_height}
 use Rattle.pipe_run.specs.Feeding.{chunks_reached}
 use Rattle.pipe_run.specs.Refusals.{AllFit}
 use Rattle.pipe_run.specs.Setting.{Setting}
-use Rattle.pipe_source.specs.Reader.{given_fields}
+use Rattle.pipe_source.specs.Reader.{given_fields, ReaderState}
 use Rattle.tool_run.specs.Rounds.{AreTaken, EndsBehind, HasNone}
 use Rattle.tool_run.proofs.FeedFacts.{chunks-more, ends-behind, feed-cause, fell-none, fell-then, fit-more, fit-none, front-of, reached-fit, rows-more, taken-all, taken-none, taken-then}
 use Rattle.tool_run.proofs.feed_files.feed_files.Goals as goal
@@ -19,6 +21,7 @@ loop-init g c =
     record {
       told = refl;
       later = omega arith;
+      tried = tried-none _ _ c.args.reader.now.names refl;
       setting = refl;
       fields = c.requires.fits;
       chunks = sym (ap (λ (l : List DataChunk). length l) none);
@@ -36,6 +39,15 @@ returns-in-Err-clause-cause g c =
     let inv = c.loop.invariant in
     ends-behind c.loop.before (g.I.InputFiles.told c.args.input.now) c.args.reader.now c.loop.reader c.loop.run.chunks c.in-Err.error inv.chunks inv.rows inv.taken
     (subst (λ (t : Option Files). EndsBehind c.loop.before t c.loop.reader c.in-Err.error) inv.told c.in-Err.ensures.ends)
+
+pub returns-in-Err-clause-tried : goal.returns-in-Err-clause-tried
+returns-in-Err-clause-tried g c = front-then _ _ _ c.args.reader.now.names c.loop.reader.names c.loop.invariant.tried c.read_round.ensures.tried
+
+pub returns-in-Err-feed_lent-clause-tried : goal.returns-in-Err-feed_lent-clause-tried
+returns-in-Err-feed_lent-clause-tried g c = front-then _ _ _ c.args.reader.now.names c.loop.reader.names c.loop.invariant.tried c.read_round.ensures.tried
+
+pub returns-then-is_last-clause-tried : goal.returns-then-is_last-clause-tried
+returns-then-is_last-clause-tried g c = front-then _ _ _ c.args.reader.now.names c.loop.reader.names c.loop.invariant.tried c.read_round.ensures.tried
 
 pub returns-in-Err-clause-back : goal.returns-in-Err-clause-back
 returns-in-Err-clause-back g c =
@@ -97,9 +109,13 @@ loop-preserved g c =
     let fit : All (λ (x : DataChunk). FitsSchema c.args.run.setting.query.schema x.frame) (c.loop.run.chunks ++ more) =
     fit-more c.args.run.setting.query.schema (given_fields c.loop.reader) c.loop.run.chunks more inv.fields inv.fit c.in-Ok.ensures.fit in
     let full : c.args.most ≤ length more = search rules in
+    let read = c.read_round.new.reader.names in
+    let back : read ≡ c.take_back.new.self.names = sym (ap (λ (r : ReaderState). r.names) c.take_back.ensures) in
+    let gone = subst (AreTried (g.I.InputFiles.tried c.loop.input) (g.I.InputFiles.tried c.read_round.new.input) c.loop.reader.names) back (c.in-Ok.ensures.gone full) in
     record {
       told = search rules;
       later = search rules;
+      tried = tried-then _ _ _ c.args.reader.now.names c.loop.reader.names _ inv.tried gone;
       setting = c.in-Ok-feed_lent.ensures.setting ∙ inv.setting;
       fields = search rules;
       chunks = chunks-more c.loop.before c.in-Ok.read.1 c.loop.run.chunks more now is inv.chunks c.in-Ok.ensures.chunks;

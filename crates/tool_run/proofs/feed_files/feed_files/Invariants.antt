@@ -1,6 +1,7 @@
 use Rattle.std.proofs.Common.{◌≡◌, ◌<◌, ◌≤◌, ◌^◌, length}
 use Rattle.std.specs.List.{All}
 use Rattle.pipe_columns.specs.Frame.{FitsSchema}
+use Rattle.pipe_io.specs.Tried.{AreTried}
 use Rattle.pipe_model.specs.Rows.{total_height}
 use Rattle.pipe_run.specs.Feeding.{NoneFell}
 use Rattle.pipe_source.specs.Reader.{given_fields}
@@ -14,6 +15,7 @@ invariant-loop g l =
     record {
       told : input.told l.input ≡ input.told l.fn.input;
       later : input.faults l.fn.input ≤ input.faults l.input;
+      tried : AreTried (input.tried l.fn.input) (input.tried l.input) l.fn.reader.names l.reader.names;
       setting : l.run.setting ≡ l.fn.run.setting;
       fields : given_fields l.reader ≡ l.fn.run.setting.query.schema;
       chunks : l.before.chunks ≡ length l.run.chunks;

@@ -1,5 +1,7 @@
-use Rattle.std.proofs.Common.{◌≡◌, ◌-◌, length, sym, subst, arith, Some, None}
-use Rattle.pipe_source.specs.Kept.{IsPlace}
+use Rattle.std.proofs.Common.{◌≡◌, ◌-◌, length, refl, sym, subst, arith, Some, None}
+use Rattle.pipe_io.specs.Tried.{TriedFront}
+use Rattle.pipe_io.proofs.TriedFacts.{front-none}
+use Rattle.pipe_source.specs.Kept.{IsPlace, state_behind}
 use Rattle.pipe_source.specs.ReadOn.{HasReadOn}
 use Rattle.pipe_source.specs.declared.source_place.SourcePlace.{SourcePlace}
 use Rattle.pipe_source.proofs.KeptFacts.{chunks-below, kept-behind, rows-below}
@@ -97,9 +99,8 @@ returns-in-Err-clause-stopped g c =
     let told = g.I.InputFiles.told c.args.input.now in
     let some = some-left text c.chunks_left.result c.min-some.result c.args.count c.min-some.ensures c.chunks_left.ensures in
     let all : c.min-some.result ≡ length text.starts.items - text.chunk = omega (arith, some, c.if-some-count.false) in
-    let many = length-given what text c.min-some.result c.in-Ok.chunks.items c.in-Ok.ensures in
     let stopped = rw c.place_behind-last.ensures at c.in-Err.ensures.stopped in
-    rw (← c.self.view_is) (round-stops told what text c.min-some.result c.args.count c.in-Ok.chunks.items _ c.self.invariant.0 c.self.invariant.1 all c.in-Ok.ensures (omega (arith, many, some, c.if-some-count.false)) stopped)
+    rw (← c.self.view_is) (round-stops told what text c.min-some.result c.args.count c.in-Ok.chunks.items c.read_on.new.chunks.items _ c.self.invariant.0 c.self.invariant.1 all c.in-Ok.ensures stopped)
 
 pub advance-requires-clause-within : goal.advance-requires-clause-within
 advance-requires-clause-within g c = within-left c.self.inside.what c.self.inside.text c.chunks_left.result c.min-some.result c.args.count c.self.invariant.1 c.min-some.ensures c.chunks_left.ensures
@@ -127,3 +128,21 @@ advance-requires-in-Ok-None-clause-few_chunks g c = chunks-below c.self.inside.w
 
 pub chunks_of-requires-clause-some : goal.chunks_of-requires-clause-some
 chunks_of-requires-clause-some g c = λ κs bounds. within-left c.self.inside.what c.self.inside.text c.chunks_left.result c.min-some.result c.args.count c.self.invariant.1 c.min-some.ensures c.chunks_left.ensures
+
+pub returns-in_default-clause-tried : goal.returns-in_default-clause-tried
+returns-in_default-clause-tried g c = front-none _ _ c.args.self.now.names refl
+
+pub returns-then-some-count-clause-tried : goal.returns-then-some-count-clause-tried
+returns-then-some-count-clause-tried g c = front-none _ _ c.args.self.now.names refl
+
+pub returns-in-Ok-Some-clause-tried : goal.returns-in-Ok-Some-clause-tried
+returns-in-Ok-Some-clause-tried g c =
+    let tried = g.I.InputFiles.tried in
+    let what = c.self.inside.what in
+    rw (← c.self.view_is) (subst (λ (p : SourcePlace). TriedFront (tried c.args.input.now) (tried c.read_on.new.input) (state_behind what p).names) c.place_behind-last.ensures c.read_on.ensures.tried)
+
+pub returns-in-Ok-None-clause-tried : goal.returns-in-Ok-None-clause-tried
+returns-in-Ok-None-clause-tried g c =
+    let tried = g.I.InputFiles.tried in
+    let what = c.self.inside.what in
+    rw (← c.self.view_is) (subst (λ (p : SourcePlace). TriedFront (tried c.args.input.now) (tried c.read_on.new.input) (state_behind what p).names) c.place_behind-last.ensures c.read_on.ensures.tried)

@@ -1,6 +1,7 @@
 use Rattle.std.proofs.Common.{◌≡◌, ◌≤◌, ◌<◌, ◌-◌, length}
-use Rattle.pipe_source.specs.Kept.{IsPlace}
-use Rattle.pipe_source.specs.ReadOn.{HasReadOn}
+use Rattle.pipe_io.specs.Tried.{AreTried}
+use Rattle.pipe_source.specs.Kept.{IsPlace, state_behind}
+use Rattle.pipe_source.specs.ReadOn.{HasReadOn, state_ahead}
 use Rattle.pipe_source.proofs.RoundFacts.{StandsAt}
 use Rattle.pipe_source.proofs.reading.Reading.read_on.Given as goal
 
@@ -12,6 +13,8 @@ invariant-files g l =
       told : input.told l.input ≡ input.told l.fn.input;
       later : input.faults l.fn.input ≤ input.faults l.input;
       read : HasReadOn l.self (input.told l.fn.input) l.fn.first l.fn.chunks.items l.chunks.items l.ahead;
+      tried : AreTried (input.tried l.fn.input) (input.tried l.input) (state_behind l.self l.fn.first).names (state_behind l.self l.last).names;
+      names : (state_ahead l.self l.fn.first l.ahead).names ≡ (state_behind l.self l.last).names;
       few : length l.chunks.items ≤ l.count;
       place : IsPlace l.self l.last;
       next : length l.chunks.items < l.count → StandsAt l.self (input.told l.fn.input) l.fn.first l.ahead l.last;
