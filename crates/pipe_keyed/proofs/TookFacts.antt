@@ -20,19 +20,19 @@ use Rattle.pipe_spill.proofs.SpilledRows.{spilled_is_row}
 use Rattle.pipe_groups.specs.Holds.{HoldFewer, Holds}
 use Rattle.pipe_groups.specs.Shape.{Shape, shape_of}
 use Rattle.pipe_keyed.specs.Tables.{Table}
-use Rattle.pipe_keyed.specs.TakenRows.{rows_to, spilled_to, TookRows}
+use Rattle.pipe_keyed.specs.TakenRows.{rows_to, spilled_first, TookFirstRows}
 
 -- there are so many
-pub length-spilled_to : (q : QueryTree) (i : ℕ) (frame : FrameData) (n : ℕ) → length (spilled_to q i frame n) ≡ n
-length-spilled_to q i frame n = length-map (rows_to q i frame n) (spilled (key_types q)) ∙ length-map-range_with_len (λ m. row_of q i frame m) 0 n
+pub length-spilled_first : (q : QueryTree) (i : ℕ) (frame : FrameData) (n : ℕ) → length (spilled_first q i frame n) ≡ n
+length-spilled_first q i frame n = length-map (rows_to q i frame n) (spilled (key_types q)) ∙ length-map-range_with_len (λ m. row_of q i frame m) 0 n
 
 -- the next rows are taken
-pub took-more : (q : QueryTree) (i : ℕ) (frame : FrameData) (n m : ℕ) (old now new : Table) (more : List SpillRow) → TookRows q i frame n old now
-    → spilled_to q i frame (n + m) ≡ spilled_to q i frame n ++ more → new.shape ≡ now.shape
+pub took-more : (q : QueryTree) (i : ℕ) (frame : FrameData) (n m : ℕ) (old now new : Table) (more : List SpillRow) → TookFirstRows q i frame n old now
+    → spilled_first q i frame (n + m) ≡ spilled_first q i frame n ++ more → new.shape ≡ now.shape
     → ((taken : List SpillRow) → Holds now.shape.prototypes now.groups taken → Holds now.shape.prototypes new.groups (taken ++ more))
-    → TookRows q i frame (n + m) old new
+    → TookFirstRows q i frame (n + m) old new
 took-more q i frame n m old now new more took longer shape holds =
-    let front : List SpillRow = spilled_to q i frame n in
+    let front : List SpillRow = spilled_first q i frame n in
     let P : Shape → Type 0 = λ s. (taken : List SpillRow) → Holds s.prototypes now.groups taken → Holds s.prototypes new.groups (taken ++ more) in
     let step : P old.shape = subst P took.shape holds in
     record {
@@ -43,7 +43,7 @@ took-more q i frame n m old now new more took longer shape holds =
     }
 
 -- none is taken yet
-pub took-none : (q : QueryTree) (i : ℕ) (frame : FrameData) (t : Table) → TookRows q i frame 0 t t
+pub took-none : (q : QueryTree) (i : ℕ) (frame : FrameData) (t : Table) → TookFirstRows q i frame 0 t t
 took-none q i frame t = record { shape = refl; holds = λ taken h. subst (Holds t.shape.prototypes t.groups) (sym (append-nil taken)) h }
 
 -- ---- each is a row of the query's types
@@ -64,7 +64,7 @@ row-typed q i frame n rs e all few small lt =
 
 -- and so are the first rows of the chunk
 pub rows-typed : (q : QueryTree) (i : ℕ) (frame : FrameData) (n : ℕ) (rs : List Row) → rs ≡ chunk_rows q i frame → All (IsRowOf q) rs
-    → i < 2 ^ 32 → frame.height < 2 ^ 32 → n ≤ frame.height → AreRows (key_types q) (input_types q) (spilled_to q i frame n)
+    → i < 2 ^ 32 → frame.height < 2 ^ 32 → n ≤ frame.height → AreRows (key_types q) (input_types q) (spilled_first q i frame n)
 rows-typed q i frame n rs e all few small most =
     let P : Row → Type 0 = λ r. IsRow (key_types q) (input_types q) (spilled (key_types q) r) in
     All-map (IsRow (key_types q) (input_types q)) (spilled (key_types q)) (rows_to q i frame n)
@@ -75,15 +75,15 @@ rows-typed q i frame n rs e all few small most =
     (row-typed q i frame k rs e all few small (omega (arith, lt, most)))))
 
 -- there is room for the next ones
-pub room-for : (q : QueryTree) (i : ℕ) (frame : FrameData) (n m : ℕ) (old now : Table) → TookRows q i frame n old now → old.shape ≡ shape_of q
-    → HoldFewer old.shape old.groups frame.height → AreRows (key_types q) (input_types q) (spilled_to q i frame n) → n + m ≤ frame.height
+pub room-for : (q : QueryTree) (i : ℕ) (frame : FrameData) (n m : ℕ) (old now : Table) → TookFirstRows q i frame n old now → old.shape ≡ shape_of q
+    → HoldFewer old.shape old.groups frame.height → AreRows (key_types q) (input_types q) (spilled_first q i frame n) → n + m ≤ frame.height
     → HoldFewer now.shape now.groups m
 room-for q i frame n m old now took is h typed le =
-    let own : AreRows old.shape.key_types old.shape.input_types (spilled_to q i frame n) =
-    subst (λ (s : Shape). AreRows s.key_types s.input_types (spilled_to q i frame n)) (sym is) typed in
+    let own : AreRows old.shape.key_types old.shape.input_types (spilled_first q i frame n) =
+    subst (λ (s : Shape). AreRows s.key_types s.input_types (spilled_first q i frame n)) (sym is) typed in
     subst (λ (s : Shape). HoldFewer s now.groups m) (sym took.shape) (record {
-      rows = h.rows ++ spilled_to q i frame n;
+      rows = h.rows ++ spilled_first q i frame n;
       holds = took.holds h.rows h.holds;
-      typed = All-append (IsRow old.shape.key_types old.shape.input_types) h.rows (spilled_to q i frame n) h.typed own;
-      few = omega (arith, h.few, length-append h.rows (spilled_to q i frame n), length-spilled_to q i frame n, le);
+      typed = All-append (IsRow old.shape.key_types old.shape.input_types) h.rows (spilled_first q i frame n) h.typed own;
+      few = omega (arith, h.few, length-append h.rows (spilled_first q i frame n), length-spilled_first q i frame n, le);
     })

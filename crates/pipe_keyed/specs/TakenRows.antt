@@ -16,11 +16,11 @@ abbrev pub rows_to : QueryTree → ℕ → FrameData → ℕ → List Row
 rows_to q i frame n = map (λ m. row_of q i frame m) (range_with_len 0 n)
 
 -- what is spilled of them
-abbrev pub spilled_to : QueryTree → ℕ → FrameData → ℕ → List SpillRow
-spilled_to q i frame n = map (spilled (key_types q)) (rows_to q i frame n)
+abbrev pub spilled_first : QueryTree → ℕ → FrameData → ℕ → List SpillRow
+spilled_first q i frame n = map (spilled (key_types q)) (rows_to q i frame n)
 
 -- a table that took the first rows of a chunk
-pub record TookRows (q : QueryTree) (i : ℕ) (frame : FrameData) (n : ℕ) (old now : Table) : Type 0 where
+pub record TookFirstRows (q : QueryTree) (i : ℕ) (frame : FrameData) (n : ℕ) (old now : Table) : Type 0 where
   pub shape : now.shape ≡ old.shape
   pub holds : (taken : List SpillRow) → Holds old.shape.prototypes old.groups taken
-      → Holds old.shape.prototypes now.groups (taken ++ spilled_to q i frame n)
+      → Holds old.shape.prototypes now.groups (taken ++ spilled_first q i frame n)

@@ -36,6 +36,7 @@ impl<'a, M: Marking> Sought<M> for KeyCode<'a> {
 
     ghost has_mark = { λ s types mark. M.marks types s.bytes.now mark };
 
+    #[inline(always)]
     fn is_code(&self, code: &[u8]) -> bool {
         are_same(code, self.bytes)
     }

@@ -23,7 +23,7 @@ use Rattle.pipe_spill.specs.KeyTypes.{AreOfTypes}
 use Rattle.pipe_spill.specs.SpillRow.{AreRows, IsRow, spilled}
 use Rattle.pipe_groups.specs.Holds.{HoldFewer}
 use Rattle.pipe_groups.specs.Shape.{Shape, shape_of}
-use Rattle.pipe_keyed.specs.TakenRows.{spilled_to, TookRows}
+use Rattle.pipe_keyed.specs.TakenRows.{spilled_first, TookFirstRows}
 use Rattle.pipe_sinks.specs.ChunkTaking.{AreKeysOf, TakesRows}
 use Rattle.pipe_sinks.specs.KeyRuns.{IsRun, run_rows}
 use Rattle.pipe_sinks.specs.Marks.{IsSole}
@@ -61,10 +61,10 @@ module _ (query : Query) (c : DataChunk) (rows : List Row) (old now : Table) (n 
       subst (λ (r : Row). IsRow (key_types q) (input_types q) (spilled (key_types q) r)) (sym (row-of m lt))
       (row-typed q c.chunk_index c.frame m rows h.rows_are h.typed h.index h.height lt)
 
-  front : n ≤ c.frame.height → AreRows (key_types q) (input_types q) (spilled_to q c.chunk_index c.frame n)
+  front : n ≤ c.frame.height → AreRows (key_types q) (input_types q) (spilled_first q c.chunk_index c.frame n)
   front le = rows-typed q c.chunk_index c.frame n rows h.rows_are h.typed h.index h.height le
 
-  pub room-now : TookRows (query_tree query) c.chunk_index c.frame n old now → (m : ℕ) → n + m ≤ c.frame.height → HoldFewer now.shape now.groups m
+  pub room-now : TookFirstRows (query_tree query) c.chunk_index c.frame n old now → (m : ℕ) → n + m ≤ c.frame.height → HoldFewer now.shape now.groups m
   room-now took m le = room-for q c.chunk_index c.frame n m old now took h.shape h.few (front (omega (arith, le))) le
 
   -- ---- one row

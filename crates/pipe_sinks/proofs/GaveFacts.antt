@@ -38,7 +38,7 @@ use Rattle.pipe_groups.proofs.AnswerFacts.{sliced-map, tuples_of}
 use Rattle.pipe_groups.proofs.ByPlaceFacts.{by_key-once, by_key-same, held-placed, placed-answer, placed-apart}
 use Rattle.pipe_groups.proofs.FrameRows.{answer_row-length, frame-fields}
 use Rattle.pipe_sinks.specs.PartPlaces.{part_places}
-use Rattle.pipe_sinks.specs.RunLayout.{AreTaken, GaveChunks, HoldsChunks, keys_in_order, spilled_rows}
+use Rattle.pipe_sinks.specs.RunLayout.{AreTakenChunks, GaveChunks, HoldsChunks, keys_in_order, spilled_rows}
 use Rattle.pipe_sinks.specs.Runs.{placed_rows}
 use Rattle.pipe_keyed.specs.Tables.{IsTable, Table}
 use Rattle.pipe_sinks.proofs.PartPlaceFacts.{rows-by_part}
@@ -52,7 +52,7 @@ placed-typed x (c ∷ cs) sound are hold =
     (placed-typed x cs sound (All-tail (λ (d : DataChunk). FitsSchema x.schema d.frame) c cs are) (All-tail (λ (d : DataChunk). HoldsTypes d.frame) c cs hold))
 
 -- a table that holds chunks gives their groups out
-pub gave-chunks : (x : Query) (taken : List DataChunk) (t : Table) (p : PlacedGroups) → IsSound x → IsGroupable (query_tree x) → AreTaken (query_tree x) taken → HoldsChunks (query_tree x) taken t → IsTable t
+pub gave-chunks : (x : Query) (taken : List DataChunk) (t : Table) (p : PlacedGroups) → IsSound x → IsGroupable (query_tree x) → AreTakenChunks (query_tree x) taken → HoldsChunks (query_tree x) taken t → IsTable t
     → IsFrameOfGroups t.shape (in_order t.groups) p.frame → map Some p.firsts ≡ map (λ g. g.first) (in_order t.groups) → GaveChunks (query_tree x) taken p
 gave-chunks x taken t p sound groupable chunks h is frame firsts =
     let q : QueryTree = query_tree x in
@@ -76,7 +76,7 @@ gave-chunks x taken t p sound groupable chunks h is frame firsts =
 kept-any : (q : QueryTree) (rs : List Row) (m n : ℕ) → q.keeps_order ≡ true → answer_of rs q m ≡ answer_of rs q n
 kept-any q rs m n kept = rw kept refl
 
-module _ (q : QueryTree) (taken : List DataChunk) (p : PlacedGroups) (chunks : AreTaken q taken) (gave : GaveChunks q taken p) (kept : q.keeps_order ≡ true) where
+module _ (q : QueryTree) (taken : List DataChunk) (p : PlacedGroups) (chunks : AreTakenChunks q taken) (gave : GaveChunks q taken p) (kept : q.keeps_order ≡ true) where
   abbrev rs : List Row
   rs = placed_rows q taken
 

@@ -20,7 +20,7 @@ use Rattle.pipe_groups.specs.Groups.{cover, Group, group_of, is_covered, keys_of
 use Rattle.pipe_groups.specs.Holds.{HoldFewer, Holds}
 use Rattle.pipe_groups.proofs.FeedFacts.{few-counted, few-feed}
 use Rattle.pipe_groups.proofs.HoldFacts.{holds-covered, holds-row}
-use Rattle.pipe_groups.proofs.KeepFacts.{apart-cover, few-cover}
+use Rattle.pipe_groups.proofs.KeepFacts.{few-cover}
 use Rattle.pipe_groups.proofs.HoldRunFacts.{holds-run}
 use Rattle.pipe_groups.proofs.KeepNoneFacts.{none-kept}
 use Rattle.pipe_groups.proofs.PutFacts.{cover-new, cover-there, is_covered-at, put-at}
@@ -28,7 +28,7 @@ use Rattle.pipe_groups.proofs.RunFacts.{least-some, length-inputs}
 use Rattle.pipe_groups.proofs.ShapeFacts.{shape-takes}
 use Rattle.pipe_columns.specs.Frame.{FrameData}
 use Rattle.pipe_model.specs.Query.{QueryTree}
-use Rattle.pipe_keyed.specs.TakenRows.{spilled_to, TookRows}
+use Rattle.pipe_keyed.specs.TakenRows.{spilled_first, TookFirstRows}
 use Rattle.pipe_keyed.specs.Keyed.{IsAt}
 use Rattle.pipe_keyed.specs.Tables.{HasGroups, IsTable, put_row, Table}
 use Rattle.pipe_sinks.specs.Alike.{HoldAlike, KeysStay}
@@ -201,8 +201,8 @@ pub alike-few : (t u : Table) (n : ℕ) → HoldAlike t u → HoldFewer t.shape 
 alike-few t u n alike h = subst (λ s. HoldFewer s u.groups n) (sym alike.shape) (record { rows = h.rows; holds = alike.holds h.rows h.holds; typed = h.typed; few = h.few })
 
 -- what a table took that holds as another, that one took
-pub alike-took : (q : QueryTree) (i : ℕ) (frame : FrameData) (n : ℕ) (t u v : Table) → HoldAlike t u → TookRows q i frame n u v → TookRows q i frame n t v
+pub alike-took : (q : QueryTree) (i : ℕ) (frame : FrameData) (n : ℕ) (t u v : Table) → HoldAlike t u → TookFirstRows q i frame n u v → TookFirstRows q i frame n t v
 alike-took q i frame n t u v alike took = record {
   shape = took.shape ∙ alike.shape;
-  holds = λ rows h. subst (λ s. Holds s.prototypes v.groups (rows ++ spilled_to q i frame n)) alike.shape (took.holds rows (subst (λ s. Holds s.prototypes u.groups rows) (sym alike.shape) (alike.holds rows h)));
+  holds = λ rows h. subst (λ s. Holds s.prototypes v.groups (rows ++ spilled_first q i frame n)) alike.shape (took.holds rows (subst (λ s. Holds s.prototypes u.groups rows) (sym alike.shape) (alike.holds rows h)));
 }

@@ -17,17 +17,17 @@ use Rattle.pipe_groups.specs.Groups.{AreJoined}
 use Rattle.pipe_groups.specs.Holds.{HoldFewer, Holds}
 use Rattle.pipe_groups.specs.Shape.{Shape, shape_of}
 use Rattle.pipe_groups.proofs.HoldFacts.{holds-joined, holds-none}
-use Rattle.pipe_keyed.specs.TakenRows.{spilled_to}
+use Rattle.pipe_keyed.specs.TakenRows.{spilled_first}
 use Rattle.pipe_sinks.specs.ChunkTaking.{TookChunk}
 use Rattle.pipe_sinks.specs.Marks.{IsSole}
-use Rattle.pipe_sinks.specs.RunLayout.{AreKept, AreTaken, HasTaken, HoldsChunks, spilled_rows}
+use Rattle.pipe_sinks.specs.RunLayout.{AreKept, AreTakenChunks, SinkHasTaken, HoldsChunks, spilled_rows}
 use Rattle.pipe_keyed.specs.Tables.{HasGroups, HoldFewTogether, Table}
 use Rattle.pipe_sinks.specs.Alike.{HoldAlike}
 use Rattle.pipe_sinks.proofs.PlacedFacts.{distinct-both, length-spilled, single-distinct, spilled-append}
 
 -- ---- nothing taken
 
-pub taken-none : (q : QueryTree) → AreTaken q []
+pub taken-none : (q : QueryTree) → AreTakenChunks q []
 unfolding IsDistinct
 taken-none q = record {
   columns = All-nil (λ (c : DataChunk). FitsSchema q.schema c.frame);
@@ -50,7 +50,7 @@ kept-shape q taken t (Some p) h = h.0.shape
 
 -- a sink that took nothing
 pub run-new : (q : QueryTree) (partitions : ℕ) (chunks : List DataChunk) (t : Table) → 0 < partitions → partitions ≤ 2 ^ 32 → IsSole (key_types q) → chunks ≡ []
-    → t.shape ≡ shape_of q → t.groups ≡ [] → HasTaken q partitions chunks t None
+    → t.shape ≡ shape_of q → t.groups ≡ [] → SinkHasTaken q partitions chunks t None
 run-new q partitions chunks t some few keyed none shape empty = rw none (record {
   some = some;
   few = few;
@@ -64,7 +64,7 @@ run-new q partitions chunks t some few keyed none shape empty = rw none (record 
 pub single-height : (c : DataChunk) → total_height (c ∷ []) ≡ c.frame.height
 single-height c = omega (arith, sum_by-cons (λ (x : DataChunk). x.frame.height) c [])
 
-pub single-taken : (q : QueryTree) (c : DataChunk) → FitsSchema q.schema c.frame → HoldsTypes c.frame → c.frame.height < 2 ^ 32 → AreTaken q (c ∷ [])
+pub single-taken : (q : QueryTree) (c : DataChunk) → FitsSchema q.schema c.frame → HoldsTypes c.frame → c.frame.height < 2 ^ 32 → AreTakenChunks q (c ∷ [])
 single-taken q c fits typed few = record {
   columns = All-cons (λ (x : DataChunk). FitsSchema q.schema x.frame) c [] fits (All-nil (λ (x : DataChunk). FitsSchema q.schema x.frame));
   typed = All-cons (λ (x : DataChunk). HoldsTypes x.frame) c [] typed (All-nil (λ (x : DataChunk). HoldsTypes x.frame));
@@ -80,7 +80,7 @@ later-apart taken c later = All-weaker (λ (d : DataChunk). d.chunk_index < c.ch
 -- ---- chunks together
 
 module _ (q : QueryTree) (xs ys : List DataChunk) where
-  pub taken-both : AreTaken q xs → AreTaken q ys → All (λ c. All (λ d. c.chunk_index ≢ d.chunk_index) ys) xs → total_height xs + total_height ys < 2 ^ 32 → AreTaken q (xs ++ ys)
+  pub taken-both : AreTakenChunks q xs → AreTakenChunks q ys → All (λ c. All (λ d. c.chunk_index ≢ d.chunk_index) ys) xs → total_height xs + total_height ys < 2 ^ 32 → AreTakenChunks q (xs ++ ys)
   taken-both a b apart few = record {
     columns = All-append (λ (c : DataChunk). FitsSchema q.schema c.frame) xs ys a.columns b.columns;
     typed = All-append (λ (c : DataChunk). HoldsTypes c.frame) xs ys a.typed b.typed;
@@ -115,7 +115,7 @@ module _ (q : QueryTree) (xs ys : List DataChunk) where
 -- a table that took the rows of a chunk holds them behind those that it held
 once-held : (q : QueryTree) (xs : List DataChunk) (c : DataChunk) (t u : Table) → HoldsChunks q xs t → TookChunk q c t u → HoldsChunks q (xs ++ c ∷ []) u
 once-held q xs c t u h k =
-    let own : List SpillRow = spilled_to q c.chunk_index c.frame c.frame.height in
+    let own : List SpillRow = spilled_first q c.chunk_index c.frame c.frame.height in
     let all : spilled_rows q xs ++ own ≡ spilled_rows q (xs ++ c ∷ []) =
     ap (λ (l : List SpillRow). spilled_rows q xs ++ l) (ap (map (spilled (key_types q))) (sym (append-nil (chunk_rows q c.chunk_index c.frame)))) ∙ sym (spilled-append q xs (c ∷ [])) in
     let is : u.shape ≡ shape_of q = k.took.shape ∙ h.shape in
@@ -151,20 +151,20 @@ kept-again : (q : QueryTree) (taken : List DataChunk) (t : Table) (given : Optio
 kept-again q taken t None e h = h
 kept-again q taken t (Some p) e h = absurd (cc)
 
-module _ (q : QueryTree) (n : ℕ) (xs : List DataChunk) (t : Table) (given : Option PlacedGroups) (h : HasTaken q n xs t given) where
+module _ (q : QueryTree) (n : ℕ) (xs : List DataChunk) (t : Table) (given : Option PlacedGroups) (h : SinkHasTaken q n xs t given) where
   -- a sink whose table has the same groups has taken the same
-  pub run-same : (u : Table) (chunks : List DataChunk) → HasGroups t u t.groups → chunks ≡ xs → HasTaken q n chunks u given
+  pub run-same : (u : Table) (chunks : List DataChunk) → HasGroups t u t.groups → chunks ≡ xs → SinkHasTaken q n chunks u given
   run-same u chunks is same =
       let e : t ≡ u = λ i. record { shape = sym is.1 i; limit = sym is.2 i; groups = sym is.0 i } in
-      subst (λ (l : List DataChunk). HasTaken q n l u given) (sym same) (subst (λ (x : Table). HasTaken q n xs x given) e h)
+      subst (λ (l : List DataChunk). SinkHasTaken q n l u given) (sym same) (subst (λ (x : Table). SinkHasTaken q n xs x given) e h)
 
   -- a sink that gave everything out has taken nothing
-  pub run-given : (u : Table) (chunks : List DataChunk) (left : Option PlacedGroups) → HoldsChunks q [] u → chunks ≡ [] → left ≡ None → HasTaken q n chunks u left
+  pub run-given : (u : Table) (chunks : List DataChunk) (left : Option PlacedGroups) → HoldsChunks q [] u → chunks ≡ [] → left ≡ None → SinkHasTaken q n chunks u left
   run-given u chunks left holds empty none = rw (empty, none) (record { some = h.some; few = h.few; keyed = h.keyed; chunks = taken-none q; kept = holds })
 
   module _ (none : is_some given ≡ false) where
     -- one whose table was emptied has taken nothing
-    pub run-emptied : (u : Table) (chunks : List DataChunk) → u.groups ≡ [] → u.shape ≡ t.shape → chunks ≡ [] → HasTaken q n chunks u given
+    pub run-emptied : (u : Table) (chunks : List DataChunk) → u.groups ≡ [] → u.shape ≡ t.shape → chunks ≡ [] → SinkHasTaken q n chunks u given
     run-emptied u chunks groups shape empty = rw empty (record {
       some = h.some;
       few = h.few;
@@ -174,12 +174,12 @@ module _ (q : QueryTree) (n : ℕ) (xs : List DataChunk) (t : Table) (given : Op
     })
 
     -- and one whose table took that of other chunks over has taken both
-    module _ (ys : List DataChunk) (o : Table) (taken : AreTaken q ys) (holds : HoldsChunks q ys o) (few : total_height xs + total_height ys < 2 ^ 32) where
+    module _ (ys : List DataChunk) (o : Table) (taken : AreTakenChunks q ys) (holds : HoldsChunks q ys o) (few : total_height xs + total_height ys < 2 ^ 32) where
       pub run-few : HoldFewTogether t o
       run-few = both-few q xs ys t o (kept-none q xs t given none h.kept) holds few
 
       pub run-both : (u : Table) (chunks : List DataChunk) → All (λ c. All (λ d. c.chunk_index ≢ d.chunk_index) ys) xs → AreJoined t.shape.prototypes t.groups o.groups u.groups → u.shape ≡ t.shape
-          → chunks ≡ xs ++ ys → HasTaken q n chunks u given
+          → chunks ≡ xs ++ ys → SinkHasTaken q n chunks u given
       run-both u chunks apart joined shape both = rw both (record {
         some = h.some;
         few = h.few;
@@ -200,7 +200,7 @@ module _ (q : QueryTree) (n : ℕ) (xs : List DataChunk) (t : Table) (given : Op
       pub shape-once : t.shape ≡ shape_of q
       shape-once = held.shape
 
-      pub run-once : AreTaken q (c ∷ []) → (u : Table) (chunks : List DataChunk) → All (λ x. All (λ d. x.chunk_index ≢ d.chunk_index) (c ∷ [])) xs → TookChunk q c t u → chunks ≡ xs ++ c ∷ [] → HasTaken q n chunks u given
+      pub run-once : AreTakenChunks q (c ∷ []) → (u : Table) (chunks : List DataChunk) → All (λ x. All (λ d. x.chunk_index ≢ d.chunk_index) (c ∷ [])) xs → TookChunk q c t u → chunks ≡ xs ++ c ∷ [] → SinkHasTaken q n chunks u given
       run-once taken u chunks apart took both = rw both (record {
         some = h.some;
         few = h.few;
@@ -210,7 +210,7 @@ module _ (q : QueryTree) (n : ℕ) (xs : List DataChunk) (t : Table) (given : Op
       })
 
     -- one whose table holds alike has taken the same
-    pub run-alike : (u : Table) (chunks : List DataChunk) → HoldAlike t u → chunks ≡ xs → HasTaken q n chunks u given
+    pub run-alike : (u : Table) (chunks : List DataChunk) → HoldAlike t u → chunks ≡ xs → SinkHasTaken q n chunks u given
     run-alike u chunks alike same = rw same (record {
       some = h.some;
       few = h.few;

@@ -1,10 +1,9 @@
 -- Of the proofs alone: a chunk whose rows a table takes.
-use Rattle.std.specs.Prelude.{◌≡◌, ◌<◌, ◌^◌, ◌++◌, ℕ, All, List, length, map, Option, Some, None}
+use Rattle.std.specs.Prelude.{◌≡◌, ◌<◌, ◌^◌, ℕ, All, List, length, Option, Some, None}
 use Rattle.std.specs.Borrow.{Bor}
-use Rattle.std.specs.List.{range_with_len}
 use Rattle.pipe_columns.specs.declared.any_value.AnyValue.{AnyValue}
 use Rattle.pipe_columns.specs.declared.data_chunk.DataChunk.{DataChunk}
-use Rattle.pipe_columns.specs.Frame.{FrameData, value_at}
+use Rattle.pipe_columns.specs.Frame.{value_at}
 use Rattle.pipe_columns.specs.Row.{Row}
 use Rattle.pipe_aggs.specs.declared.query.Query.{Query}
 use Rattle.pipe_aggs.specs.CheckedQuery.{input_types}
@@ -13,14 +12,13 @@ use Rattle.pipe_inputs.specs.ChunkRows.{row_at}
 use Rattle.pipe_inputs.specs.RowTypes.{IsRowOf}
 use Rattle.pipe_model.specs.Output.{key_types}
 use Rattle.pipe_model.specs.Query.{QueryTree}
-use Rattle.pipe_model.specs.Rows.{chunk_rows, row_of}
-use Rattle.pipe_spill.specs.SpillRow.{AreRows, spilled}
-use Rattle.pipe_spill.specs.declared.spill_row.SpillRow.{SpillRow}
-use Rattle.pipe_groups.specs.Holds.{HoldFewer, Holds}
+use Rattle.pipe_model.specs.Rows.{chunk_rows}
+use Rattle.pipe_spill.specs.SpillRow.{AreRows}
+use Rattle.pipe_groups.specs.Holds.{HoldFewer}
 use Rattle.pipe_groups.specs.Shape.{shape_of}
 use Rattle.pipe_sinks.specs.Marks.{IsSole}
 use Rattle.pipe_keyed.specs.Tables.{Table}
-use Rattle.pipe_keyed.specs.TakenRows.{spilled_to, TookRows}
+use Rattle.pipe_keyed.specs.TakenRows.{spilled_first, TookFirstRows}
 
 -- values are the first ones of the keys of rows
 abbrev pub AreKeysOf : List Row → List AnyValue → Type 0
@@ -44,5 +42,5 @@ pub record TakesRows (query : Query) (c : DataChunk) (rows : List Row) (t : Tabl
 
 -- a table that took all rows of a chunk
 pub record TookChunk (q : QueryTree) (c : DataChunk) (old now : Table) : Type 0 where
-  pub took : TookRows q c.chunk_index c.frame c.frame.height old now
-  pub typed : AreRows (key_types q) (input_types q) (spilled_to q c.chunk_index c.frame c.frame.height)
+  pub took : TookFirstRows q c.chunk_index c.frame c.frame.height old now
+  pub typed : AreRows (key_types q) (input_types q) (spilled_first q c.chunk_index c.frame c.frame.height)

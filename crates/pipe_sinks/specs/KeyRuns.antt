@@ -1,5 +1,5 @@
 -- Of the proofs alone: rows of a chunk that follow one another and have one key.
-use Rattle.std.specs.Prelude.{◌≡◌, ◌+◌, ◌<◌, ◌≤◌, ◌^◌, ℕ, All, List, length, map, take, drop}
+use Rattle.std.specs.Prelude.{◌≡◌, ◌+◌, ◌<◌, ◌≤◌, ◌^◌, ℕ, List, length, map, take, drop}
 use Rattle.pipe_columns.specs.declared.data_type.DataType.{DataType}
 use Rattle.pipe_columns.specs.Row.{Row}
 use Rattle.pipe_inputs.specs.ChunkRows.{row_at}

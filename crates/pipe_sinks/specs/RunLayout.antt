@@ -21,7 +21,7 @@ use Rattle.pipe_sinks.specs.Runs.{placed_rows}
 use Rattle.pipe_keyed.specs.Tables.{Table}
 
 -- chunks of a query's columns, whose rows have places of their own and number fewer than 2^32
-pub record AreTaken (q : QueryTree) (taken : List DataChunk) : Type 0 where
+pub record AreTakenChunks (q : QueryTree) (taken : List DataChunk) : Type 0 where
   pub columns : All (λ c. FitsSchema q.schema c.frame) taken
   pub typed : All (λ c. HoldsTypes c.frame) taken
   pub once : HaveDistinctPlaces (placed_rows q taken)
@@ -56,10 +56,10 @@ AreKept q taken t None = HoldsChunks q taken t
 AreKept q taken t (Some p) = HoldsChunks q [] t × GaveChunks q taken p
 
 -- a sink of so many partitions has taken chunks
-pub record HasTaken (q : QueryTree) (partitions : ℕ) (taken : List DataChunk) (t : Table)
+pub record SinkHasTaken (q : QueryTree) (partitions : ℕ) (taken : List DataChunk) (t : Table)
     (given : Option PlacedGroups) : Type 0 where
   pub some : 0 < partitions
   pub few : partitions ≤ 2 ^ 32
   pub keyed : IsSole (key_types q)
-  pub chunks : AreTaken q taken
+  pub chunks : AreTakenChunks q taken
   pub kept : AreKept q taken t given

@@ -7,7 +7,7 @@ ghost use Rattle.pipe_columns.specs.Frame.{AllFit};
 ghost use Rattle.pipe_columns.specs.Key.{partition};
 ghost use Rattle.pipe_model.specs.Answer.{answer_of};
 ghost use Rattle.pipe_sinks.specs.PartPlaces.{part_places, sole};
-ghost use Rattle.pipe_sinks.specs.RunLayout.{AreTaken, GaveChunks};
+ghost use Rattle.pipe_sinks.specs.RunLayout.{AreTakenChunks, GaveChunks};
 ghost use Rattle.pipe_sinks.specs.Runs.{placed_rows};
 
 use pipe_aggs::CheckedQuery;
@@ -76,7 +76,7 @@ pub(crate) fn by_partition(
     requires key { length (query_tree query.now).keys ≡ 1 }
     requires some { 0 < partitions }
     requires few { partitions ≤ 2 ^ 32 }
-    requires chunks { AreTaken (query_tree query.now) (map (λ s. s.value) taken.now) }
+    requires chunks { AreTakenChunks (query_tree query.now) (map (λ s. s.value) taken.now) }
     requires gave { GaveChunks (query_tree query.now) (map (λ s. s.value) taken.now) placed.old }
     ensures answer { IfOk result (λ f. f ≡ answer_of
         (placed_rows (query_tree query.now) (map (λ s. s.value) taken.now))

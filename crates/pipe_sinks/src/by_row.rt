@@ -3,7 +3,7 @@
 ghost use Rattle.std.specs.Prelude.{◌≡◌, IfOk, map, true, ℕ};
 ghost use Rattle.pipe_aggs.specs.QueryTrees.{query_tree};
 ghost use Rattle.pipe_model.specs.Answer.{answer_of};
-ghost use Rattle.pipe_sinks.specs.RunLayout.{AreTaken, GaveChunks};
+ghost use Rattle.pipe_sinks.specs.RunLayout.{AreTakenChunks, GaveChunks};
 ghost use Rattle.pipe_sinks.specs.Runs.{placed_rows};
 
 use pipe_aggs::CheckedQuery;
@@ -20,7 +20,7 @@ pub(crate) fn by_row(
     taken: &[Snapshot<DataChunk>],
 ) -> Result<DataFrame, AllocError>
     requires kept { (query_tree query.now).keeps_order ≡ true }
-    requires chunks { AreTaken (query_tree query.now) (map (λ s. s.value) taken.now) }
+    requires chunks { AreTakenChunks (query_tree query.now) (map (λ s. s.value) taken.now) }
     requires gave { GaveChunks (query_tree query.now) (map (λ s. s.value) taken.now) placed.now }
     ensures { IfOk result (λ f. (partitions : ℕ) → f ≡ answer_of
         (placed_rows (query_tree query.now) (map (λ s. s.value) taken.now))

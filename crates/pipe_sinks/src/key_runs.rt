@@ -7,7 +7,7 @@ ghost use Rattle.pipe_groups.specs.GroupRuns.{keep_no_text};
 ghost use Rattle.pipe_groups.specs.Holds.{HoldFewer};
 ghost use Rattle.pipe_groups.specs.Shape.{shape_of};
 ghost use Rattle.pipe_model.specs.Output.{key_types};
-ghost use Rattle.pipe_keyed.specs.TakenRows.{TookRows};
+ghost use Rattle.pipe_keyed.specs.TakenRows.{TookFirstRows};
 ghost use Rattle.pipe_sinks.specs.ChunkTaking.{AreGivenKeys, AreKeysOf, TakesRows, TookChunk};
 ghost use Rattle.pipe_sinks.specs.KeyCuts.{AreCut};
 ghost use Rattle.pipe_sinks.specs.Marks.{IsSole};
@@ -133,7 +133,7 @@ fn feed_runs(
     requires takes { TakesRows query.now chunk.now rows.now table.old }
     requires plain { keep_no_text table.old.shape.prototypes table.old.shape.input_types ≡ true }
     requires cut { AreCut table.old rows.now 0 runs.now chunk.now.frame.height }
-    ensures took { TookRows (query_tree query.now) chunk.now.chunk_index chunk.now.frame
+    ensures took { TookFirstRows (query_tree query.now) chunk.now.chunk_index chunk.now.frame
         chunk.now.frame.height table.old table.new }
 {
     let mut row = 0;

@@ -25,7 +25,7 @@ pub struct PausedSink {
 impl Model for PausedSink {
     ghost use Rattle.std.specs.Prelude.{map};
     ghost use Rattle.pipe_aggs.specs.QueryTrees.{query_tree};
-    ghost use Rattle.pipe_sinks.specs.RunLayout.{HasTaken};
+    ghost use Rattle.pipe_sinks.specs.RunLayout.{SinkHasTaken};
     ghost use Rattle.pipe_sinks.specs.Runs.{Run};
 
     ghost Value = { Run };
@@ -36,7 +36,7 @@ impl Model for PausedSink {
       taken = map (λ s. s.value) a.taken.items;
     } };
 
-    ghost invariant = { λ a. HasTaken (query_tree a.of.value) a.partitions
+    ghost invariant = { λ a. SinkHasTaken (query_tree a.of.value) a.partitions
         (map (λ s. s.value) a.taken.items) a.table a.given };
 }
 

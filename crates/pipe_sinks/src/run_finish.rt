@@ -5,7 +5,7 @@ ghost use Rattle.pipe_aggs.specs.CheckedQuery.{IsSound};
 ghost use Rattle.pipe_aggs.specs.QueryTrees.{query_tree};
 ghost use Rattle.pipe_model.specs.Answer.{answer_of};
 ghost use Rattle.pipe_model.specs.Groupable.{IsGroupable};
-ghost use Rattle.pipe_sinks.specs.RunLayout.{AreKept, AreTaken, GaveChunks, HoldsChunks};
+ghost use Rattle.pipe_sinks.specs.RunLayout.{AreKept, AreTakenChunks, GaveChunks, HoldsChunks};
 ghost use Rattle.pipe_sinks.specs.Runs.{IsAnswer, placed_rows, purpose_of, with_taken};
 
 use crate::by_partition::by_partition;
@@ -27,7 +27,7 @@ fn placed_of(
 ) -> Result<PlacedGroups, AllocError>
     requires sound { IsSound query.now }
     requires groupable { IsGroupable (query_tree query.now) }
-    requires chunks { AreTaken (query_tree query.now) (map (λ s. s.value) taken.now) }
+    requires chunks { AreTakenChunks (query_tree query.now) (map (λ s. s.value) taken.now) }
     requires kept { AreKept (query_tree query.now) (map (λ s. s.value) taken.now)
         table.old given.old }
     ensures gave { IfOk result (λ p.

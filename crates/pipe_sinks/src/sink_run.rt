@@ -34,7 +34,7 @@ pub struct SinkRun<'a> {
 impl<'a> Model for SinkRun<'a> {
     ghost use Rattle.std.specs.Prelude.{map};
     ghost use Rattle.pipe_aggs.specs.QueryTrees.{query_tree};
-    ghost use Rattle.pipe_sinks.specs.RunLayout.{HasTaken};
+    ghost use Rattle.pipe_sinks.specs.RunLayout.{SinkHasTaken};
     ghost use Rattle.pipe_sinks.specs.Runs.{Run};
 
     ghost Value = { Run };
@@ -45,7 +45,7 @@ impl<'a> Model for SinkRun<'a> {
       taken = map (λ s. s.value) a.taken.items;
     } };
 
-    ghost invariant = { λ a. HasTaken (query_tree a.query.now) a.partitions
+    ghost invariant = { λ a. SinkHasTaken (query_tree a.query.now) a.partitions
         (map (λ s. s.value) a.taken.items) a.table a.given };
 }
 

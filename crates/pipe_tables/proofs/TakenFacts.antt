@@ -29,23 +29,23 @@ use Rattle.pipe_groups.proofs.ByPlaceFacts.{held-by_place}
 use Rattle.pipe_groups.specs.Holds.{HoldFewer, Holds}
 use Rattle.pipe_groups.specs.Shape.{Shape, shape_of}
 use Rattle.pipe_keyed.specs.Tables.{IsTable, Table}
-use Rattle.pipe_keyed.specs.TakenRows.{rows_to, spilled_to, TookRows}
+use Rattle.pipe_keyed.specs.TakenRows.{rows_to, spilled_first, TookFirstRows}
 use Rattle.pipe_keyed.proofs.TookFacts.{took-more}
-use Rattle.pipe_tables.specs.Taken.{HasTaken, spilled_rows}
+use Rattle.pipe_tables.specs.Taken.{TableHasTaken, spilled_rows}
 
 -- one row more
-spilled_more : (q : QueryTree) (i : ℕ) (frame : FrameData) (n : ℕ) → spilled_to q i frame (n + 1) ≡ spilled_to q i frame n ++ spilled (key_types q) (row_of q i frame n) ∷ []
+spilled_more : (q : QueryTree) (i : ℕ) (frame : FrameData) (n : ℕ) → spilled_first q i frame (n + 1) ≡ spilled_first q i frame n ++ spilled (key_types q) (row_of q i frame n) ∷ []
 spilled_more q i frame n =
     ap (map (spilled (key_types q))) (map-range_with_len_more (λ m. row_of q i frame m) 0 n n (omega arith))
     ∙ map-append (spilled (key_types q)) (rows_to q i frame n) (row_of q i frame n ∷ [])
 
 -- the next row is taken
-pub took-row : (q : QueryTree) (i : ℕ) (frame : FrameData) (n : ℕ) (old now new : Table) (r : SpillRow) → TookRows q i frame n old now
+pub took-row : (q : QueryTree) (i : ℕ) (frame : FrameData) (n : ℕ) (old now new : Table) (r : SpillRow) → TookFirstRows q i frame n old now
     → r ≡ spilled (key_types q) (row_of q i frame n) → new.shape ≡ now.shape
     → ((rows : List SpillRow) → Holds now.shape.prototypes now.groups rows → Holds now.shape.prototypes new.groups (rows ++ r ∷ []))
-    → TookRows q i frame (n + 1) old new
+    → TookFirstRows q i frame (n + 1) old new
 took-row q i frame n old now new r took is shape more =
-    took-more q i frame n 1 old now new (r ∷ []) took (spilled_more q i frame n ∙ ap (λ (x : SpillRow). spilled_to q i frame n ++ x ∷ []) (sym is)) shape more
+    took-more q i frame n 1 old now new (r ∷ []) took (spilled_more q i frame n ∙ ap (λ (x : SpillRow). spilled_first q i frame n ++ x ∷ []) (sym is)) shape more
 
 -- ---- chunks
 
@@ -86,7 +86,7 @@ chunks-more q taken c are fits typed few number =
     }
 
 -- there is room for the rows of one more
-pub room-for-chunk : (q : QueryTree) (taken : List DataChunk) (height : ℕ) (t : Table) → HasTaken q taken t → total_height taken + height < 2 ^ 32
+pub room-for-chunk : (q : QueryTree) (taken : List DataChunk) (height : ℕ) (t : Table) → TableHasTaken q taken t → total_height taken + height < 2 ^ 32
     → HoldFewer t.shape t.groups height
 room-for-chunk q taken height t h few = record {
   rows = spilled_rows q taken;
@@ -96,12 +96,12 @@ room-for-chunk q taken height t h few = record {
 }
 
 -- a table that took the rows of one more chunk has taken it
-pub taken-more : (q : QueryTree) (taken : List DataChunk) (c : DataChunk) (i : ℕ) (old new : Table) → HasTaken q taken old → i ≡ length taken
+pub taken-more : (q : QueryTree) (taken : List DataChunk) (c : DataChunk) (i : ℕ) (old new : Table) → TableHasTaken q taken old → i ≡ length taken
     → FitsSchema q.schema c.frame → HoldsTypes c.frame → total_height taken + c.frame.height < 2 ^ 32 → length taken + 1 < 2 ^ 32
     → new.shape ≡ old.shape → new.limit ≡ old.limit
     → ((rows : List SpillRow) → Holds old.shape.prototypes old.groups rows → Holds old.shape.prototypes new.groups (rows ++ map (spilled (key_types q)) (chunk_rows q i c.frame)))
     → AreRows old.shape.key_types old.shape.input_types (map (spilled (key_types q)) (chunk_rows q i c.frame))
-    → HasTaken q (taken ++ (c ∷ [])) new
+    → TableHasTaken q (taken ++ (c ∷ [])) new
 taken-more q taken c i old new h at fits types few number shape limit holds typed =
     let own : List SpillRow = map (spilled (key_types q)) (chunk_rows q i c.frame) in
     let all : spilled_rows q taken ++ own ≡ spilled_rows q (taken ++ (c ∷ [])) =
@@ -120,7 +120,7 @@ taken-more q taken c i old new h at fits types few number shape limit holds type
 -- ---- what is given
 
 -- a table that has taken chunks holds their rows, with the types of the query
-pub taken-holds : (x : Query) (taken : List DataChunk) (t : Table) → IsSound x → IsGroupable (query_tree x) → HasTaken (query_tree x) taken t → IsTable t
+pub taken-holds : (x : Query) (taken : List DataChunk) (t : Table) → IsSound x → IsGroupable (query_tree x) → TableHasTaken (query_tree x) taken t → IsTable t
     → HoldRowsOf (query_tree x) t.groups (rows taken (query_tree x))
 taken-holds x taken t sound groupable h is = record {
   groupable = groupable;

@@ -21,7 +21,7 @@ abbrev pub spilled_rows : QueryTree → List DataChunk → List SpillRow
 spilled_rows q chunks = map (spilled (key_types q)) (rows chunks q)
 
 -- a table without a limit holds the rows of the chunks taken, which the query may be asked of
-pub record HasTaken (q : QueryTree) (taken : List DataChunk) (t : Table) : Type 0 where
+pub record TableHasTaken (q : QueryTree) (taken : List DataChunk) (t : Table) : Type 0 where
   pub chunks : AreChunksOf q taken
   pub shape : t.shape ≡ shape_of q
   pub limit : t.limit ≡ None

@@ -11,7 +11,7 @@ ghost use Rattle.pipe_spill.specs.declared.spill_row.SpillRow.{SpillRow};
 ghost use Rattle.pipe_groups.specs.Holds.{HoldFewer, Holds};
 ghost use Rattle.pipe_groups.specs.Shape.{shape_of};
 ghost use Rattle.pipe_keyed.specs.Tables.{KeepsShape};
-ghost use Rattle.pipe_tables.specs.Taken.{HasTaken};
+ghost use Rattle.pipe_tables.specs.Taken.{TableHasTaken};
 
 use crate::hash_table::AggHashTable;
 use crate::insert_end::LentEnd;
@@ -71,12 +71,12 @@ fn take_chunk(
     query: &CheckedQuery<'_>,
     chunk: &DataChunk,
 ) -> Result<(), AllocError>
-    requires before { HasTaken (query_tree query.now) (map (λ s. s.value) taken.old.items) table.old }
+    requires before { TableHasTaken (query_tree query.now) (map (λ s. s.value) taken.old.items) table.old }
     requires fits { FitsSchema query.now.schema chunk.now.frame }
     requires few { total_height (map (λ s. s.value) taken.old.items) + chunk.now.frame.height
         < 2 ^ 32 }
     requires number { length taken.old.items + 1 < 2 ^ 32 }
-    ensures after { OnOk result (HasTaken (query_tree query.now)
+    ensures after { OnOk result (TableHasTaken (query_tree query.now)
         (map (λ s. s.value) taken.new.items) table.new) }
     ensures taken { OnOk result (map (λ s. s.value) taken.new.items
         ≡ map (λ s. s.value) taken.old.items ++ chunk.now ∷ []) }
@@ -94,7 +94,7 @@ fn answer_of(
     table: &mut AggHashTable,
     taken: &[Snapshot<DataChunk>],
 ) -> Result<DataFrame, AllocError>
-    requires { HasTaken (query_tree query.now) (map (λ s. s.value) taken.now) table.old }
+    requires { TableHasTaken (query_tree query.now) (map (λ s. s.value) taken.now) table.old }
     ensures { IfOk result (λ f. f
         ≡ answer (map (λ s. s.value) taken.now) (query_tree query.now) 1) }
 {
@@ -119,13 +119,13 @@ pub struct QueryGroups<'a> {
 impl<'a> Model for QueryGroups<'a> {
     ghost use Rattle.std.specs.Prelude.{map};
     ghost use Rattle.pipe_aggs.specs.QueryTrees.{query_tree};
-    ghost use Rattle.pipe_tables.specs.Taken.{HasTaken, QueryRun};
+    ghost use Rattle.pipe_tables.specs.Taken.{TableHasTaken, QueryRun};
 
     ghost Value = { QueryRun };
 
     ghost view = { λ a. record { query = a.query.now; taken = map (λ s. s.value) a.taken.items } };
 
-    ghost invariant = { λ a. HasTaken (query_tree a.query.now)
+    ghost invariant = { λ a. TableHasTaken (query_tree a.query.now)
         (map (λ s. s.value) a.taken.items) a.table };
 }
 

@@ -4,7 +4,7 @@ use Rattle.pipe_aggs.specs.QueryTrees.{query_tree}
 use Rattle.pipe_groups.specs.GroupRuns.{keep_no_text}
 use Rattle.pipe_groups.specs.Shape.{Shape}
 use Rattle.pipe_model.specs.Query.{QueryTree}
-use Rattle.pipe_keyed.specs.TakenRows.{TookRows}
+use Rattle.pipe_keyed.specs.TakenRows.{TookFirstRows}
 use Rattle.pipe_sinks.specs.KeyRuns.{run_rows}
 use Rattle.pipe_sinks.specs.declared.key_runs.KeyRun.{KeyRun}
 use Rattle.pipe_keyed.proofs.TookFacts.{took-none}
@@ -53,7 +53,7 @@ loop-run-preserved c =
     let len = r.end - n in
     let sum : n + len ≡ r.end = omega (arith, next.0) in
     record {
-      took = subst (λ (m : ℕ). TookRows q c.args.chunk.now.chunk_index c.args.chunk.now.frame m c.args.table.now c.feed_run.new.self) sum
+      took = subst (λ (m : ℕ). TookFirstRows q c.args.chunk.now.chunk_index c.args.chunk.now.frame m c.args.table.now c.feed_run.new.self) sum
           (took-run q c.args.chunk.now.chunk_index c.args.chunk.now.frame n len c.args.table.now c.loop-run.table c.feed_run.new.self rows _ c.loop-run.invariant.took c.requires.takes.rows_are (omega (arith, next.1.there, rows-long c.args.query.now c.args.chunk.now c.args.rows.now c.args.table.now c.loop-run.table c.loop-run.row c.requires.takes c.loop-run.invariant.took.shape))
           (ap (λ (s : Shape). run_rows s.key_types rows n len) (shape-now c.args.query.now c.args.chunk.now c.args.rows.now c.args.table.now c.loop-run.table c.loop-run.row c.requires.takes c.loop-run.invariant.took.shape)) c.feed_run.ensures.shape c.feed_run.ensures.holds);
       cut = cut-stay c.loop-run.table c.feed_run.new.self rows r.end c.args.chunk.now.frame.height (drop (c.loop-run.run-index + 1) c.args.runs.now) c.feed_run.ensures.shape c.feed_run.ensures.stay next.3;
@@ -62,4 +62,4 @@ loop-run-preserved c =
 pub returns : goal.returns
 returns c =
     let all : c.loop-run.row ≡ c.args.chunk.now.frame.height = cut-end c.loop-run.table c.args.rows.now c.loop-run.row c.args.chunk.now.frame.height c.args.runs.now c.loop-run.run-index c.loop-run-test.false c.loop-run.invariant.cut in
-    record { took = subst (λ (m : ℕ). TookRows (query_tree c.args.query.now) c.args.chunk.now.chunk_index c.args.chunk.now.frame m c.args.table.now c.loop-run.table) all c.loop-run.invariant.took }
+    record { took = subst (λ (m : ℕ). TookFirstRows (query_tree c.args.query.now) c.args.chunk.now.chunk_index c.args.chunk.now.frame m c.args.table.now c.loop-run.table) all c.loop-run.invariant.took }

@@ -4,7 +4,7 @@ use Rattle.std.specs.declared.snapshot.Snapshot.{Snapshot}
 use Rattle.pipe_columns.specs.declared.data_chunk.DataChunk.{DataChunk}
 use Rattle.pipe_model.specs.Query.{QueryTree}
 use Rattle.pipe_aggs.specs.QueryTrees.{query_tree}
-use Rattle.pipe_tables.specs.Taken.{HasTaken}
+use Rattle.pipe_tables.specs.Taken.{TableHasTaken}
 use Rattle.pipe_tables.proofs.TakenFacts.{room-for-chunk, taken-more}
 use Rattle.pipe_tables.proofs.query_groups.take_chunk.Goals as goal
 
@@ -29,7 +29,7 @@ returns-clause-after c =
     let number : length taken + 1 < 2 ^ 32 = omega (arith, count, c.requires.number) in
     let at : c.len-index.result ≡ length taken = omega (arith, c.len-index.ensures, count) in
     let added = c.in_ok-add_chunk.ensures in
-    subst (λ (chunks : List DataChunk). HasTaken q chunks c.add_chunk.new.table) (sym (marked-more marks c.push.new.self.items c.of.result chunk c.in_ok-push.ensures.items c.of.ensures))
+    subst (λ (chunks : List DataChunk). TableHasTaken q chunks c.add_chunk.new.table) (sym (marked-more marks c.push.new.self.items c.of.result chunk c.in_ok-push.ensures.items c.of.ensures))
     (taken-more q taken chunk _ c.args.table.now c.add_chunk.new.table c.requires.before at c.requires.fits added.types c.requires.few number added.shape.0 added.shape.1 added.holds added.typed)
 
 pub returns-clause-taken : goal.returns-clause-taken

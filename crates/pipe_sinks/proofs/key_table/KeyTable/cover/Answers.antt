@@ -22,18 +22,18 @@ cover_lent-requires-clause-key c = subst (λ (t : Table). AreOfTypes t.shape.key
 pub invariant_of-self-2 : goal.invariant_of-self-2
 invariant_of-self-2 c =
     let t : Table = table_in c.self.inside in
-    let u : Table = table_of c.cover_lent.new.self in
+    let u : Table = table_of c.cover_lent.new.keyed in
     let k : List ℕ = code t.shape.key_types (row_at c.args.rows.now c.args.row).key in
     covered-table t u k c.in_ok-index.index (record { table = c.self.invariant; is = (c.in_ok-index.ensures.ok.0, c.in_ok-index.ensures.ok.1, refl); at = c.in_ok-index.ensures.at })
 
 pub returns-clause-alike : goal.returns-clause-alike
 returns-clause-alike c =
-    subst (λ (t : Table). HoldAlike t (table_of c.cover_lent.new.self)) c.self.view_is (alike-covered (table_in c.self.inside) (table_of c.cover_lent.new.self) _ (c.in_ok-index.ensures.ok.0, c.in_ok-index.ensures.ok.1, refl))
+    subst (λ (t : Table). HoldAlike t (table_of c.cover_lent.new.keyed)) c.self.view_is (alike-covered (table_in c.self.inside) (table_of c.cover_lent.new.keyed) _ (c.in_ok-index.ensures.ok.0, c.in_ok-index.ensures.ok.1, refl))
 
 pub returns-clause-stay : goal.returns-clause-stay
 returns-clause-stay c =
-    subst (λ (t : Table). KeysStay t (table_of c.cover_lent.new.self)) c.self.view_is (cover-stay (table_in c.self.inside) (table_of c.cover_lent.new.self) _ (c.in_ok-index.ensures.ok.0, c.in_ok-index.ensures.ok.1, refl))
+    subst (λ (t : Table). KeysStay t (table_of c.cover_lent.new.keyed)) c.self.view_is (cover-stay (table_in c.self.inside) (table_of c.cover_lent.new.keyed) _ (c.in_ok-index.ensures.ok.0, c.in_ok-index.ensures.ok.1, refl))
 
 pub returns-clause-at : goal.returns-clause-at
 returns-clause-at c =
-    subst (λ (t : Table). IsAt c.cover_lent.new.self.groups (code t.shape.key_types (row_at c.args.rows.now c.args.row).key) c.in_ok-index.index) c.self.view_is c.in_ok-index.ensures.at
+    subst (λ (t : Table). IsAt c.cover_lent.new.keyed.groups (code t.shape.key_types (row_at c.args.rows.now c.args.row).key) c.in_ok-index.index) c.self.view_is c.in_ok-index.ensures.at

@@ -24,7 +24,7 @@ cover_lent-requires-clause-key c = subst (λ (t : Table). AreOfTypes t.shape.key
 pub feed_lent-requires-clause-few : goal.feed_lent-requires-clause-few
 feed_lent-requires-clause-few c =
     let t : Table = table_in c.self.inside in
-    let u : Table = table_of c.cover_lent.new.self in
+    let u : Table = table_of c.cover_lent.new.keyed in
     let k : List ℕ = code t.shape.key_types (row_at c.args.rows.now c.args.row).key in
     let covered : Covered t u k c.in_ok-index.index = record { table = c.self.invariant; is = (c.in_ok-index.ensures.ok.0, c.in_ok-index.ensures.ok.1, refl); at = c.in_ok-index.ensures.at } in
     let r : SpillRow = spilled t.shape.key_types (row_at c.args.rows.now c.args.row) in
@@ -36,7 +36,7 @@ feed_lent-requires-clause-few c =
 pub feed_lent-requires-clause-taken : goal.feed_lent-requires-clause-taken
 feed_lent-requires-clause-taken c =
     let t : Table = table_in c.self.inside in
-    let u : Table = table_of c.cover_lent.new.self in
+    let u : Table = table_of c.cover_lent.new.keyed in
     let k : List ℕ = code t.shape.key_types (row_at c.args.rows.now c.args.row).key in
     let covered : Covered t u k c.in_ok-index.index = record { table = c.self.invariant; is = (c.in_ok-index.ensures.ok.0, c.in_ok-index.ensures.ok.1, refl); at = c.in_ok-index.ensures.at } in
     let r : SpillRow = spilled t.shape.key_types (row_at c.args.rows.now c.args.row) in
@@ -48,7 +48,7 @@ feed_lent-requires-clause-taken c =
 pub invariant_of-self-2 : goal.invariant_of-self-2
 invariant_of-self-2 c =
     let t : Table = table_in c.self.inside in
-    let u : Table = table_of c.cover_lent.new.self in
+    let u : Table = table_of c.cover_lent.new.keyed in
     let k : List ℕ = code t.shape.key_types (row_at c.args.rows.now c.args.row).key in
     let covered : Covered t u k c.in_ok-index.index = record { table = c.self.invariant; is = (c.in_ok-index.ensures.ok.0, c.in_ok-index.ensures.ok.1, refl); at = c.in_ok-index.ensures.at } in
     let r : SpillRow = spilled t.shape.key_types (row_at c.args.rows.now c.args.row) in
@@ -60,7 +60,7 @@ invariant_of-self-2 c =
 pub returns-clause-holds : goal.returns-clause-holds
 returns-clause-holds c =
     let t : Table = table_in c.self.inside in
-    let u : Table = table_of c.cover_lent.new.self in
+    let u : Table = table_of c.cover_lent.new.keyed in
     let k : List ℕ = code t.shape.key_types (row_at c.args.rows.now c.args.row).key in
     let covered : Covered t u k c.in_ok-index.index = record { table = c.self.invariant; is = (c.in_ok-index.ensures.ok.0, c.in_ok-index.ensures.ok.1, refl); at = c.in_ok-index.ensures.at } in
     let r : SpillRow = spilled t.shape.key_types (row_at c.args.rows.now c.args.row) in
@@ -73,7 +73,7 @@ returns-clause-holds c =
 pub invariant_of-self-in_err-feed_lent : goal.invariant_of-self-in_err-feed_lent
 invariant_of-self-in_err-feed_lent c =
     let t : Table = table_in c.self.inside in
-    let u : Table = table_of c.cover_lent.new.self in
+    let u : Table = table_of c.cover_lent.new.keyed in
     let k : List ℕ = code t.shape.key_types (row_at c.args.rows.now c.args.row).key in
     let covered : Covered t u k c.in_ok-index.index = record { table = c.self.invariant; is = (c.in_ok-index.ensures.ok.0, c.in_ok-index.ensures.ok.1, refl); at = c.in_ok-index.ensures.at } in
     table-same u (table_of c.feed_lent.new.self) (covered-table t u k c.in_ok-index.index covered) (c.in_err-feed_lent.ensures.err.0, c.in_err-feed_lent.ensures.err.1, refl)

@@ -4,7 +4,7 @@ use Rattle.pipe_columns.specs.declared.data_chunk.DataChunk.{DataChunk}
 use Rattle.pipe_aggs.specs.declared.query.Query.{Query}
 use Rattle.pipe_aggs.specs.QueryTrees.{query_tree}
 use Rattle.pipe_model.specs.Rows.{total_height}
-use Rattle.pipe_sinks.specs.RunLayout.{HasTaken}
+use Rattle.pipe_sinks.specs.RunLayout.{SinkHasTaken}
 use Rattle.pipe_sinks.specs.Runs.{Purpose, Run}
 use Rattle.pipe_sinks.proofs.MarkFacts.{marked, marked-append}
 use Rattle.pipe_sinks.proofs.RunFacts.{kept-none, run-both, run-emptied, run-few}
@@ -19,7 +19,7 @@ combine-requires-clause-few c =
     let few : total_height xs + total_height ys < 2 ^ 32 = rw (own, theirs) c.requires.few in
     let asked : c.other.inside.query.now ≡ c.self.inside.query.now =
     ap (λ (r : Run). r.query) c.other.view_is ∙ ap (λ (p : Purpose). p.query) c.requires.same ∙ sym (ap (λ (r : Run). r.query) c.self.view_is) in
-    let more = subst (λ (x : Query). HasTaken (query_tree x) c.other.inside.partitions ys c.other.inside.table c.other.inside.given) asked c.other.invariant in
+    let more = subst (λ (x : Query). SinkHasTaken (query_tree x) c.other.inside.partitions ys c.other.inside.table c.other.inside.given) asked c.other.invariant in
     let none : is_some c.self.inside.given ≡ false = sym c.is_some.ensures ∙ c.if-is_some.false in
     let none' : is_some c.other.inside.given ≡ false = sym c.is_some-else-is_some.ensures ∙ c.if-is_some-2.false in
     run-few _ _ xs c.self.inside.table c.self.inside.given c.self.invariant none ys c.other.inside.table more.chunks (kept-none _ _ _ _ none' more.kept) few
@@ -34,7 +34,7 @@ invariant_of-self-2 c =
     let apart : All (λ c. All (λ d. c.chunk_index ≢ d.chunk_index) ys) xs = rw (own, theirs) c.requires.apart in
     let asked : c.other.inside.query.now ≡ c.self.inside.query.now =
     ap (λ (r : Run). r.query) c.other.view_is ∙ ap (λ (p : Purpose). p.query) c.requires.same ∙ sym (ap (λ (r : Run). r.query) c.self.view_is) in
-    let more = subst (λ (x : Query). HasTaken (query_tree x) c.other.inside.partitions ys c.other.inside.table c.other.inside.given) asked c.other.invariant in
+    let more = subst (λ (x : Query). SinkHasTaken (query_tree x) c.other.inside.partitions ys c.other.inside.table c.other.inside.given) asked c.other.invariant in
     let none : is_some c.self.inside.given ≡ false = sym c.is_some.ensures ∙ c.if-is_some.false in
     let none' : is_some c.other.inside.given ≡ false = sym c.is_some-else-is_some.ensures ∙ c.if-is_some-2.false in
     run-both _ _ xs c.self.inside.table c.self.inside.given c.self.invariant none ys c.other.inside.table more.chunks (kept-none _ _ _ _ none' more.kept) few
