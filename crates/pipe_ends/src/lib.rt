@@ -8,7 +8,7 @@ pub use pipe_files_sink::{
 };
 pub use pipe_io::{
     FileEnd, InputError, InputFiles, MOST_FILE_BYTES, MemoryFiles, MemoryOutput, Output,
-    OutputError, RealFiles, RealOutput, read_file, write_all,
+    OutputError, RealFiles, RealOutput, TriedNames, read_file, write_all,
 };
 pub use pipe_source::{ChunkReader, CsvReadOptions, CsvSource, SourcePlace};
 pub use pipe_writers::{
