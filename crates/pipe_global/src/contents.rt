@@ -144,7 +144,22 @@ impl<S: SpillStore + Drop> Contents<S> {
         ensures faults { S.faults result.1 ≡ self.store.faults }
         ensures sure { S.sure result.1 ≡ self.store.sure }
     {
-        let Contents { journal, store, .. } = self;
+        let Contents {
+            number: _,
+            partitions: _,
+            table,
+            waiting,
+            store,
+            marks,
+            journal,
+            book,
+            arrived: _,
+            failed: _,
+        } = self;
+        drop(table);
+        drop(waiting);
+        drop(marks);
+        drop(book);
         (journal, store)
     }
 

@@ -51,8 +51,7 @@ impl<S: SpillStore + Drop, R: Naming> Room<S, R> {
     pub(crate) fn new(alloc: Global, partitions: usize) -> Result<Room<S, R>, AllocError>
         requires { partitions ≡ R.run.limits.partitions }
     {
-        let mut list = Vec::new(alloc);
-        list.reserve(partitions)?;
+        let list = Vec::with_capacity(alloc, partitions)?;
         Ok(Room {
             list,
             of: PhantomData,

@@ -29,11 +29,11 @@ fn places_of(
     ensures len { IfOk result (λ v. vec_len v ≡ partitions) }
     ensures places { IfOk result (λ v. All (IsPlace (query_tree query.now) workers) v.items) }
 {
-    let mut places = Vec::new(alloc);
+    let mut places = Vec::with_capacity(alloc, partitions)?;
     for _number in 0..partitions {
-        let table = AggHashTable::new(alloc, query, None)?;
         let book = vec![in alloc; 0u64; workers]?;
-        places.push(Place { table, book })?;
+        let table = AggHashTable::new(alloc, query, None)?;
+        places.push_reserved(Place { table, book });
     }
     Ok(places)
 }
@@ -53,11 +53,12 @@ fn shares_of<R: Naming>(
     ensures len { IfOk result (λ v. vec_len v ≡ workers) }
     ensures unused { IfOk result (λ v. AreUnused partitions v.items) }
 {
-    let mut shares = Vec::new(alloc);
+    let mut shares = Vec::with_capacity(alloc, workers)?;
     for worker in 0..workers {
         let event_part = events.split_off(1, 0);
         let fault_part = faults.split_off(1, 0);
-        shares.push(Shares::new(alloc, worker, partitions, event_part, fault_part)?)?;
+        let one = Shares::new(alloc, worker, partitions, event_part, fault_part)?;
+        shares.push_reserved(one);
     }
     Ok(shares)
 }
@@ -70,9 +71,7 @@ pub(crate) fn room_for<S: SpillStore + Drop, R: Naming>(
     ensures none { IfOk result (λ v. vec_len v ≡ 0) }
     ensures room { IfOk result (λ v. partitions ≤ vec_capacity v) }
 {
-    let mut locks = Vec::new(alloc);
-    locks.reserve(partitions)?;
-    Ok(locks)
+    Vec::with_capacity(alloc, partitions)
 }
 
 /// The lock of each partition, with its place, its store and its parts of the ledgers.
@@ -149,6 +148,15 @@ impl<S: SpillStore + Drop, R: Naming> GlobalTable<S, R> {
         ensures back { IfErr result (λ e. e.1.items ≡ stores.items) }
     {
         let partitions = stores.len();
+        let Ok(room) = Room::new(alloc, partitions) else {
+            return Err((AllocError, stores));
+        };
+        let Ok(locks) = room_for(alloc, partitions) else {
+            return Err((AllocError, stores));
+        };
+        let Ok(places) = places_of(alloc, query, partitions, workers) else {
+            return Err((AllocError, stores));
+        };
         let (tally, parts) = Tally::open(blanks);
         let Parts {
             partitions: events,
@@ -157,15 +165,6 @@ impl<S: SpillStore + Drop, R: Naming> GlobalTable<S, R> {
             faults,
         } = parts;
         let Ok(shares) = shares_of(alloc, workers, partitions, worker_events, faults) else {
-            return Err((AllocError, stores));
-        };
-        let Ok(places) = places_of(alloc, query, partitions, workers) else {
-            return Err((AllocError, stores));
-        };
-        let Ok(room) = Room::new(alloc, partitions) else {
-            return Err((AllocError, stores));
-        };
-        let Ok(locks) = room_for(alloc, partitions) else {
             return Err((AllocError, stores));
         };
         let partitions = locks_of(

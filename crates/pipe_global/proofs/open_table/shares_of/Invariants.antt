@@ -1,4 +1,4 @@
-use Rattle.std.proofs.Common.{◌≡◌, ◌+◌, vec_len}
+use Rattle.std.proofs.Common.{◌≡◌, ◌+◌, ◌≤◌, vec_capacity, vec_len}
 use Rattle.pipe_global.specs.Opening.{AreUnused}
 use Rattle.pipe_global.proofs.open_table.shares_of.Given as goal
 
@@ -9,4 +9,5 @@ invariant-loop-worker g l =
     × (l.faults.parts + l.worker ≡ l.workers)
     × (l.faults.amount ≡ 0)
     × (vec_len l.shares ≡ l.worker)
+    × (l.workers ≤ vec_capacity l.shares)
     × AreUnused l.partitions l.shares.items

@@ -14,7 +14,7 @@ pub invariant_of-table : goal.invariant_of-table
 invariant_of-table g c = (c.locks_of-partitions.ensures ∙ c.requires.count, c.requires.run.limits.partitions)
 
 pub returns-clause-unused : goal.returns-clause-unused
-returns-clause-unused g c = subst (λ n. AreUnused n c.in-Ok.shares.items) (c.len-partitions.ensures ∙ c.requires.count) c.in-Ok.ensures.unused
+returns-clause-unused g c = subst (λ n. AreUnused n c.in-Ok-shares_of.shares.items) (c.len-partitions.ensures ∙ c.requires.count) c.in-Ok-shares_of.ensures.unused
 
 pub locks_of-partitions-requires-clause-places : goal.locks_of-partitions-requires-clause-places
 locks_of-partitions-requires-clause-places g c = c.in-Ok-places_of.ensures.len ∙ c.len-partitions.ensures
@@ -24,4 +24,4 @@ locks_of-partitions-requires-clause-room g c =
     (c.in-Ok-room_for.ensures.none, subst (λ n. n ≤ vec_capacity c.in-Ok-room_for.locks) c.len-partitions.ensures c.in-Ok-room_for.ensures.room)
 
 pub returns-clause-len : goal.returns-clause-len
-returns-clause-len g c = c.in-Ok.ensures.len ∙ sym c.requires.numbers.0
+returns-clause-len g c = c.in-Ok-shares_of.ensures.len ∙ sym c.requires.numbers.0
