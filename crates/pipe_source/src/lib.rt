@@ -31,20 +31,3 @@ pub use chunk_reader::ChunkReader;
 pub use csv_source::CsvSource;
 pub use read_options::CsvReadOptions;
 pub use source_place::SourcePlace;
-
-#[cfg(test)]
-mod bad_text_tests;
-#[cfg(test)]
-mod memory_tests;
-#[cfg(test)]
-mod piece_tests;
-#[cfg(test)]
-mod real_tests;
-#[cfg(test)]
-mod room_tests;
-#[cfg(test)]
-mod source_tests;
-#[cfg(test)]
-mod spent_tests;
-#[cfg(test)]
-mod tests;

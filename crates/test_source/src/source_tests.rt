@@ -1,13 +1,13 @@
 //! A source over two files, by single calls and by rounds, whichever input call fails.
 
-use crate::csv_source::CsvSource;
-use crate::read_options::CsvReadOptions;
-use crate::tests::{
-    TWO_FILES, key_and_value, memory_files, numbered, plain, show_chunks, texts_of,
-};
+ghost use Rattle.std.specs.Prelude.{◌<◌};
+
+use crate::asked::{round_of_source, show_chunks};
+use crate::made::{TWO_FILES, key_and_value, memory_files, numbered, plain, texts_of};
 use pipe_columns::{Source, SourceResult};
 use pipe_csv::CsvError;
 use pipe_io::InputFiles;
+use pipe_source::{CsvReadOptions, CsvSource};
 use std::alloc::{AllocError, Global};
 use std::fmt::Write;
 use std::test::Fail;
@@ -62,7 +62,7 @@ fn show_round<I: InputFiles, H: Threads + Sync>(
     count: usize,
     shown: &mut String,
 ) -> Result<bool, AllocError> {
-    match source.get_round(rt, count, 2) {
+    match round_of_source(rt, source, count) {
         Ok(chunks) => {
             show_chunks(shown, &chunks)?;
             Ok(chunks.len() >= count)
@@ -93,10 +93,9 @@ fn source_of<I: InputFiles>(
     alloc: Global,
     input: &mut I,
     options: CsvReadOptions,
-) -> Result<CsvSource<'_, I>, Fail> {
-    if options.chunk_size == 0 {
-        return Err("no chunk".into());
-    }
+) -> Result<CsvSource<'_, I>, AllocError>
+    requires { 0 < options.chunk_size }
+{
     let names = texts_of(alloc, &["a.csv", "b.csv"])?;
     let schema = key_and_value(alloc)?;
     Ok(CsvSource::new(alloc, input, names, schema, options))
@@ -108,7 +107,9 @@ fn shown_by_calls(
     files: &[(&str, &str)],
     failing: &[u64],
     options: CsvReadOptions,
-) -> Result<String, Fail> {
+) -> Result<String, Fail>
+    requires { 0 < options.chunk_size }
+{
     let mut input = memory_files(alloc, files, failing)?;
     let mut source = source_of(alloc, &mut input, options)?;
     by_calls(alloc, &mut source)
@@ -121,14 +122,13 @@ fn source_of_columns<'a, I: InputFiles>(
     wanted: &[bool],
 ) -> Result<CsvSource<'a, I>, Fail> {
     let schema = key_and_value(alloc)?;
-    let options = plain(1, None);
-    if options.chunk_size == 0 || wanted.len() > schema.fields().len() {
-        return Err("no chunk".into());
+    if wanted.len() > schema.fields().len() {
+        return Err("other columns".into());
     }
-    let names = texts_of(alloc, &["a.csv", "b.csv"])?;
     let wanted = Vec::from_slice(alloc, wanted)?;
-    let source = CsvSource::of_columns(alloc, input, names, schema, options, wanted)?;
-    Ok(source)
+    let names = texts_of(alloc, &["a.csv", "b.csv"])?;
+    let options = plain(1, None);
+    Ok(CsvSource::of_columns(alloc, input, names, schema, options, wanted)?)
 }
 
 /// The same of some columns, in rounds of so many chunks.

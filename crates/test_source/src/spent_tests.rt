@@ -1,10 +1,10 @@
 //! Chunks of texts that are read into the memory of spent ones.
 
-use crate::chunk_reader::ChunkReader;
-use crate::read_options::CsvReadOptions;
-use crate::tests::{memory_files, show_chunk};
-use pipe_columns::{DataType, Field, Schema, Text};
+use crate::asked::show_chunk;
+use crate::made::{field_of, memory_files, plain, reader_of_schema};
+use pipe_columns::{DataType, Schema};
 use pipe_io::MemoryFiles;
+use pipe_source::ChunkReader;
 use std::alloc::{AllocError, Global};
 use std::fmt::Write;
 use std::process::Abort;
@@ -20,23 +20,10 @@ const CHUNKS: &str = "[0 t a text that is longer than all others b v 1 2][1 t c,
 
 /// A reader of a file of a text and a number, in chunks of two rows.
 fn reader_of_texts(alloc: Global) -> Result<ChunkReader, AllocError> {
-    let names = vec![in alloc; Text::new(alloc, "a")?]?;
-    let text = Field {
-        name: Text::new(alloc, "t")?,
-        dtype: DataType::String,
-    };
-    let number = Field {
-        name: Text::new(alloc, "v")?,
-        dtype: DataType::Int64,
-    };
+    let text = field_of(alloc, "t", DataType::String)?;
+    let number = field_of(alloc, "v", DataType::Int64)?;
     let schema = Schema::new(vec![in alloc; text, number]?);
-    let options = CsvReadOptions {
-        chunk_size: 2,
-        n_rows: None,
-        row_index: None,
-        include_file_path: None,
-    };
-    Ok(ChunkReader::new(alloc, names, schema, options))
+    reader_of_schema(alloc, &["a"], schema, plain(2, None))
 }
 
 /// Shows the next chunk and hands it back as spent, or tells that there is none.

@@ -1,10 +1,14 @@
 //! Texts at the edges of what CSV is, each read by rounds of any size as it is by single calls.
 
-use crate::chunk_reader::ChunkReader;
-use crate::read_options::CsvReadOptions;
-use crate::tests::{memory_files, plain, read_calls, read_rounds, reader_of, texts_of};
-use pipe_columns::{AnyValue, DataChunk, DataType, Field, Schema, Text};
+ghost use Rattle.std.specs.Prelude.{◌≡◌, IfOk};
+
+use crate::asked::{read_calls, read_rounds};
+use crate::made::{
+    field_of, file_of, joined, memory_files, plain, reader_of, reader_of_schema, repeated,
+};
+use pipe_columns::{AnyValue, DataChunk, DataType, Schema, Text};
 use pipe_io::MemoryFiles;
+use pipe_source::{ChunkReader, CsvReadOptions};
 use std::alloc::{AllocError, Global};
 use std::process::Abort;
 use std::test::Fail;
@@ -70,26 +74,20 @@ const NAMES: [&str; 3] = ["a", "b", "c"];
 
 /// The schema of a number and a text.
 fn number_and_text(alloc: Global) -> Result<Schema, AllocError> {
-    let number = Field {
-        name: Text::new(alloc, "n")?,
-        dtype: DataType::Int64,
-    };
-    let text = Field {
-        name: Text::new(alloc, "t")?,
-        dtype: DataType::String,
-    };
+    let number = field_of(alloc, "n", DataType::Int64)?;
+    let text = field_of(alloc, "t", DataType::String)?;
     Ok(Schema::new(vec![in alloc; number, text]?))
 }
 
 /// A reader of so many files of a number and a text.
-fn reader_of_texts(alloc: Global, count: usize, limit: Option<usize>) -> Result<ChunkReader, Fail> {
-    let names = texts_of(alloc, &NAMES[..count.min(NAMES.len())])?;
+fn reader_of_texts(
+    alloc: Global,
+    count: usize,
+    limit: Option<usize>,
+) -> Result<ChunkReader, AllocError> {
     let schema = number_and_text(alloc)?;
-    let options = plain(2, limit);
-    if options.chunk_size == 0 {
-        return Err("chunks of no row".into());
-    }
-    Ok(ChunkReader::new(alloc, names, schema, options))
+    let names = &NAMES[..count.min(NAMES.len())];
+    reader_of_schema(alloc, names, schema, plain(2, limit))
 }
 
 /// Files of these texts.
@@ -219,7 +217,9 @@ const NUMBERED: [(&str, &str); 3] = [
 ];
 
 /// Chunks of two rows, which are numbered from the last number of 32 bits on.
-fn numbered_from_the_last(alloc: Global) -> Result<CsvReadOptions, AllocError> {
+fn numbered_from_the_last(alloc: Global) -> Result<CsvReadOptions, AllocError>
+    ensures { IfOk result (λ o. o.chunk_size ≡ 2) }
+{
     let name = Text::new(alloc, "i")?;
     let mut options = plain(2, None);
     options.row_index = Some((name, 4294967295));
@@ -244,33 +244,11 @@ fn rows_have_numbers_of_32_bits(rt: HostRuntime) -> Result<(), Fail> {
     Ok(())
 }
 
-/// A byte so many times.
-fn repeated(alloc: Global, byte: u8, count: usize) -> Result<Vec<u8>, AllocError> {
-    let mut bytes = Vec::with_capacity(alloc, count)?;
-    for _ in 0..count {
-        if bytes.push(byte).is_err() {
-            return Err(AllocError);
-        }
-    }
-    Ok(bytes)
-}
-
 /// A row whose number has so many zeros in front, and whose text has as many bytes.
 fn long_row(alloc: Global, count: usize) -> Result<Vec<u8>, AllocError> {
-    let mut text = Vec::from_slice(alloc, b"n,t\n")?;
-    text.extend_from_slice(&repeated(alloc, b'0', count)?)?;
-    text.extend_from_slice(b"7,")?;
-    text.extend_from_slice(&repeated(alloc, b'x', count)?)?;
-    text.extend_from_slice(b"\n")?;
-    Ok(text)
-}
-
-/// A reader's input with one file, which has a long row.
-fn file_of_a_long_row(alloc: Global, count: usize) -> Result<MemoryFiles, AllocError> {
-    let name = Text::new(alloc, "a")?;
-    let file = (name, long_row(alloc, count)?);
-    let files = vec![in alloc; file]?;
-    Ok(MemoryFiles::new(files, Vec::new(alloc)))
+    let zeros = repeated(alloc, b"0", count)?;
+    let text = repeated(alloc, b"x", count)?;
+    joined(alloc, &[b"n,t\n", &zeros, b"7,", &text, b"\n"])
 }
 
 /// How many bytes the text of a chunk has, of which the one row has the number 7.
@@ -301,7 +279,7 @@ fn next_text_bytes(
 
 /// How many bytes the text of a long row has, where it is read.
 fn bytes_of_a_long_row(alloc: Global, count: usize) -> Result<usize, Fail> {
-    let mut input = file_of_a_long_row(alloc, count)?;
+    let mut input = file_of(alloc, long_row(alloc, count)?)?;
     let mut reader = reader_of_texts(alloc, 1, None)?;
     next_text_bytes(alloc, &mut reader, &mut input)
 }

@@ -1,12 +1,13 @@
 //! Reads that want memory: `rt try --test --fail-alloc N` refuses the allocation of number N. A
 //! call that is refused is made again, and no row is lost; then the test tells that it was refused.
 
-use crate::chunk_reader::ChunkReader;
-use crate::tests::{TWO_FILES, memory_files, numbered, reader_of};
-use pipe_columns::{AnyValue, DataChunk};
+use crate::asked::round_of_reader;
+use crate::made::{TWO_FILES, memory_files, numbered, reader_of};
+use pipe_columns::{AnyValue, Column, DataChunk};
 use pipe_csv::CsvError;
 use pipe_io::MemoryFiles;
-use std::alloc::Global;
+use pipe_source::ChunkReader;
+use std::alloc::{AllocError, Global};
 use std::test::Fail;
 use std::thread::Threads;
 
@@ -17,42 +18,39 @@ const ROWS: [(i128, i128, i128, &str); 3] = [
     (2, 1, 7, "b.csv"),
 ];
 
-/// Whether a value is a number.
-fn is_number(value: &AnyValue, number: i128) -> bool {
-    match value {
-        AnyValue::Int(own) => *own == number,
+/// Whether a column has a number at a place.
+fn has_number(column: &Column, place: usize, number: i128) -> bool {
+    match column.values().get(place) {
+        Some(AnyValue::Int(own)) => *own == number,
         _ => false,
     }
 }
 
-/// Whether a value is a text.
-fn is_text(value: &AnyValue, text: &str) -> bool {
-    match value {
-        AnyValue::Text(own) => own.as_str() == text,
+/// Whether a column has a text at a place.
+fn has_text(column: &Column, place: usize, text: &str) -> bool {
+    match column.values().get(place) {
+        Some(AnyValue::Text(own)) => own.as_str() == text,
         _ => false,
     }
+}
+
+/// Whether columns have a row at a place.
+fn has_row(columns: &[Column], place: usize, row: &(i128, i128, i128, &str)) -> bool {
+    let [number, key, value, path] = columns else {
+        return false;
+    };
+    has_number(number, place, row.0)
+        && has_number(key, place, row.1)
+        && has_number(value, place, row.2)
+        && has_text(path, place, row.3)
 }
 
 /// Whether a chunk has the rows behind the first so many.
 fn has_rows(chunk: &DataChunk, before: usize) -> bool {
-    let [number, key, value, path] = chunk.frame.columns() else {
-        return false;
-    };
-    for i in 0..chunk.frame.height() {
-        let (Some(row), Some(n), Some(k), Some(v), Some(p)) = (
-            ROWS.get(before.saturating_add(i)),
-            number.values().get(i),
-            key.values().get(i),
-            value.values().get(i),
-            path.values().get(i),
-        ) else {
-            return false;
-        };
-        if !is_number(n, row.0) || !is_number(k, row.1) || !is_number(v, row.2) {
-            return false;
-        }
-        if !is_text(p, row.3) {
-            return false;
+    for place in 0..chunk.frame.height() {
+        match ROWS.get(before.saturating_add(place)) {
+            Some(row) if has_row(chunk.frame.columns(), place, row) => {}
+            _ => return false,
         }
     }
     true
@@ -83,7 +81,7 @@ fn judge(so_far: SoFar) -> Result<(), Fail> {
 }
 
 /// A reader of both files, whose rows are numbered and under their file's name.
-fn reader_of_two_files(alloc: Global) -> Result<ChunkReader, Fail> {
+fn reader_of_two_files(alloc: Global) -> Result<ChunkReader, AllocError> {
     let options = numbered(alloc)?;
     reader_of(alloc, &["a.csv", "b.csv"], options)
 }
@@ -149,7 +147,7 @@ fn add_round<H: Threads + Sync>(
     input: &mut MemoryFiles,
     so_far: &mut SoFar,
 ) -> Result<bool, Fail> {
-    match reader.get_round(rt, alloc, input, 3, 2) {
+    match round_of_reader(rt, alloc, reader, input, 3, 2) {
         Ok(chunks) => {
             for chunk in &chunks {
                 add_rows(so_far, chunk)?;
