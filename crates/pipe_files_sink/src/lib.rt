@@ -15,8 +15,3 @@ pub use files_sender::FilesSender;
 pub use files_sink::FilesSink;
 pub use json_sink::{JsonSink, JsonWriterOptions};
 pub use writer_core::WriterCore;
-
-#[cfg(test)]
-mod memory_tests;
-#[cfg(test)]
-mod tests;

@@ -34,6 +34,3 @@ pub use sink_writer::{SinkWriter, WriterCalls};
 pub use slice_sink::SliceSink;
 pub use vstacker::StreamingVstacker;
 pub use write_error::WriteError;
-
-#[cfg(test)]
-mod tests;

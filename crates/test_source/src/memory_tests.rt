@@ -131,12 +131,17 @@ fn judge_calls(
     Err("no end".into())
 }
 
+/// Judges what the calls of a new reader give.
+fn judge_calls_of(alloc: Global, input: &mut MemoryFiles) -> Result<(), Fail> {
+    let mut reader = reader_of_two_files(alloc)?;
+    judge_calls(alloc, &mut reader, input)
+}
+
 #[test]
 fn memory_for_one_chunk_at_a_call(rt: HostRuntime) -> Result<(), Fail> {
     let alloc = rt.alloc();
     let mut input = memory_files(alloc, &TWO_FILES, &[])?;
-    let mut reader = reader_of_two_files(alloc)?;
-    judge_calls(alloc, &mut reader, &mut input)
+    judge_calls_of(alloc, &mut input)
 }
 
 /// Adds what the next round of three chunks gives; whether more may come.
@@ -178,10 +183,19 @@ fn judge_rounds<H: Threads + Sync>(
     Err("no end".into())
 }
 
+/// Judges what the rounds of a new reader give.
+fn judge_rounds_of<H: Threads + Sync>(
+    rt: &H,
+    alloc: Global,
+    input: &mut MemoryFiles,
+) -> Result<(), Fail> {
+    let mut reader = reader_of_two_files(alloc)?;
+    judge_rounds(rt, alloc, &mut reader, input)
+}
+
 #[test]
 fn memory_for_rounds(rt: HostRuntime) -> Result<(), Fail> {
     let alloc = rt.alloc();
     let mut input = memory_files(alloc, &TWO_FILES, &[])?;
-    let mut reader = reader_of_two_files(alloc)?;
-    judge_rounds(&rt, alloc, &mut reader, &mut input)
+    judge_rounds_of(&rt, alloc, &mut input)
 }

@@ -5,7 +5,7 @@ ghost use Rattle.std.specs.Prelude.{◌<◌};
 
 use crate::asked::round_of_reader;
 use crate::made::{file_of, joined, plain, reader_of, repeated};
-use pipe_columns::DataChunk;
+use pipe_columns::{Column, DataChunk};
 use pipe_io::MemoryFiles;
 use pipe_source::ChunkReader;
 use std::alloc::{AllocError, Global};
@@ -108,6 +108,11 @@ const READINGS: [(usize, usize); 8] = [
     (7000, 24),
 ];
 
+/// Whether two columns have a name and values in common.
+fn are_columns_alike(one: &Column, other: &Column) -> bool {
+    one.name() == other.name() && one.values() == other.values()
+}
+
 /// Whether two chunks are alike.
 fn are_alike(one: &DataChunk, other: &DataChunk) -> bool {
     let (columns, others) = (one.frame.columns(), other.frame.columns());
@@ -115,7 +120,7 @@ fn are_alike(one: &DataChunk, other: &DataChunk) -> bool {
         return false;
     }
     for (column, own) in columns.iter().zip(others) {
-        if column.name() != own.name() || column.values() != own.values() {
+        if !are_columns_alike(column, own) {
             return false;
         }
     }
@@ -180,12 +185,12 @@ fn add_round<H: Threads + Sync>(
     }
 }
 
-/// Adds the refusal of the next single call, which gives no chunk.
-fn add_end(alloc: Global, calls: &mut Reading, refusal: &mut String) -> Result<(), Fail> {
+/// Whether the next single call gives no chunk, and is refused so, or is not.
+fn ends_so(alloc: Global, calls: &mut Reading, refusal: &str) -> Result<bool, AllocError> {
     match calls.reader.next_chunk(alloc, &mut calls.input) {
-        Ok(None) => Ok(()),
-        Ok(Some(_)) => Err("a chunk more".into()),
-        Err(error) => Ok(write!(refusal, "{error:?}")?),
+        Ok(None) => Ok(refusal.is_empty()),
+        Ok(Some(_)) => Ok(false),
+        Err(error) => Ok(format!(in alloc; "{error:?}")?.as_str() == refusal),
     }
 }
 
@@ -207,15 +212,46 @@ fn show_alike<H: Threads + Sync>(
             break;
         }
     }
-    let mut alone = String::new(alloc);
-    add_end(alloc, calls, &mut alone)?;
-    if shown.as_str() != alone.as_str() {
+    if !ends_so(alloc, calls, shown.as_str())? {
         return Err("another end".into());
     }
     if shown.as_str().is_empty() {
         write!(shown, "{rows}")?;
     }
     Ok(())
+}
+
+/// Shows what rounds give, and what single calls of a text give too, in chunks of so many rows.
+fn show_beside_calls<H: Threads + Sync>(
+    rt: &H,
+    alloc: Global,
+    rounds: &mut Reading,
+    text: &[u8],
+    size: usize,
+    threads: usize,
+    shown: &mut String,
+) -> Result<(), Fail>
+    requires size { 0 < size }
+    requires threads { 0 < threads }
+{
+    let mut calls = reading_of(alloc, text, size)?;
+    show_alike(rt, alloc, rounds, &mut calls, threads, shown)
+}
+
+/// Shows what a text gives in chunks of so many rows, read by so many threads and by one alone.
+fn show_text<H: Threads + Sync>(
+    rt: &H,
+    alloc: Global,
+    text: &[u8],
+    size: usize,
+    threads: usize,
+    shown: &mut String,
+) -> Result<(), Fail> {
+    if size == 0 || threads == 0 {
+        return Err("no reading".into());
+    }
+    let mut rounds = reading_of(alloc, text, size)?;
+    show_beside_calls(rt, alloc, &mut rounds, text, size, threads, shown)
 }
 
 /// What a text gives in chunks of so many rows, read by so many threads and by one alone.
@@ -226,13 +262,8 @@ fn shown_alike<H: Threads + Sync>(
     size: usize,
     threads: usize,
 ) -> Result<String, Fail> {
-    if size == 0 || threads == 0 {
-        return Err("no reading".into());
-    }
     let mut shown = String::new(alloc);
-    let mut rounds = reading_of(alloc, text, size)?;
-    let mut calls = reading_of(alloc, text, size)?;
-    show_alike(rt, alloc, &mut rounds, &mut calls, threads, &mut shown)?;
+    show_text(rt, alloc, text, size, threads, &mut shown)?;
     Ok(shown)
 }
 
