@@ -4,7 +4,7 @@ use Rattle.pipe_columns.specs.declared.data_chunk.DataChunk.{DataChunk}
 use Rattle.pipe_columns.specs.declared.schema.Field.{Field}
 use Rattle.pipe_columns.specs.Frame.{FitsSchema}
 use Rattle.pipe_io.specs.Files.{Files}
-use Rattle.pipe_io.specs.Tried.{AreTried, TriedFront}
+use Rattle.pipe_io.specs.Tried.{AreTried}
 use Rattle.pipe_io.proofs.TriedFacts.{front-then, tried-none, tried-then}
 use Rattle.pipe_model.specs.Rows.{total_height}
 use Rattle.pipe_run.specs.Feeding.{chunks_reached}
