@@ -1,7 +1,9 @@
-use Rattle.std.proofs.Common.{◌≡◌}
+use Rattle.std.proofs.Common.{◌≡◌, refl}
 use Rattle.pipe_aggs.specs.QueryTrees.{query_tree}
+use Rattle.pipe_io.proofs.TriedFacts.{front-none}
 use Rattle.pipe_words.specs.Plans.{plan_seen}
 use Rattle.tool_words.specs.Asked.{asks}
+use Rattle.tool_answer.specs.Asking.{files_asked}
 use Rattle.tool_answer.specs.Formats.{text_in}
 use Rattle.pipe_plan.specs.Stores.{stores_seen}
 use Rattle.tool_answer.specs.Faults.{IsCaused}
@@ -10,6 +12,10 @@ use Rattle.tool_answer.specs.Headline.{HasAnswer}
 use Rattle.tool_answer.proofs.RunFacts.{ok-at}
 use Rattle.tool_answer.proofs.ToolFacts.{has-answer, memory-begun, written-has, written-left}
 use Rattle.tool_answer.proofs.tool.answer_question.Goals as goal
+
+pub returns-in_default-clause-tried : goal.returns-in_default-clause-tried
+returns-in_default-clause-tried g c =
+    front-none _ _ (files_asked (asks (plan_seen c.args.question.plan) (query_tree c.args.question.query))) refl
 
 pub returns-in-Ok-ended-clause-left : goal.returns-in-Ok-ended-clause-left
 returns-in-Ok-ended-clause-left g c =
