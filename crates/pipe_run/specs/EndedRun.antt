@@ -10,7 +10,7 @@ use Rattle.pipe_groups.specs.Shape.{shape_of}
 use Rattle.pipe_plan.specs.Run.{all_rows, Run, tells}
 use Rattle.pipe_plan.specs.Whole.{all_kept}
 use Rattle.pipe_spill.specs.Store.{HasHeld}
-use Rattle.pipe_tables.specs.Tables.{Table}
+use Rattle.pipe_keyed.specs.Tables.{Table}
 use Rattle.pipe_global.specs.Partition.{IsRunnable, PartitionSeen, spilled_all}
 use Rattle.pipe_run.specs.Fed.{AreWholePartitions}
 use Rattle.pipe_run.specs.Given.{IsSource}
