@@ -193,7 +193,12 @@ impl<'a, S: SpillStore + Drop> AskedPartitions<'a, S> {
     pub(crate) fn into_parts(self) -> Vec<ClosedPartition<S>>
         ensures { result.items ≡ self.entry.partitions }
     {
-        let AskedPartitions { partitions, .. } = self;
+        let AskedPartitions {
+            partitions,
+            local,
+            ..
+        } = self;
+        drop(local);
         partitions
     }
 }

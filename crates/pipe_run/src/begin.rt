@@ -1,11 +1,13 @@
 //! A run before its first chunk.
 
-ghost use Rattle.std.specs.Prelude.{◌≡◌, ◌<◌, ◌≤◌, ◌^◌, [], All, IfErr, IfOk, None, OnOk, map, true, vec_capacity, vec_len};
+ghost use Rattle.std.specs.Prelude.{◌≡◌, ◌<◌, ◌≤◌, ◌^◌, [], All, IfErr, IfOk, None, OnOk, length, map, true, vec_capacity, vec_len};
 ghost use Rattle.pipe_aggs.specs.Faults.{first_fault};
 ghost use Rattle.pipe_aggs.specs.QueryTrees.{query_tree};
+ghost use Rattle.pipe_groups.specs.Shape.{shape_of};
 ghost use Rattle.pipe_model.specs.Output.{key_types};
 ghost use Rattle.pipe_plan.specs.Run.{AreLimits, is_generic};
 ghost use Rattle.pipe_plan.specs.Stores.{stores_seen};
+ghost use Rattle.pipe_run.specs.Fed.{IsUnused};
 ghost use Rattle.pipe_run.specs.Feeding.{NoneFell};
 ghost use Rattle.pipe_run.specs.Refusals.{IsBeginCause, limits_fit, suits_keys};
 
@@ -17,7 +19,9 @@ use crate::run::GenericRun;
 use pipe_aggs::{CheckError, CheckedQuery, Query};
 use pipe_plan::{Limits, SpillAction};
 use pipe_spill::SpillStore;
+use pipe_workers::PausedWorker;
 use std::alloc::{AllocError, Global};
+use std::snapshot::Snapshot;
 use std::sync::Wait;
 
 /// The query of a run without fault, where its limits fit and its kind of sink suits the keys.
@@ -122,15 +126,16 @@ impl<'a, S: SpillStore + Drop + Send> GenericRun<'a, S> {
     {
         // Called for what its clauses say.
         let _query = query.query();
-        let Ok(begun) = begun_of(alloc, query, limits, actions, &stores) else {
+        let Ok(memory) = memory_for(alloc, &query, limits, &stores) else {
+            drop(query);
             return Err((AllocError, stores));
         };
-        let Ok(room) = room_for(alloc, stores.len()) else {
-            return Err((AllocError, stores));
-        };
-        let Ok(rested) = unused_workers(alloc, &begun.query, limits) else {
-            return Err((AllocError, stores));
-        };
+        let Memory {
+            former,
+            room,
+            rested,
+        } = memory;
+        let begun = begun_of(query, limits, actions, former);
         match opened(rt, alloc, &begun, stores) {
             Ok(closed) => Ok(GenericRun {
                 begun,
@@ -140,41 +145,67 @@ impl<'a, S: SpillStore + Drop + Send> GenericRun<'a, S> {
                 rows: 0,
                 room,
             }),
-            Err(refusal) => Err(refusal),
+            Err(refusal) => {
+                drop(begun);
+                Err(refusal)
+            }
         }
     }
 }
 
-/// How a run with such limits and actions is begun over stores.
-fn begun_of<'a, S: SpillStore + Drop>(
+/// What a run takes memory for before its first chunk: marks of its stores, room for them, and workers
+/// that took no chunk.
+#[derive(Drop)]
+struct Memory<S: SpillStore + Drop> {
+    former: Vec<Snapshot<S>>,
+    room: Vec<S>,
+    rested: Vec<PausedWorker>,
+}
+
+/// The memory for a run over stores.
+fn memory_for<S: SpillStore + Drop>(
     alloc: Global,
+    query: &CheckedQuery<'_>,
+    limits: &Limits,
+    stores: &[S],
+) -> Result<Memory<S>, AllocError>
+    requires limits { AreLimits limits.now }
+    requires generic { is_generic limits.now.sink ≡ true }
+    ensures former { IfOk result (λ m. map (λ s. s.value) m.former.items ≡ stores.now) }
+    ensures none { IfOk result (λ m. vec_len m.room ≡ 0) }
+    ensures room { IfOk result (λ m. length stores.now ≤ vec_capacity m.room) }
+    ensures len { IfOk result (λ m. vec_len m.rested ≡ limits.now.workers) }
+    ensures unused { IfOk result
+        (λ m. All (IsUnused limits.now (shape_of (query_tree query.now))) m.rested.items) }
+{
+    let former = marks_of(alloc, stores)?;
+    let room = Vec::with_capacity(alloc, stores.len())?;
+    let rested = unused_workers(alloc, query, limits)?;
+    Ok(Memory {
+        former,
+        room,
+        rested,
+    })
+}
+
+/// How a run with such limits and actions is begun over stores of which these are marks.
+fn begun_of<'a, S: SpillStore + Drop>(
     query: CheckedQuery<'a>,
     limits: &Limits,
     actions: Vec<Vec<SpillAction>>,
-    stores: &[S],
-) -> Result<Begun<'a, S>, AllocError>
-    ensures { IfOk result (λ b. b ≡ record {
+    former: Vec<Snapshot<S>>,
+) -> Begun<'a, S>
+    ensures { result ≡ record {
       query = query.entry;
       limits = limits.now;
       actions = map (λ v. v.items) actions.items;
-      stores = stores_seen S.held S.told S.faults S.sure stores.now;
-    }) }
+      stores = stores_seen S.held S.told S.faults S.sure (map (λ s. s.value) former.items);
+    } }
 {
-    let former = marks_of(alloc, stores)?;
-    Ok(Begun {
+    Begun {
         query,
         limits: copy_of(limits),
         actions,
         former,
-    })
-}
-
-/// Room for so many stores.
-fn room_for<S: SpillStore + Drop>(alloc: Global, count: usize) -> Result<Vec<S>, AllocError>
-    ensures none { IfOk result (λ v. vec_len v ≡ 0) }
-    ensures room { IfOk result (λ v. count ≤ vec_capacity v) }
-{
-    let mut room = Vec::new(alloc);
-    room.reserve(count)?;
-    Ok(room)
+    }
 }

@@ -29,10 +29,34 @@ fn put_parts(
 {
     for partition in 0..partitions {
         let mut part = AggHashTable::new(alloc, query, None)?;
-        part.combine_on_partition(partition, partitions, local)?;
-        parts.push_reserved(part);
+        match part.combine_on_partition(partition, partitions, local) {
+            Ok(()) => parts.push_reserved(part),
+            Err(AllocError) => {
+                drop(part);
+                return Err(AllocError);
+            }
+        }
     }
     Ok(())
+}
+
+/// The tables that are taken out of a local table, one for each of so many partitions.
+fn taken_parts(
+    alloc: Global,
+    query: &CheckedQuery<'_>,
+    partitions: usize,
+    local: &mut AggHashTable,
+) -> Result<Vec<AggHashTable>, AllocError>
+    requires some { 0 < partitions }
+    requires shape { local.old.shape ≡ shape_of (query_tree query.now) }
+    requires few { HoldFewer local.old.shape local.old.groups 0 }
+    ensures count { IfOk result (λ v. length v.items ≡ partitions) }
+    ensures parts { IfOk result (λ v. (p : ℕ) (d : _) → p < partitions
+        → IsPartOf partitions p local.old (slice_index_or v.items p d)) }
+{
+    let mut parts = Vec::with_capacity(alloc, partitions)?;
+    put_parts(alloc, query, partitions, local, &mut parts)?;
+    Ok(parts)
 }
 
 /// For each of so many partitions, in order, a table of the groups of a local table whose keys lie there.
@@ -49,7 +73,7 @@ pub(crate) fn cut_by_partition(
     ensures parts { IfOk result (λ v. (p : ℕ) (d : _) → p < partitions
         → IsPartOf partitions p local (slice_index_or v.items p d)) }
 {
-    let mut parts = Vec::with_capacity(alloc, partitions)?;
-    put_parts(alloc, query, partitions, &mut local, &mut parts)?;
-    Ok(parts)
+    let parts = taken_parts(alloc, query, partitions, &mut local);
+    drop(local);
+    parts
 }

@@ -31,9 +31,7 @@ fn journal_room(alloc: Global, count: usize) -> Result<Vec<Journal>, AllocError>
     ensures none { IfOk result (λ v. vec_len v ≡ 0) }
     ensures room { IfOk result (λ v. count ≤ vec_capacity v) }
 {
-    let mut room = Vec::new(alloc);
-    room.reserve(count)?;
-    Ok(room)
+    Vec::with_capacity(alloc, count)
 }
 
 /// Ends a run that was begun so, with room for its journals and its stores.

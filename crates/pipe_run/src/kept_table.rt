@@ -36,7 +36,9 @@ fn combine_next(kept: &mut AggHashTable, rest: PausedWorker) -> Result<(), Alloc
     ensures shape { KeepsShape kept.old kept.new }
 {
     let mut table = map_of(rest);
-    kept.combine(&mut table)
+    let combined = kept.combine(&mut table);
+    drop(table);
+    combined
 }
 
 /// The tables of workers that have closed, combined into the first of them.
@@ -65,6 +67,12 @@ pub(crate) fn kept_table<S: SpillStore + Drop>(
             Some(rest) => rest,
             None => return Ok(kept),
         };
-        combine_next(&mut kept, rest)?;
+        match combine_next(&mut kept, rest) {
+            Ok(()) => {}
+            Err(AllocError) => {
+                drop(kept);
+                return Err(AllocError);
+            }
+        }
     }
 }

@@ -62,18 +62,32 @@ pub(crate) struct Rooms<R: Naming> {
     rested: Vec<PausedWorker>,
 }
 
-/// Room for so many workers.
-pub(crate) fn make_rooms<R: Naming>(alloc: Global, workers: usize) -> Result<Rooms<R>, AllocError>
-    ensures shares { IfOk result
-        (λ r. (vec_len r.shares ≡ 0) × (workers ≤ vec_capacity r.shares)) }
-    ensures rested { IfOk result
-        (λ r. (vec_len r.rested ≡ 0) × (workers ≤ vec_capacity r.rested)) }
+/// How many picks each of some workers made.
+fn picks_of(alloc: Global, rested: &[PausedWorker]) -> Result<Vec<usize>, AllocError>
+    ensures { IfOk result (λ v. v.items ≡ map (λ x. x.picks) rested.now) }
 {
-    let mut shares = Vec::new(alloc);
-    shares.reserve(workers)?;
-    let mut rested = Vec::new(alloc);
-    rested.reserve(workers)?;
-    Ok(Rooms { shares, rested })
+    let mut picks = Vec::with_capacity(alloc, rested.len())?;
+    for worker in 0..rested.len() {
+        picks.push(rested[worker].picks)?;
+    }
+    Ok(picks)
+}
+
+/// Room for what the workers leave, and how many picks each made.
+pub(crate) fn make_rooms<R: Naming>(
+    alloc: Global,
+    rested: &[PausedWorker],
+) -> Result<(Rooms<R>, Vec<usize>), AllocError>
+    ensures shares { IfOk result
+        (λ r. (vec_len r.0.shares ≡ 0) × (length rested.now ≤ vec_capacity r.0.shares)) }
+    ensures rested { IfOk result
+        (λ r. (vec_len r.0.rested ≡ 0) × (length rested.now ≤ vec_capacity r.0.rested)) }
+    ensures picks { IfOk result (λ r. r.1.items ≡ map (λ x. x.picks) rested.now) }
+{
+    let picks = picks_of(alloc, rested)?;
+    let shares = Vec::with_capacity(alloc, rested.len())?;
+    let rested = Vec::with_capacity(alloc, rested.len())?;
+    Ok((Rooms { shares, rested }, picks))
 }
 
 /// Room for so many jobs.
@@ -84,9 +98,7 @@ fn job_room<'a, S: SpillStore + Drop, R: Naming, G: Gate>(
     ensures none { IfOk result (λ v. vec_len v ≡ 0) }
     ensures room { IfOk result (λ v. workers ≤ vec_capacity v) }
 {
-    let mut jobs = Vec::new(alloc);
-    jobs.reserve(workers)?;
-    Ok(jobs)
+    Vec::with_capacity(alloc, workers)
 }
 
 /// The workers of a run, each where it was paused.
@@ -252,15 +264,4 @@ pub(crate) fn drive<
         return Err((RoundStop::Memory, closed));
     }
     Ok(Ended { closed, rested })
-}
-
-/// How many picks each of some workers made.
-pub(crate) fn picks_of(alloc: Global, rested: &[PausedWorker]) -> Result<Vec<usize>, AllocError>
-    ensures { IfOk result (λ v. v.items ≡ map (λ x. x.picks) rested.now) }
-{
-    let mut picks = Vec::with_capacity(alloc, rested.len())?;
-    for worker in 0..rested.len() {
-        picks.push(rested[worker].picks)?;
-    }
-    Ok(picks)
 }

@@ -9,7 +9,7 @@ ghost use Rattle.pipe_run.specs.Setting.{counted_from, run_of};
 ghost use Rattle.pipe_run.specs.declared.round.RoundStop.TheVariants as stop;
 
 use crate::begun::Begun;
-use crate::round::{Ended, RoundStop, drive, make_rooms, picks_of};
+use crate::round::{Ended, RoundStop, drive, make_rooms};
 use pipe_columns::DataChunk;
 use pipe_global::{Blanks, ClosedPartition, Gate, GlobalTable, Naming};
 use pipe_spill::SpillStore;
@@ -65,10 +65,7 @@ fn round_named<
     let _query = begun.query.query();
     let actions = begun.actions();
     let round = Round::new(taken.len(), chunks, actions, is_open);
-    let Ok(rooms) = make_rooms::<R>(alloc, rested.len()) else {
-        return Err((RoundStop::Memory, closed));
-    };
-    let Ok(picks) = picks_of(alloc, &rested) else {
+    let Ok((rooms, picks)) = make_rooms::<R>(alloc, &rested) else {
         return Err((RoundStop::Memory, closed));
     };
     let limit = begun.limits.payload_limit;

@@ -220,7 +220,17 @@ impl<'a, S: SpillStore + Drop + Send> GenericRun<'a, S> {
         ensures back { HaveWholeFrames (run_of self.entry.setting true self.entry.chunks)
             (stores_seen S.held S.told S.faults S.sure result.items) }
     {
-        let GenericRun { closed, room, .. } = self;
+        let GenericRun {
+            begun,
+            closed,
+            rested,
+            chunks,
+            rows: _,
+            room,
+        } = self;
+        drop(begun);
+        drop(rested);
+        drop(chunks);
         stores_of(closed, room)
     }
 }

@@ -29,9 +29,10 @@ impl<S: SpillStore + Drop> FinishTask<S> {
     {
         let FinishTask {
             partition,
+            local,
             given,
-            ..
         } = self;
+        drop(local);
         (partition, given)
     }
 }

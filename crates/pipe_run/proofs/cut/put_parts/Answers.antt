@@ -22,9 +22,9 @@ combine_on_partition-requires-clause-few c =
 pub loop-partition-preserved : goal.loop-partition-preserved
 loop-partition-preserved c = record {
   count = search rules;
-  shape = c.in_ok-combine_on_partition.ensures.other_shape.0 ∙ c.loop-partition.invariant.shape;
-  left = left-next c.args.partitions c.loop-partition.partition c.args.local.now c.loop-partition.local c.loop-partition.invariant.left c.combine_on_partition.new.other c.in_ok-combine_on_partition.ensures.rest;
+  shape = c.in-Ok.ensures.other_shape.0 ∙ c.loop-partition.invariant.shape;
+  left = left-next c.args.partitions c.loop-partition.partition c.args.local.now c.loop-partition.local c.loop-partition.invariant.left c.combine_on_partition.new.other c.in-Ok.ensures.rest;
   parts = parts-more c.args.partitions c.loop-partition.partition c.args.local.now c.loop-partition.parts.items c.push_reserved.new.self.items c.combine_on_partition.new.self c.loop-partition.invariant.count c.push_reserved.ensures.items c.loop-partition.invariant.parts
       (part-taken c.args.partitions c.loop-partition.partition c.args.local.now c.loop-partition.local c.loop-partition.invariant.left c.in_ok-part.part c.combine_on_partition.new.self c.in_ok-part.ensures.groups
-      (c.in_ok-part.ensures.shape ∙ sym c.requires.shape ∙ sym c.loop-partition.invariant.shape) c.loop-partition.invariant.shape c.in_ok-combine_on_partition.ensures.shape.0 c.in_ok-combine_on_partition.ensures.joined);
+      (c.in_ok-part.ensures.shape ∙ sym c.requires.shape ∙ sym c.loop-partition.invariant.shape) c.loop-partition.invariant.shape c.in-Ok.ensures.shape.0 c.in-Ok.ensures.joined);
 }

@@ -35,7 +35,7 @@ workers-preserved g c =
     let items : into_iter_items c.workers.waiting ≡ c.in-Some-next.rest ∷ into_iter_items c.next-in-workers.new.self = search rules in
     let h = subst (λ (l : List PausedWorker). HoldsFirst r c.args.rests.items l c.workers.kept) items c.workers.invariant.0 in
     let one : into_iter_len c.next-in-workers.new.self + 1 ≡ into_iter_len c.workers.waiting = c.in-Some-next.ensures.cases.1 in (
-      holds-next r c.args.rests.items c.requires.kept c.workers.kept c.in-Some-next.rest (into_iter_items c.next-in-workers.new.self) h c.combine_next.new.kept c.in_ok-combine_next.ensures.shape c.in_ok-combine_next.ensures.joined,
+      holds-next r c.args.rests.items c.requires.kept c.workers.kept c.in-Some-next.rest (into_iter_items c.next-in-workers.new.self) h c.combine_next.new.kept c.in-Ok.ensures.shape c.in-Ok.ensures.joined,
       omega (arith, one, c.workers.invariant.1, ap (λ (l : List PausedWorker). length l) items),
     )
 

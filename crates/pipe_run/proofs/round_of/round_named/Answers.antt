@@ -19,10 +19,6 @@ pub returns-in_default-clause-back : goal.returns-in_default-clause-back
 returns-in_default-clause-back g c =
     subst (λ (r : Run). AllStand r c.args.closed.items) (sym c.requires.run) (take-stand c.args.begun.now c.args.is_open (map (λ s. s.value) c.args.taken.now) c.args.chunks.now c.args.closed.items c.args.rested.items c.requires.fed)
 
-pub returns-in_default-picks_of-clause-back : goal.returns-in_default-picks_of-clause-back
-returns-in_default-picks_of-clause-back g c =
-    subst (λ (r : Run). AllStand r c.args.closed.items) (sym c.requires.run) (take-stand c.args.begun.now c.args.is_open (map (λ s. s.value) c.args.taken.now) c.args.chunks.now c.args.closed.items c.args.rested.items c.requires.fed)
-
 pub resume-requires-clause-run : goal.resume-requires-clause-run
 resume-requires-clause-run g c =
     subst IsRunnable (sym c.requires.run) (take-runnable c.args.begun.now c.args.is_open (map (λ s. s.value) c.args.taken.now) c.args.chunks.now c.args.closed.items c.args.rested.items c.requires.fed (subst (λ (v : Setting). IsSound v.query) c.begun.view_is c.query-query.ensures.sound) c.requires.chunks)
@@ -48,7 +44,7 @@ drive-requires-clause-ready g c = λ κs lives.
     let long : length c.in-Ok-resume.shares.items ≡ g.R.Naming.run.limits.workers = omega (arith, c.in-Ok-resume.shares.ok.0, c.in-Ok-resume.ensures.len) in
     let count : length c.in-Ok-resume.shares.items ≡ c.args.begun.now.limits.workers = long ∙ ap (λ (r : Run). r.limits.workers) c.requires.run in
     let resumed : AreResumed c.args.closed.items (map (λ (x : PausedWorker). x.picks) c.args.rested.items) c.in-Ok-resume.shares.items =
-    subst (λ (ps : List ℕ). AreResumed c.args.closed.items ps c.in-Ok-resume.shares.items) (c.deref-2.ensures.value ∙ c.in-Ok-picks_of.ensures ∙ ap (λ (l : List PausedWorker). map (λ x. x.picks) l) c.deref.ensures.value) c.in-Ok-resume.ensures.shares in
+    subst (λ (ps : List ℕ). AreResumed c.args.closed.items ps c.in-Ok-resume.shares.items) (c.deref-2.ensures.value ∙ c.in-Ok.ensures.picks ∙ ap (λ (l : List PausedWorker). map (λ x. x.picks) l) c.deref.ensures.value) c.in-Ok-resume.ensures.shares in
     subst (λ (r : Run). StandReady r c.new-round.result.first c.args.rested.items c.in-Ok-resume.shares.items) (sym c.requires.run)
     (subst (λ n. StandReady (Rattle.pipe_run.proofs.Taking.run c.args.begun.now c.args.is_open (map (λ s. s.value) c.args.taken.now) c.args.chunks.now c.args.closed.items c.args.rested.items c.requires.fed) n c.args.rested.items c.in-Ok-resume.shares.items) first
     (take-ready c.args.begun.now c.args.is_open (map (λ s. s.value) c.args.taken.now) c.args.chunks.now c.args.closed.items c.args.rested.items c.requires.fed c.in-Ok-resume.shares.items c.requires.generic count resumed))
@@ -77,7 +73,7 @@ resume-requires-clause-count g c = omega (arith, c.args.closed.ok.0, c.requires.
 
 pub resume-requires-clause-numbers : goal.resume-requires-clause-numbers
 resume-requires-clause-numbers g c =
-    let picks : c.deref-2.result.now ≡ map (λ (x : PausedWorker). x.picks) c.args.rested.items = c.deref-2.ensures.value ∙ c.in-Ok-picks_of.ensures ∙ ap (λ (l : List PausedWorker). map (λ x. x.picks) l) c.deref.ensures.value in (
+    let picks : c.deref-2.result.now ≡ map (λ (x : PausedWorker). x.picks) c.args.rested.items = c.deref-2.ensures.value ∙ c.in-Ok.ensures.picks ∙ ap (λ (l : List PausedWorker). map (λ x. x.picks) l) c.deref.ensures.value in (
       ap (λ (r : Run). r.limits.workers) c.requires.run ∙ sym c.requires.fed.workers.count ∙ sym (length-map c.args.rested.items (λ (x : PausedWorker). x.picks)) ∙ sym (ap (λ (l : List ℕ). length l) picks),
       ap (λ (r : Run). r.limits.payload_limit) c.requires.run ∙ sym (ap (λ (v : Setting). v.limits.payload_limit) c.begun.view_is),
     )
