@@ -33,14 +33,14 @@ pub record HasEndedRun (r : Run) (query : Query) (closed : List PartitionSeen) (
   pub kept : Holds (shape_of r.query).prototypes local.groups (spilled_all r.query (all_kept r))
 
 -- these can be asked, under any slice
-abbrev pub CanBeAsked : Type 1
+abbrev pub CanBeAsked : Type 0
 CanBeAsked =
     (r : Run) (query : Query) (closed : List PartitionSeen) (local : Table)
     (slice : Option (ℕ × ℕ)) → HasEndedRun r query closed local
     → IsSource (unasked query closed local slice)
 
 -- where the stores tell, they stand for all rows of the run
-abbrev pub StandForAllRows : Type 1
+abbrev pub StandForAllRows : Type 0
 StandForAllRows =
     (r : Run) (query : Query) (closed : List PartitionSeen) (local : Table)
     (slice : Option (ℕ × ℕ)) → HasEndedRun r query closed local

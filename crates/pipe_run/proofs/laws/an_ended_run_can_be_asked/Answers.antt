@@ -1,4 +1,4 @@
-use Rattle.std.proofs.Common.{◌≡◌, ◌<◌, ℕ, false, [], length, refl, arith}
+use Rattle.std.proofs.Common.{[], arith, false}
 use Rattle.pipe_run.proofs.EndedSource.{ended-rows, ended-source}
 use Rattle.pipe_run.proofs.laws.an_ended_run_can_be_asked.Goals as goal
 
