@@ -1,6 +1,7 @@
 //! What writers, cores and sinks are fed, and what comes of it.
 
-ghost use Rattle.std.specs.Prelude.{◌≡◌};
+ghost use Rattle.std.specs.Prelude.{◌≡◌, IsTrue};
+ghost use Rattle.pipe_files_sink.specs.Joined.{IsWritable};
 ghost use Rattle.pipe_writers.specs.Writers.{IsFresh, IsOpen};
 
 use pipe_columns::{DataChunk, DataFrame, FinalizedSink, Schema, Sink, SinkResult};
@@ -23,7 +24,9 @@ pub(crate) fn write_one<W: SinkWriter>(writer: &mut W, frame: &DataFrame) -> Res
 }
 
 /// Whether a chunk fits a schema, and its rows can be joined with others.
-fn is_taken(schema: &Schema, chunk: &DataChunk) -> bool {
+fn is_taken(schema: &Schema, chunk: &DataChunk) -> bool
+    ensures { IsTrue result → IsWritable schema.now chunk.now.frame }
+{
     chunk.frame.fits(schema) && chunk.frame.height() <= 1 << 20
 }
 

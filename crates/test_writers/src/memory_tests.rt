@@ -1,8 +1,7 @@
 //! Calls that want memory. `rt try --test --fail-alloc N` refuses the allocation of number N: a
 //! test then fails by an error that says what `wants memory`, or by that of an allocation that
 //! prepared the call. `scripts/refuse_allocations.py test_writers` tries each number, and says
-//! what each test ended with. Where the allocation is refused by which a thread starts, a sink
-//! writes in its caller, and the test ends with the right answer.
+//! what each test ended with.
 
 ghost use Rattle.std.specs.Prelude.{◌≡◌};
 

@@ -43,10 +43,10 @@ fn written_where_fails(
 fn are_sent_by(alloc: Global, rows: usize, bytes: usize, writes: u64) -> Result<bool, Fail> {
     let schema = texts(alloc)?;
     let frame = rows_of(alloc, rows, bytes)?;
-    let all = rows as u128 * (bytes as u128 + BESIDE as u128);
+    let all = (rows as u128).saturating_mul(bytes as u128 + BESIDE as u128);
     for failing in 0..=writes {
         let (is_written, told) = written_where_fails(alloc, &schema, &frame, failing)?;
-        let sent = u128::from(failing) * all;
+        let sent = u128::from(failing).saturating_mul(all);
         if is_written != (failing == writes) || u128::from(writes) * told as u128 != sent {
             return Ok(false);
         }

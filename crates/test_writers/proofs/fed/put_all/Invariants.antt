@@ -8,5 +8,5 @@ invariant-loop-chunk g l = record {
   can : (goal.iterator-loop-chunk g).can_next l.chunk-iterator;
   ends : (goal.iterator-loop-chunk g).is_finite l.chunk-iterator;
   is_open : IsOpen l.core.calls;
-  fields : g.W.SinkWriter.fields (g.W.SinkWriter.format l.core.writer) ≡ l.fn.schema.now;
+  fields : g.W.SinkWriter.fields (g.W.SinkWriter.format l.core.writer) ≡ l.fn.schema;
 }

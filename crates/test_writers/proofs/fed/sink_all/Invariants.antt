@@ -1,4 +1,4 @@
-use Rattle.std.proofs.Common.{◌≡◌, ◌×◌}
+use Rattle.std.proofs.Common.{◌≡◌}
 use Rattle.test_writers.proofs.fed.sink_all.Given as goal
 
 -- the sink has the schema, as before

@@ -1,4 +1,4 @@
-use Rattle.std.proofs.Common.{◌≡◌, ◌×◌}
+use Rattle.std.proofs.Common.{◌≡◌}
 use Rattle.test_writers.proofs.memory_tests.send_all.Given as goal
 
 -- the sender has the schema, as before
