@@ -23,7 +23,7 @@ use Rattle.pipe_plan.specs.Payloads.{full_pieces, payloads}
 use Rattle.pipe_plan.specs.Plan.{action_at, asks, events_of, is_pick, picks_before, plan, turn_events, turns_before}
 use Rattle.pipe_plan.specs.Replay.{after_arrival, after_event, arrivals, events_by, joined_lists, next_piece, replay, Replayed, replay_from}
 use Rattle.pipe_plan.specs.Run.{is_generic, is_turn_of, of_worker, Run, StoreSeen}
-use Rattle.pipe_global.specs.Partition.{bytes_of, no_store, store_of, with_frames}
+use Rattle.pipe_global.specs.Partition.{frame_bytes_of, no_store, store_of, with_frames}
 use Rattle.pipe_run.specs.Answered.{HasFrames, HaveReplayedFrames, HaveWholeFrames, IsAnswered}
 use Rattle.pipe_run.specs.declared.output.GroupByOutput.{GroupByOutput}
 use Rattle.pipe_spill.specs.FrameBytes.{frame_bytes}
@@ -115,7 +115,7 @@ module _ (r : Run) (chunks : List DataChunk) (query : QueryTree) (alike : AreAli
   replay-alike p journal = replay-on p [] _ journal
 
   -- the bytes of frames
-  bytes-alike : (frames : List (List Row)) → map (bytes_of query) frames ≡ map (bytes_of r.query) frames
+  bytes-alike : (frames : List (List Row)) → map (frame_bytes_of query) frames ≡ map (frame_bytes_of r.query) frames
   bytes-alike frames = λ i. map (λ rows. frame_bytes (alike.inputs i) (map (spilled (alike.keys i)) rows)) frames
 
   -- a store's frames

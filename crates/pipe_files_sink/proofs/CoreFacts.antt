@@ -9,7 +9,7 @@ use Rattle.pipe_columns.specs.Frame.{FrameData}
 use Rattle.pipe_plan.proofs.Cutting.{full-append, full-filled, full-short, full-unfilled, last_piece, pieces-full_rest, rest-filled, rest-lt, rest-short, rest-unfilled}
 use Rattle.pipe_plan.specs.Payloads.{full_pieces, rest_of}
 use Rattle.pipe_writers.specs.Rows.{Row}
-use Rattle.pipe_writers.specs.WriteOrder.{has_rows, rows_of_chunks, with_rows, write_order, written_piece}
+use Rattle.pipe_writers.specs.WriteOrder.{chunk_has_rows, rows_of_chunks, chunks_with_rows, write_order, written_piece}
 use Rattle.pipe_writers.specs.WriterLaws.{told_alike}
 use Rattle.pipe_writers.specs.Writers.{TellsFront}
 use Rattle.pipe_files_sink.specs.Core.{CoreSeen, HasTaken, full_order}
@@ -40,16 +40,16 @@ on-err-then (Err e) a f = f a
 -- ---- chunks with rows
 
 -- one more chunk without rows
-pub rows-same : (chunks : List DataChunk) (c : DataChunk) → c.frame.height ≡ 0 → with_rows (chunks ++ c ∷ []) ≡ with_rows chunks
+pub rows-same : (chunks : List DataChunk) (c : DataChunk) → c.frame.height ≡ 0 → chunks_with_rows (chunks ++ c ∷ []) ≡ chunks_with_rows chunks
 rows-same chunks c none =
-    let not : has_rows c ≡ false = rw (eq-eqb c.frame.height 0 none) refl in
-    filter-append has_rows chunks (c ∷ []) ∙ rw not (append-nil (with_rows chunks))
+    let not : chunk_has_rows c ≡ false = rw (eq-eqb c.frame.height 0 none) refl in
+    filter-append chunk_has_rows chunks (c ∷ []) ∙ rw not (append-nil (chunks_with_rows chunks))
 
 -- one more chunk with rows
-pub rows-one : (chunks : List DataChunk) (c : DataChunk) → c.frame.height ≢ 0 → with_rows (chunks ++ c ∷ []) ≡ with_rows chunks ++ c ∷ []
+pub rows-one : (chunks : List DataChunk) (c : DataChunk) → c.frame.height ≢ 0 → chunks_with_rows (chunks ++ c ∷ []) ≡ chunks_with_rows chunks ++ c ∷ []
 rows-one chunks c some =
-    let has : has_rows c ≡ true = rw (ne_eqb c.frame.height 0 some) refl in
-    filter-append has_rows chunks (c ∷ []) ∙ rw has refl
+    let has : chunk_has_rows c ≡ true = rw (ne_eqb c.frame.height 0 some) refl in
+    filter-append chunk_has_rows chunks (c ∷ []) ∙ rw has refl
 
 -- ---- the order of writing
 
@@ -58,22 +58,22 @@ module _ (m : ℕ) (maintain : Bool) (some : 0 < m) where
   written ps = flat_map (written_piece maintain) ps
 
   -- full pieces are in front of what is written
-  order-parts : (chunks : List DataChunk) → write_order chunks m maintain ≡ full_order chunks m maintain ++ written (last_piece (rest_of m (with_rows chunks)))
+  order-parts : (chunks : List DataChunk) → write_order chunks m maintain ≡ full_order chunks m maintain ++ written (last_piece (rest_of m (chunks_with_rows chunks)))
   order-parts chunks =
-      ap written (pieces-full_rest m (with_rows chunks) some) ∙ flat_map-append (written_piece maintain) (full_pieces m (with_rows chunks)) (last_piece (rest_of m (with_rows chunks)))
+      ap written (pieces-full_rest m (chunks_with_rows chunks) some) ∙ flat_map-append (written_piece maintain) (full_pieces m (chunks_with_rows chunks)) (last_piece (rest_of m (chunks_with_rows chunks)))
 
   -- and so are they of what is written of more chunks
-  full-more : (chunks more : List DataChunk) → full_order (chunks ++ more) m maintain ≡ full_order chunks m maintain ++ written (full_pieces m (rest_of m (with_rows chunks) ++ with_rows more))
+  full-more : (chunks more : List DataChunk) → full_order (chunks ++ more) m maintain ≡ full_order chunks m maintain ++ written (full_pieces m (rest_of m (chunks_with_rows chunks) ++ chunks_with_rows more))
   full-more chunks more =
-      ap (λ (cs : List DataChunk). written (full_pieces m cs)) (filter-append has_rows chunks more)
-      ∙ ap written (full-append m (with_rows chunks) (with_rows more) some)
-      ∙ flat_map-append (written_piece maintain) (full_pieces m (with_rows chunks)) (full_pieces m (rest_of m (with_rows chunks) ++ with_rows more))
+      ap (λ (cs : List DataChunk). written (full_pieces m cs)) (filter-append chunk_has_rows chunks more)
+      ∙ ap written (full-append m (chunks_with_rows chunks) (chunks_with_rows more) some)
+      ∙ flat_map-append (written_piece maintain) (full_pieces m (chunks_with_rows chunks)) (full_pieces m (rest_of m (chunks_with_rows chunks) ++ chunks_with_rows more))
 
   -- what follows them
   pub follows : (chunks more : List DataChunk) → (left : List DataChunk) × (full_order chunks m maintain ++ left ≡ write_order (chunks ++ more) m maintain)
   follows chunks more =
-      let next = written (full_pieces m (rest_of m (with_rows chunks) ++ with_rows more)) in
-      let last = written (last_piece (rest_of m (with_rows (chunks ++ more)))) in
+      let next = written (full_pieces m (rest_of m (chunks_with_rows chunks) ++ chunks_with_rows more)) in
+      let last = written (last_piece (rest_of m (chunks_with_rows (chunks ++ more)))) in
       (next ++ last, sym (append_assoc (full_order chunks m maintain) next last) ∙ ap (λ (cs : List DataChunk). cs ++ last) (sym (full-more chunks more)) ∙ sym (order-parts (chunks ++ more)))
 
   none-written : (b : Bool) → written_piece b [] ≡ []
@@ -85,23 +85,23 @@ module _ (m : ℕ) (maintain : Bool) (some : 0 < m) where
   last-written (x ∷ rest) = append-nil (written_piece maintain (x ∷ rest))
 
   -- the last piece is written behind the full ones
-  pub order-last : (chunks : List DataChunk) → full_order chunks m maintain ++ written_piece maintain (rest_of m (with_rows chunks)) ≡ write_order chunks m maintain
-  order-last chunks = ap (λ (cs : List DataChunk). full_order chunks m maintain ++ cs) (sym (last-written (rest_of m (with_rows chunks)))) ∙ sym (order-parts chunks)
+  pub order-last : (chunks : List DataChunk) → full_order chunks m maintain ++ written_piece maintain (rest_of m (chunks_with_rows chunks)) ≡ write_order chunks m maintain
+  order-last chunks = ap (λ (cs : List DataChunk). full_order chunks m maintain ++ cs) (sym (last-written (rest_of m (chunks_with_rows chunks)))) ∙ sym (order-parts chunks)
 
   -- a chunk that fills a piece
-  pub full-order-filled : (chunks : List DataChunk) (c : DataChunk) → c.frame.height ≢ 0 → length (rest_of m (with_rows chunks)) + 1 ≡ m
-      → full_order (chunks ++ c ∷ []) m maintain ≡ full_order chunks m maintain ++ written_piece maintain (rest_of m (with_rows chunks) ++ c ∷ [])
+  pub full-order-filled : (chunks : List DataChunk) (c : DataChunk) → c.frame.height ≢ 0 → length (rest_of m (chunks_with_rows chunks)) + 1 ≡ m
+      → full_order (chunks ++ c ∷ []) m maintain ≡ full_order chunks m maintain ++ written_piece maintain (rest_of m (chunks_with_rows chunks) ++ c ∷ [])
   full-order-filled chunks c has full =
       ap (λ (cs : List DataChunk). written (full_pieces m cs)) (rows-one chunks c has)
-      ∙ ap written (full-filled m (with_rows chunks) c some full)
-      ∙ flat_map-append (written_piece maintain) (full_pieces m (with_rows chunks)) ((rest_of m (with_rows chunks) ++ c ∷ []) ∷ [])
-      ∙ ap (λ (cs : List DataChunk). full_order chunks m maintain ++ cs) (append-nil (written_piece maintain (rest_of m (with_rows chunks) ++ c ∷ [])))
+      ∙ ap written (full-filled m (chunks_with_rows chunks) c some full)
+      ∙ flat_map-append (written_piece maintain) (full_pieces m (chunks_with_rows chunks)) ((rest_of m (chunks_with_rows chunks) ++ c ∷ []) ∷ [])
+      ∙ ap (λ (cs : List DataChunk). full_order chunks m maintain ++ cs) (append-nil (written_piece maintain (rest_of m (chunks_with_rows chunks) ++ c ∷ [])))
 
   -- a chunk that fills none
-  pub full-order-unfilled : (chunks : List DataChunk) (c : DataChunk) → c.frame.height ≢ 0 → length (rest_of m (with_rows chunks)) + 1 ≢ m
+  pub full-order-unfilled : (chunks : List DataChunk) (c : DataChunk) → c.frame.height ≢ 0 → length (rest_of m (chunks_with_rows chunks)) + 1 ≢ m
       → full_order (chunks ++ c ∷ []) m maintain ≡ full_order chunks m maintain
   full-order-unfilled chunks c has not =
-      ap (λ (cs : List DataChunk). written (full_pieces m cs)) (rows-one chunks c has) ∙ ap written (full-unfilled m (with_rows chunks) c some not)
+      ap (λ (cs : List DataChunk). written (full_pieces m cs)) (rows-one chunks c has) ∙ ap written (full-unfilled m (chunks_with_rows chunks) c some not)
 
 -- ---- what a core has taken
 
@@ -132,12 +132,12 @@ module _ {Writer : Type 0} (Stands : List Row → List ℕ → Type 0) (core : C
   pub taken-waits : (new : CoreSeen Writer) (c : DataChunk) (pushed : List DataChunk) → pushed ≡ core.piece ++ c ∷ [] → new ≡ record core { piece = pushed } → c.frame.height ≢ 0
       → length pushed < core.morsels → HasTaken Stands new (chunks ++ c ∷ []) since
   taken-waits new c pushed is same has short =
-      let rest = rest_of core.morsels (with_rows chunks) in
+      let rest = rest_of core.morsels (chunks_with_rows chunks) in
       let size : length pushed ≡ length rest + 1 = ap (λ (cs : List DataChunk). length cs) is ∙ length-append core.piece (c ∷ []) ∙ ap (λ (cs : List DataChunk). length cs + 1) taken.piece in
       let not : length rest + 1 ≢ core.morsels = λ e. omega (arith, e, size, short) in
       let order = full-order-unfilled core.morsels core.maintain_order some chunks c has not in
       rw (same, is) (record {
-        piece = ap (λ (cs : List DataChunk). cs ++ c ∷ []) taken.piece ∙ sym (ap (λ (cs : List DataChunk). rest_of core.morsels cs) (rows-one chunks c has) ∙ rest-unfilled core.morsels (with_rows chunks) c some not);
+        piece = ap (λ (cs : List DataChunk). cs ++ c ∷ []) taken.piece ∙ sym (ap (λ (cs : List DataChunk). rest_of core.morsels cs) (rows-one chunks c has) ∙ rest-unfilled core.morsels (chunks_with_rows chunks) c some not);
         waiting = rw order taken.waiting;
         put = rw order taken.put;
       })
@@ -154,7 +154,7 @@ module _ {Writer : Type 0} (Stands : List Row → List ℕ → Type 0) (core : C
   -- a chunk that makes the piece full
   module _ (c : DataChunk) (pushed : List DataChunk) (is : pushed ≡ core.piece ++ c ∷ []) (has : c.frame.height ≢ 0) (full : core.morsels ≤ length pushed) where
     abbrev rest : List DataChunk
-    rest = rest_of core.morsels (with_rows chunks)
+    rest = rest_of core.morsels (chunks_with_rows chunks)
 
     abbrev order : List DataChunk
     order = full_order chunks core.morsels core.maintain_order
@@ -165,7 +165,7 @@ module _ {Writer : Type 0} (Stands : List Row → List ℕ → Type 0) (core : C
     fills : length rest + 1 ≡ core.morsels
     fills =
         let size : length pushed ≡ length rest + 1 = ap (λ (cs : List DataChunk). length cs) is ∙ length-append core.piece (c ∷ []) ∙ ap (λ (cs : List DataChunk). length cs + 1) taken.piece in
-        let short = rest-lt core.morsels (with_rows chunks) some in
+        let short = rest-lt core.morsels (chunks_with_rows chunks) some in
         omega (arith, size, short, full)
 
     -- it is written behind those before it
@@ -181,7 +181,7 @@ module _ {Writer : Type 0} (Stands : List Row → List ℕ → Type 0) (core : C
         let waits : waits_after core.least None (order ++ piece) ≡ waits_after core.least core.waiting piece =
         waits-both core.least None order piece ∙ ap (λ (w : Option FrameData). waits_after core.least w piece) (sym taken.waiting) in
         record {
-          piece = none ∙ sym (ap (λ (k : ℕ). rest_of k (with_rows (chunks ++ c ∷ []))) morsels ∙ ap (λ (cs : List DataChunk). rest_of core.morsels cs) (rows-one chunks c has) ∙ rest-filled core.morsels (with_rows chunks) c some fills);
+          piece = none ∙ sym (ap (λ (k : ℕ). rest_of k (chunks_with_rows (chunks ++ c ∷ []))) morsels ∙ ap (λ (cs : List DataChunk). rest_of core.morsels cs) (rows-one chunks c has) ∙ rest-filled core.morsels (chunks_with_rows chunks) c some fills);
           waiting = rw (morsels, maintain, least, order-is) (waiting ∙ sym waits);
           put = rw (morsels, maintain, order-is, rows-both order piece) put;
         }

@@ -6,8 +6,8 @@ use Rattle.pipe_columns.specs.declared.data_chunk.DataChunk.{DataChunk}
 use Rattle.pipe_columns.specs.declared.schema.Field.{Field}
 use Rattle.pipe_columns.specs.Frame.{FitsSchema, FrameData}
 use Rattle.pipe_writers.proofs.KeptFacts.{fields-stacked}
-use Rattle.pipe_writers.specs.Kept.{with_frame}
-use Rattle.pipe_writers.specs.Rows.{Row, rows_of}
+use Rattle.pipe_writers.specs.Kept.{with_frame_below}
+use Rattle.pipe_writers.specs.Rows.{Row, frame_rows}
 use Rattle.pipe_writers.specs.Vstacker.{VstackerData, completed, left_waiting}
 use Rattle.pipe_writers.specs.Waiting.{waiting_rows}
 use Rattle.pipe_writers.specs.WriteOrder.{rows_of_chunks}
@@ -21,15 +21,15 @@ on-err (Err e) p = p
 
 -- a frame below what waits fits
 pub with-fits : (fields : List Field) (waiting : Option FrameData) (frame : FrameData) → IfSome waiting (FitsSchema fields) → FitsSchema fields frame
-    → FitsSchema fields (with_frame waiting frame)
+    → FitsSchema fields (with_frame_below waiting frame)
 with-fits fields None frame waits fits = fits
 with-fits fields (Some first) frame waits fits = fields-stacked frame.columns first.columns ∙ waits
 
 -- the frame that is complete fits
 pub completed-fits : (fields : List Field) (rows : VstackerData) (frame all : FrameData) → AwaitsMore fields rows → FitsSchema fields frame
     → Some all ≡ completed rows frame → FitsSchema fields all
-completed-fits fields rows frame all waits fits is = elim (cases_Bool (nat_le rows.rows (with_frame rows.waiting frame).height)) [
-  | inl enough ↦ let same : all ≡ with_frame rows.waiting frame = cc (rw enough at is) in rw same (with-fits fields rows.waiting frame waits.fits fits)
+completed-fits fields rows frame all waits fits is = elim (cases_Bool (nat_le rows.rows (with_frame_below rows.waiting frame).height)) [
+  | inl enough ↦ let same : all ≡ with_frame_below rows.waiting frame = cc (rw enough at is) in rw same (with-fits fields rows.waiting frame waits.fits fits)
   | inr fewer ↦ cc (rw fewer at is)
 ]
 
@@ -47,12 +47,12 @@ module _ (Stands : List Row → List ℕ → Type 0) (waiting : Option FrameData
 -- what waits then awaits more, where nothing was written
 pub still-awaits : (fields : List Field) (rows new : VstackerData) (frame : FrameData) → AwaitsMore fields rows → FitsSchema fields frame
     → new ≡ record rows { waiting = left_waiting rows frame } → AwaitsMore fields new
-still-awaits fields rows new frame waits fits is = elim (cases_Bool (nat_le rows.rows (with_frame rows.waiting frame).height)) [
+still-awaits fields rows new frame waits fits is = elim (cases_Bool (nat_le rows.rows (with_frame_below rows.waiting frame).height)) [
   | inl enough ↦
       let none : new ≡ record rows { waiting = None } = is ∙ rw enough refl in
       rw none (record { fits = tt; few = tt; least = waits.least })
   | inr fewer ↦
-      let some : new ≡ record rows { waiting = Some (with_frame rows.waiting frame) } = is ∙ rw fewer refl in
+      let some : new ≡ record rows { waiting = Some (with_frame_below rows.waiting frame) } = is ∙ rw fewer refl in
       rw some (record { fits = with-fits fields rows.waiting frame waits.fits fits; few = omega (arith, leb-false _ _ fewer); least = waits.least })
 ]
 
@@ -66,13 +66,13 @@ front-more Stands rows more all since front is =
 
 -- the rows of chunks in two parts
 pub rows-both : (xs ys : List DataChunk) → rows_of_chunks (xs ++ ys) ≡ rows_of_chunks xs ++ rows_of_chunks ys
-rows-both xs ys = flat_map-append (λ (c : DataChunk). rows_of c.frame) xs ys
+rows-both xs ys = flat_map-append (λ (c : DataChunk). frame_rows c.frame) xs ys
 
 -- one more chunk behind rows and chunks
-pub rows-more : (rows : List Row) (xs : List DataChunk) (c : DataChunk) → (rows ++ rows_of_chunks xs) ++ rows_of c.frame ≡ rows ++ rows_of_chunks (xs ++ c ∷ [])
+pub rows-more : (rows : List Row) (xs : List DataChunk) (c : DataChunk) → (rows ++ rows_of_chunks xs) ++ frame_rows c.frame ≡ rows ++ rows_of_chunks (xs ++ c ∷ [])
 rows-more rows xs c =
-    append_assoc rows (rows_of_chunks xs) (rows_of c.frame)
-    ∙ ap (λ rs. rows ++ (rows_of_chunks xs ++ rs)) (sym (append-nil (rows_of c.frame)))
+    append_assoc rows (rows_of_chunks xs) (frame_rows c.frame)
+    ∙ ap (λ rs. rows ++ (rows_of_chunks xs ++ rs)) (sym (append-nil (frame_rows c.frame)))
     ∙ ap (λ rs. rows ++ rs) (sym (rows-both xs (c ∷ [])))
 
 -- what waits after chunks in two parts

@@ -5,7 +5,7 @@ ghost use Rattle.std.specs.List.{All};
 ghost use Rattle.pipe_columns.specs.Causes.{HasCause};
 ghost use Rattle.pipe_files_sink.specs.Joined.{HasPut, IsWritable, then_waits, waits_after};
 ghost use Rattle.pipe_files_sink.specs.JoinedState.{HasPutFront};
-ghost use Rattle.pipe_writers.specs.Rows.{Row, rows_of};
+ghost use Rattle.pipe_writers.specs.Rows.{Row, frame_rows};
 ghost use Rattle.pipe_writers.specs.WriteOrder.{rows_of_chunks};
 ghost use Rattle.pipe_writers.specs.Writers.{IsOpen};
 ghost use Rattle.pipe_writers.specs.declared.write_error.WriteError.TheVariants as write_error;
@@ -70,10 +70,10 @@ impl<W: SinkWriter> JoinedWriter<W> {
         requires takes { IsWritable (W.fields (W.format self.old.writer)) frame }
         ensures stands { OnOk result ((rows : List Row) → (since : List ℕ)
             → HasPut (W.stands self.old.writer) self.old.waiting rows since
-            → HasPut (W.stands self.new.writer) self.new.waiting (rows ++ rows_of frame) since) }
+            → HasPut (W.stands self.new.writer) self.new.waiting (rows ++ frame_rows frame) since) }
         ensures front { OnErr result ((rows : List Row) → (since : List ℕ)
             → HasPut (W.stands self.old.writer) self.old.waiting rows since
-            → HasPutFront (W.stands self.new.writer) (rows ++ rows_of frame) since) }
+            → HasPutFront (W.stands self.new.writer) (rows ++ frame_rows frame) since) }
         ensures waiting { OnOk result
             (self.new.waiting ≡ then_waits self.old.least self.old.waiting frame) }
         ensures least { self.new.least ≡ self.old.least }

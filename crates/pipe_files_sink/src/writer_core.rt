@@ -9,7 +9,7 @@ ghost use Rattle.pipe_files_sink.specs.Joined.{HasPut, IsWritable, waits_after};
 ghost use Rattle.pipe_files_sink.specs.JoinedState.{HasPutFront};
 ghost use Rattle.pipe_writers.specs.Rows.{Row};
 ghost use Rattle.pipe_writers.specs.WriteOrder.{rows_of_chunks, write_order, written_piece};
-ghost use Rattle.pipe_writers.specs.Writers.{IsFresh, IsOpen, TellsAfter, TellsFront, after_batch, after_finish, no_calls};
+ghost use Rattle.pipe_writers.specs.Writers.{IsFresh, IsOpen, TellsAfter, TellsFront, after_batch, after_finish, no_writer_calls};
 ghost use Rattle.pipe_writers.specs.declared.write_error.WriteError.TheVariants as write_error;
 
 use crate::joined_writer::JoinedWriter;
@@ -81,7 +81,7 @@ impl<W: SinkWriter> WriterCore<W> {
           piece = [];
           least = 4096;
           waiting = None;
-          calls = no_calls;
+          calls = no_writer_calls;
         } }
         ensures starts { (since : List ℕ) → W.told writer ≡ Some since
             → HasTaken (W.stands writer) result [] since }

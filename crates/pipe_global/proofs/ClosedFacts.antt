@@ -25,7 +25,7 @@ use Rattle.pipe_keyed.specs.Tables.{Table}
 use Rattle.pipe_tables.specs.Tables.{lies_in}
 use Rattle.pipe_global.specs.declared.mark.Mark.{Mark}
 use Rattle.pipe_global.specs.Finishing.{AreOwn, CanFinish, CanGather, IsMarked, StandsForRows}
-use Rattle.pipe_global.specs.Partition.{bytes_of, IsReplayed, IsRunnable, marks_from, PartitionSeen, spilled_all, store_of, with_frames}
+use Rattle.pipe_global.specs.Partition.{frame_bytes_of, IsReplayed, IsRunnable, marks_from, PartitionSeen, spilled_all, store_of, with_frames}
 use Rattle.pipe_global.proofs.Covering.{all-left, all-right}
 use Rattle.pipe_global.proofs.RunFacts.{Each, lies-each, replay-each}
 use Rattle.pipe_global.proofs.StandFacts.{waiting-rows}
@@ -93,7 +93,7 @@ module _ (r : Run) (p : ℕ) (s : PartitionSeen) (run : IsRunnable r) (at : IsRe
       (All-append L made.merged (joined_lists made.waiting ++ joined_lists made.frames) lies.merged (All-append L (joined_lists made.waiting) (joined_lists made.frames) lies.waiting lies.frames))
 
   -- each mark has its frame
-  zip-from : (told front : List (List ℕ)) (first : ℕ) (frames : List (List Row)) → s.store.told ≡ Some told → told ≡ front ++ map (bytes_of r.query) frames → length front ≡ first
+  zip-from : (told front : List (List ℕ)) (first : ℕ) (frames : List (List Row)) → s.store.told ≡ Some told → told ≡ front ++ map (frame_bytes_of r.query) frames → length front ≡ first
       → All (HasValues (key_types r.query) (input_types r.query)) (joined_lists frames) → All (λ x. (partition_of r x == p) ≡ true) (joined_lists frames)
       → AllZip (IsMarked s) (marks_from first frames) (map (spilled_all r.query) frames)
   zip-from told front first [] tells is long values here = tt
@@ -105,24 +105,24 @@ module _ (r : Run) (p : ℕ) (s : PartitionSeen) (run : IsRunnable r) (at : IsRe
           told = tells;
           frame =
               subst (λ (x : Shape). slice_get told first ≡ Some (frame_bytes x.input_types (spilled_all r.query f))) (sym at.shape)
-              (ap (λ (l : List (List ℕ)). slice_get l first) is ∙ ap (λ n. slice_get (front ++ bytes_of r.query f ∷ map (bytes_of r.query) frames) n) (sym long) ∙ get-behind front (map (bytes_of r.query) frames) (bytes_of r.query f));
+              (ap (λ (l : List (List ℕ)). slice_get l first) is ∙ ap (λ n. slice_get (front ++ frame_bytes_of r.query f ∷ map (frame_bytes_of r.query) frames) n) (sym long) ∙ get-behind front (map (frame_bytes_of r.query) frames) (frame_bytes_of r.query f));
           count = length-map f (spilled (key_types r.query));
           own = own-spilled f (all-left V f (joined_lists frames) values) (all-left L f (joined_lists frames) here);
         },
-        zip-from told (front ++ bytes_of r.query f ∷ []) (first + 1) frames tells (is ∙ sym (append_assoc front (bytes_of r.query f ∷ []) (map (bytes_of r.query) frames)))
-            (omega (arith, long, length-append front (bytes_of r.query f ∷ []))) (all-right V f (joined_lists frames) values) (all-right L f (joined_lists frames) here),
+        zip-from told (front ++ frame_bytes_of r.query f ∷ []) (first + 1) frames tells (is ∙ sym (append_assoc front (frame_bytes_of r.query f ∷ []) (map (frame_bytes_of r.query) frames)))
+            (omega (arith, long, length-append front (frame_bytes_of r.query f ∷ []))) (all-right V f (joined_lists frames) values) (all-right L f (joined_lists frames) here),
       )
 
   -- where the store tells
   zip-told : (former : Option (List (List ℕ))) → (store_of r p).told ≡ former → HasHeld s.store.told s.store.held → is_some s.store.told ≡ true → AllZip (IsMarked s) s.marks (map (spilled_all r.query) made.frames)
-  zip-told None e all tells = absurd (false≢true (ap (λ (o : Option (List (List ℕ))). is_some o) (sym (at.replayed.told ∙ ap (λ o. with_frames o (map (bytes_of r.query) made.frames)) e)) ∙ tells))
+  zip-told None e all tells = absurd (false≢true (ap (λ (o : Option (List (List ℕ))). is_some o) (sym (at.replayed.told ∙ ap (λ o. with_frames o (map (frame_bytes_of r.query) made.frames)) e)) ∙ tells))
   zip-told (Some front) e all tells =
-      let told : List (List ℕ) = front ++ map (bytes_of r.query) made.frames in
-      let is : s.store.told ≡ Some told = at.replayed.told ∙ ap (λ o. with_frames o (map (bytes_of r.query) made.frames)) e in
+      let told : List (List ℕ) = front ++ map (frame_bytes_of r.query) made.frames in
+      let is : s.store.told ≡ Some told = at.replayed.told ∙ ap (λ o. with_frames o (map (frame_bytes_of r.query) made.frames)) e in
       let held : length told ≡ s.store.held = subst (λ o. HasHeld o s.store.held) is all in
       subst (λ (l : List Mark). AllZip (IsMarked s) l (map (spilled_all r.query) made.frames)) (sym at.replayed.marks)
       (zip-from told front (store_of r p).held made.frames is refl
-      (omega (arith, held, at.replayed.held, length-append front (map (bytes_of r.query) made.frames), length-map made.frames (bytes_of r.query))) typed.frames lies.frames)
+      (omega (arith, held, at.replayed.held, length-append front (map (frame_bytes_of r.query) made.frames), length-map made.frames (frame_bytes_of r.query))) typed.frames lies.frames)
 
   -- it stands for the rows of its replay
   pub stands-replayed : HasHeld s.store.told s.store.held → is_some s.store.told ≡ true → StandsForRows s (spilled_all r.query (rows_of made))

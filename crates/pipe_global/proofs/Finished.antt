@@ -19,7 +19,7 @@ use Rattle.pipe_keyed.specs.Tables.{HoldFewTogether, Table}
 use Rattle.pipe_tables.specs.Tables.{lies_in}
 use Rattle.pipe_global.specs.declared.mark.Mark.{Mark}
 use Rattle.pipe_global.specs.Finishing.{AreOwn, CanFinish, GivesGroups, GivesOwn, GivesOwnPlaced, GivesPlaced, IsEmptied, IsMarked, KeepsRest, other_rows, own_rows, StandAsBefore, StandFor, StandMoved, StandsForRows}
-use Rattle.pipe_global.specs.Gathering.{HasGathered, HasGiven, HasGivenPlaced, HasTakenLocal, IsReady, without_groups}
+use Rattle.pipe_global.specs.Gathering.{HasGathered, HasGiven, HasGivenPlaced, HasTakenLocal, HoldsAllRows, without_groups}
 use Rattle.pipe_global.specs.Partition.{PartitionSeen}
 use Rattle.pipe_global.proofs.Gathered.{kept-more, own-append, own-kept, own-none}
 
@@ -191,7 +191,7 @@ own-back s now rows k own = record {
 
 module _ (s now : PartitionSeen) (local left : Table) (kept : KeepsRest s now) where
   -- what is given: the groups of the rows that both stood for
-  pub gives-rows : (slice rest : Option (ℕ × ℕ)) (f : FrameData) → IsReady s now local left → HasGiven now slice rest f → (rows locals : List SpillRow) → StandFor s local rows locals
+  pub gives-rows : (slice rest : Option (ℕ × ℕ)) (f : FrameData) → HoldsAllRows s now local left → HasGiven now slice rest f → (rows locals : List SpillRow) → StandFor s local rows locals
       → GivesGroups s.table.shape slice rest (rows ++ own_rows s locals) f
   gives-rows slice rest f ready given rows locals both =
       let moved = ready.moved rows locals both in
@@ -203,7 +203,7 @@ module _ (s now : PartitionSeen) (local left : Table) (kept : KeepsRest s now) w
         left_is = given.left_is;
       })
 
-  pub gives-placed : (f : FrameData) (firsts : List Place) → IsReady s now local left → HasGivenPlaced now f firsts → (rows locals : List SpillRow) → StandFor s local rows locals
+  pub gives-placed : (f : FrameData) (firsts : List Place) → HoldsAllRows s now local left → HasGivenPlaced now f firsts → (rows locals : List SpillRow) → StandFor s local rows locals
       → GivesPlaced s.table.shape (rows ++ own_rows s locals) f firsts
   gives-placed f firsts ready given rows locals both =
       let moved = ready.moved rows locals both in
@@ -240,7 +240,7 @@ module _ (s now : PartitionSeen) (local left : Table) (kept : KeepsRest s now) w
   }))
 
   -- and it is emptied
-  pub emptied-given : (new : PartitionSeen) → new ≡ without_groups now → IsReady s now local left → IsEmptied new
+  pub emptied-given : (new : PartitionSeen) → new ≡ without_groups now → HoldsAllRows s now local left → IsEmptied new
   emptied-given new is ready = subst IsEmptied (sym is) (record { groups = refl; waiting = ready.waiting; marks = ready.marks })
 
 -- ---- all that was put away, and then the local rows
@@ -253,7 +253,7 @@ module _ (s mid new : PartitionSeen) (local left : Table) (g : HasGathered s mid
   other-mid rows = rw (ap (λ (x : PartitionSeen). x.number) g.kept.others, ap (λ (x : PartitionSeen). x.partitions) g.kept.others) refl
 
   -- it is ready
-  pub ready-prepared : IsReady s new local left
+  pub ready-prepared : HoldsAllRows s new local left
   ready-prepared = record {
     waiting = ap (λ (x : PartitionSeen). x.waiting) t.others ∙ none;
     marks = ap (λ (x : PartitionSeen). x.marks) t.others ∙ unmarked;

@@ -25,7 +25,7 @@ use Rattle.pipe_global.specs.Finishing.{AreOwn, CanGather, IsCause, IsMarked, Ke
 use Rattle.pipe_global.specs.Gathering.{CanRead, HasAsked, HasGathered, HasRead, HasTakenFrame, HasTakenWaiting, IsLast}
 use Rattle.pipe_global.specs.Moving.{CanMerge, TookRows}
 use Rattle.pipe_global.specs.Partition.{PartitionSeen}
-use Rattle.pipe_global.specs.Refused.{IsKept}
+use Rattle.pipe_global.specs.Refused.{IsKeptBut}
 use Rattle.pipe_global.proofs.Covering.{all-left}
 use Rattle.pipe_global.proofs.Moved.{same-none}
 
@@ -270,7 +270,7 @@ gathered-waiting s new t = record {
   }
 
 -- nothing was gathered: there may be more room in the table
-pub gathered-kept : (s new : PartitionSeen) → IsKept s new s.failed → HasGathered s new
+pub gathered-kept : (s new : PartitionSeen) → IsKeptBut s new s.failed → HasGathered s new
 gathered-kept s new k = record {
   kept = kept;
   gathers = gathers;

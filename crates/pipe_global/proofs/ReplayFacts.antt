@@ -13,7 +13,7 @@ use Rattle.pipe_plan.proofs.Filtering.{filter-no, filter-yes}
 use Rattle.pipe_plan.proofs.Replaying.{events_by-push, replay-push}
 use Rattle.pipe_global.specs.Partition.{IsReplayed, PartitionSeen, StandsFor}
 use Rattle.pipe_global.specs.Shares.{one_more_at}
-use Rattle.pipe_global.specs.Refused.{IsKept}
+use Rattle.pipe_global.specs.Refused.{IsKeptBut}
 use Rattle.pipe_global.proofs.StandFacts.{stands-kept}
 
 -- ---- books
@@ -75,7 +75,7 @@ replayed-more r p s new e at on lt next stands room = record {
 }
 
 -- a partition in which nothing but room, faults, and whether a put was refused changed
-pub replayed-kept : (r : Run) (p : ℕ) (s new : PartitionSeen) (failed : Bool) → IsReplayed r p s → IsKept s new failed → IsReplayed r p new
+pub replayed-kept : (r : Run) (p : ℕ) (s new : PartitionSeen) (failed : Bool) → IsReplayed r p s → IsKeptBut s new failed → IsReplayed r p new
 replayed-kept r p s new failed at k =
     let journal : new.journal ≡ s.journal = ap (λ (x : PartitionSeen). x.journal) k.others in
     let book : new.book ≡ s.book = ap (λ (x : PartitionSeen). x.book) k.others in

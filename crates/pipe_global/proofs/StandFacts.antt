@@ -20,9 +20,9 @@ use Rattle.pipe_groups.specs.Shape.{Shape, shape_of}
 use Rattle.pipe_groups.proofs.HoldFacts.{holds-same}
 use Rattle.pipe_keyed.specs.Tables.{Table}
 use Rattle.pipe_global.specs.declared.mark.Mark.{Mark}
-use Rattle.pipe_global.specs.Partition.{bytes_of, marks_from, PartitionSeen, payloads_of, spilled_all, StandsFor, store_of, with_frames}
+use Rattle.pipe_global.specs.Partition.{frame_bytes_of, marks_from, PartitionSeen, payloads_of, spilled_all, StandsFor, store_of, with_frames}
 use Rattle.pipe_global.specs.Steps.{IsDumped, IsMerged, next_mark, puts, with_payload}
-use Rattle.pipe_global.specs.Refused.{IsKept}
+use Rattle.pipe_global.specs.Refused.{IsKeptBut}
 
 -- ---- lists
 
@@ -104,7 +104,7 @@ module _ (r : Run) (p : ℕ) (made : Replayed) (s : PartitionSeen) (at : StandsF
       count : length (joined_rows s.waiting) ≡ length (joined_lists made.waiting)
       count = waiting-count r.query made.waiting s.waiting at.waiting
 
-      frame : frame_bytes s.table.shape.input_types (joined_rows s.waiting) ≡ bytes_of r.query (joined_lists made.waiting)
+      frame : frame_bytes s.table.shape.input_types (joined_rows s.waiting) ≡ frame_bytes_of r.query (joined_lists made.waiting)
       frame = ap (λ (x : Shape). frame_bytes x.input_types (joined_rows s.waiting)) shape ∙ ap (frame_bytes (input_types r.query)) (waiting-rows r.query made.waiting s.waiting at.waiting)
 
       mark : next_mark s.store s.waiting ≡ record { number = (store_of r p).held + length made.frames; rows = length (joined_lists made.waiting) }
@@ -127,9 +127,9 @@ module _ (r : Run) (p : ℕ) (made : Replayed) (s : PartitionSeen) (at : StandsF
             d.store.told
             ∙ ap (λ (c : Bool). if c then with_frame s.store.told (frame_bytes s.table.shape.input_types (joined_rows s.waiting)) else s.store.told) e
             ∙ ap (λ (f : List ℕ). with_frame s.store.told f) frame
-            ∙ ap (λ (o : Option (List (List ℕ))). with_frame o (bytes_of r.query (joined_lists made.waiting))) at.told
-            ∙ frames-push (store_of r p).told (map (bytes_of r.query) made.frames) (bytes_of r.query (joined_lists made.waiting))
-            ∙ ap (with_frames (store_of r p).told) (sym (map_push (bytes_of r.query) made.frames (joined_lists made.waiting)));
+            ∙ ap (λ (o : Option (List (List ℕ))). with_frame o (frame_bytes_of r.query (joined_lists made.waiting))) at.told
+            ∙ frames-push (store_of r p).told (map (frame_bytes_of r.query) made.frames) (frame_bytes_of r.query (joined_lists made.waiting))
+            ∙ ap (with_frames (store_of r p).told) (sym (map_push (frame_bytes_of r.query) made.frames (joined_lists made.waiting)));
         arrived = omega (arith, same, at.arrived, count-rows made.merged made.waiting made.frames, count-rows made.merged [] (made.frames ++ joined_lists made.waiting ∷ []), count-push made.frames (joined_lists made.waiting));
       }
       by false e = record {
@@ -142,7 +142,7 @@ module _ (r : Run) (p : ℕ) (made : Replayed) (s : PartitionSeen) (at : StandsF
       }
 
   -- all is as before, but for room and faults
-  pub stands-kept : (failed : Bool) (new : PartitionSeen) → IsKept s new failed → StandsFor r p made new
+  pub stands-kept : (failed : Bool) (new : PartitionSeen) → IsKeptBut s new failed → StandsFor r p made new
   stands-kept failed new k =
       let shape : new.table.shape ≡ s.table.shape = k.table.shape.0 in
       record {

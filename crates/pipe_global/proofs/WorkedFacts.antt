@@ -10,7 +10,7 @@ use Rattle.pipe_plan.proofs.Fronts.{replay-on, within-on}
 use Rattle.pipe_global.specs.Closed.{all_events, all_faults, all_shares, AreClosed, AreFailed}
 use Rattle.pipe_global.specs.Partition.{IsReplayed, PartitionSeen, StandsFor}
 use Rattle.pipe_global.specs.Resuming.{AreResumed, AreTakenOver}
-use Rattle.pipe_global.specs.Shares.{next_pick, picked, raised, SharesSeen}
+use Rattle.pipe_global.specs.Shares.{next_pick, one_more_pick, raised, SharesSeen}
 use Rattle.pipe_global.specs.WorkedTables.{both_of_two, first_of_two, HasRested, shares_at}
 use Rattle.pipe_global.proofs.ResumeFacts.{length-book}
 
@@ -28,11 +28,11 @@ last-of-one {A = A} xs (y ∷ ys) x is len = absurd (omega (arith, len, ap (λ (
 -- ---- after the first
 
 -- the dump is the worker's first pick and its first event
-pub after-dump : (r : Run) (s new : SharesSeen) → r ≡ first_of_two 0 → s ≡ shares_at 0 0 0 → new ≡ picked (raised s (next_pick r.limits.partitions s)) → new ≡ shares_at 1 1 0
+pub after-dump : (r : Run) (s new : SharesSeen) → r ≡ first_of_two 0 → s ≡ shares_at 0 0 0 → new ≡ one_more_pick (raised s (next_pick r.limits.partitions s)) → new ≡ shares_at 1 1 0
 after-dump r s new run at is =
     is
-    ∙ ap (λ (q : Run). picked (raised s (next_pick q.limits.partitions s))) run
-    ∙ ap (λ (t : SharesSeen). picked (raised t (next_pick 1 t))) at
+    ∙ ap (λ (q : Run). one_more_pick (raised s (next_pick q.limits.partitions s))) run
+    ∙ ap (λ (t : SharesSeen). one_more_pick (raised t (next_pick 1 t))) at
 
 -- one event was made, and none was refused
 pub rested : (r : Run) (ps : List PartitionSeen) (x : PartitionSeen) (shares : List SharesSeen) → r ≡ first_of_two 0 → ps ≡ x ∷ [] → shares ≡ shares_at 1 1 0 ∷ [] → AreClosed r ps → all_events ps ≡ all_shares shares → AreFailed ps (all_faults shares) → HasRested x

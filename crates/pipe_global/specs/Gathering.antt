@@ -75,7 +75,7 @@ pub record HasTakenLocal (s new : PartitionSeen) (local left : Table) : Type 0 w
   pub others : new ≡ record s { table = new.table }
 
 -- all rows are in the table, those of the local table too
-pub record IsReady (s new : PartitionSeen) (local left : Table) : Type 0 where
+pub record HoldsAllRows (s new : PartitionSeen) (local left : Table) : Type 0 where
   pub waiting : new.waiting ≡ []
   pub marks : new.marks ≡ []
   pub moved : StandMoved s new local left

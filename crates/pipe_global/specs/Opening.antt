@@ -22,7 +22,7 @@ AreUnused partitions shares =
     → slice_index_or shares w d ≡ no_shares partitions w
 
 -- an empty table of a query, and a book without events of so many workers
-pub record IsPlace (q : QueryTree) (workers : ℕ) (place : Place) : Type 0 where
+pub record IsEmptyPlace (q : QueryTree) (workers : ℕ) (place : Place) : Type 0 where
   pub shape : place.table.shape ≡ shape_of q
   pub limit : place.table.limit ≡ None
   pub groups : place.table.groups ≡ []

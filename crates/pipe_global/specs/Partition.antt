@@ -65,8 +65,8 @@ abbrev pub payloads_of : QueryTree → List (List Row) → List Payload
 payloads_of q pieces = map (payload_of (key_types q)) pieces
 
 -- the bytes of the frame of rows
-abbrev pub bytes_of : QueryTree → List Row → List ℕ
-bytes_of q rows = frame_bytes (input_types q) (spilled_all q rows)
+abbrev pub frame_bytes_of : QueryTree → List Row → List ℕ
+frame_bytes_of q rows = frame_bytes (input_types q) (spilled_all q rows)
 
 -- the number and the row count of each frame, numbered from the first on
 abbrev pub marks_from : ℕ → List (List Row) → List Mark
@@ -88,7 +88,7 @@ pub record StandsFor (r : Run) (p : ℕ) (made : Replayed) (s : PartitionSeen) :
   pub marks : s.marks ≡ marks_from (store_of r p).held made.frames
   pub held : s.store.held ≡ (store_of r p).held + length made.frames
   pub told :
-      s.store.told ≡ with_frames (store_of r p).told (map (bytes_of r.query) made.frames)
+      s.store.told ≡ with_frames (store_of r p).told (map (frame_bytes_of r.query) made.frames)
   pub arrived : s.arrived ≡ length (rows_of made)
 
 -- it is partition p of a run: it stands for the replay of its journal, which holds a front of each

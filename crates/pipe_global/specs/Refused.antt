@@ -18,7 +18,7 @@ pub record IsStoreKept (s new : StoreSeen) : Type 0 where
   pub faults : s.faults ≤ new.faults
 
 -- where an event was refused: all is as before, but for room, faults, and whether a put was refused
-pub record IsKept (s new : PartitionSeen) (failed : Bool) : Type 0 where
+pub record IsKeptBut (s new : PartitionSeen) (failed : Bool) : Type 0 where
   pub table : HoldsSame s.table new.table
   pub store : IsStoreKept s.store new.store
   pub others : new ≡ record s { table = new.table; store = new.store; failed = failed }

@@ -17,8 +17,8 @@ abbrev pub share_of : SharesSeen → ℕ → ℕ
 share_of s p = slice_index_or s.events p 0
 
 -- how many of its puts were refused there
-abbrev pub fault_of : SharesSeen → ℕ → ℕ
-fault_of s p = slice_index_or s.faults p 0
+abbrev pub refused_puts_in : SharesSeen → ℕ → ℕ
+refused_puts_in s p = slice_index_or s.faults p 0
 
 -- one more event in a partition
 abbrev pub raised : SharesSeen → ℕ → SharesSeen
@@ -39,8 +39,8 @@ refused_one s p = record {
 }
 
 -- one more pick
-abbrev pub picked : SharesSeen → SharesSeen
-picked s = record {
+abbrev pub one_more_pick : SharesSeen → SharesSeen
+one_more_pick s = record {
   worker = s.worker;
   picks = s.picks + 1;
   events = s.events;

@@ -8,7 +8,7 @@ ghost use Rattle.pipe_plan.specs.Stores.{store_seen};
 ghost use Rattle.pipe_global.specs.Partition.{new_partition};
 ghost use Rattle.pipe_global.specs.Moving.{CanMerge};
 ghost use Rattle.pipe_global.specs.Steps.{IsDumped, IsMerged, with_payload};
-ghost use Rattle.pipe_global.specs.Refused.{IsKept};
+ghost use Rattle.pipe_global.specs.Refused.{IsKeptBut};
 ghost use Rattle.pipe_global.specs.declared.dump_error.DumpError.TheVariants as dump_error;
 
 use crate::dump_error::DumpError;
@@ -200,7 +200,7 @@ impl<S: SpillStore + Drop> Contents<S> {
         requires room { slice_index_or self.old.book worker 0 + 1 < 2 ^ 64 }
         requires rows { CanMerge self.old.table (joined_rows self.old.waiting) }
         ensures ok { OnOk result (IsMerged self.old worker self.new) }
-        ensures err { OnErr result (IsKept self.old self.new self.old.failed) }
+        ensures err { OnErr result (IsKeptBut self.old self.new self.old.failed) }
     {
         let Contents {
             table,
@@ -234,10 +234,10 @@ impl<S: SpillStore + Drop> Contents<S> {
         requires numbers { self.old.store.held < 2 ^ 64 - 1 }
         ensures ok { OnOk result (IsDumped limit self.old worker self.new) }
         ensures store { IfErr result (λ e. e ≡ dump_error.Store
-            → IsKept self.old self.new true
+            → IsKeptBut self.old self.new true
             × Rose self.old.store.faults self.new.store.faults) }
         ensures memory { IfErr result (λ e. e ≡ dump_error.Memory
-            → IsKept self.old self.new self.old.failed) }
+            → IsKeptBut self.old self.new self.old.failed) }
     {
         let Contents {
             table,

@@ -5,7 +5,7 @@ ghost use Rattle.pipe_spill.specs.SpillRow.{joined_rows};
 ghost use Rattle.pipe_global.specs.Finishing.{CanGather, IsCause};
 ghost use Rattle.pipe_global.specs.Gathering.{CanRead, HasAsked, HasGathered, HasRead, HasTakenFrame, HasTakenWaiting, IsLast};
 ghost use Rattle.pipe_global.specs.Moving.{CanMerge};
-ghost use Rattle.pipe_global.specs.Refused.{IsKept};
+ghost use Rattle.pipe_global.specs.Refused.{IsKeptBut};
 
 use crate::batch_error::BatchError;
 use crate::contents::Contents;
@@ -64,7 +64,7 @@ impl<S: SpillStore + Drop> Contents<S> {
         requires last { IsLast self.old.marks mark }
         requires rows { CanMerge self.old.table rows.items }
         ensures ok { OnOk result (HasTakenFrame self.old mark rows.items self.new) }
-        ensures err { OnErr result (IsKept self.old self.new self.old.failed) }
+        ensures err { OnErr result (IsKeptBut self.old self.new self.old.failed) }
     {
         let Contents { table, marks, .. } = self;
         reserve_rows(table, &rows)?;
@@ -110,7 +110,7 @@ impl<S: SpillStore + Drop> Contents<S> {
     fn merge_waiting(&mut self, alloc: Global) -> Result<(), AllocError>
         requires { CanMerge self.old.table (joined_rows self.old.waiting) }
         ensures ok { OnOk result (HasTakenWaiting self.old self.new) }
-        ensures err { OnErr result (IsKept self.old self.new self.old.failed) }
+        ensures err { OnErr result (IsKeptBut self.old self.new self.old.failed) }
     {
         let Contents { table, waiting, .. } = self;
         reserve_payloads(table, waiting)?;

@@ -4,7 +4,7 @@ ghost use Rattle.std.specs.Prelude.{◌≡◌, ◌-◌, ◌<◌, ◌≤◌, ◌^
 ghost use Rattle.std.specs.Sync.Mutex.{mutex_guard_value};
 ghost use Rattle.pipe_plan.specs.declared.event.PartitionEvent.TheVariants as event;
 ghost use Rattle.pipe_global.specs.Next.{next_event, next_payload};
-ghost use Rattle.pipe_global.specs.Shares.{fault_of, next_pick, picked, raised, refused_one};
+ghost use Rattle.pipe_global.specs.Shares.{refused_puts_in, next_pick, one_more_pick, raised, refused_one};
 ghost use Rattle.pipe_global.specs.declared.dump_error.DumpError.TheVariants as dump_error;
 
 use crate::closed::ClosedPartition;
@@ -137,7 +137,7 @@ impl<S: SpillStore + Drop, R: Naming> GlobalTable<S, R> {
         requires next { next_event R.run shares.old (next_pick R.run.limits.partitions shares.old)
             ≡ Some (event.Merge shares.old.worker) }
         ensures ok { OnOk result (shares.new
-            ≡ picked (raised shares.old (next_pick R.run.limits.partitions shares.old))) }
+            ≡ one_more_pick (raised shares.old (next_pick R.run.limits.partitions shares.old))) }
         ensures err { OnErr result (shares.new ≡ shares.old) }
     {
         // Called for what its clauses say.
@@ -161,10 +161,10 @@ impl<S: SpillStore + Drop, R: Naming> GlobalTable<S, R> {
     ) -> Result<(), DumpError>
         requires next { next_event R.run shares.old (next_pick R.run.limits.partitions shares.old)
             ≡ Some (event.Dump shares.old.worker) }
-        requires room { fault_of shares.old (next_pick R.run.limits.partitions shares.old)
+        requires room { refused_puts_in shares.old (next_pick R.run.limits.partitions shares.old)
             < 2 ^ 64 - 1 }
         ensures ok { OnOk result (shares.new
-            ≡ picked (raised shares.old (next_pick R.run.limits.partitions shares.old))) }
+            ≡ one_more_pick (raised shares.old (next_pick R.run.limits.partitions shares.old))) }
         ensures store { IfErr result (λ e. e ≡ dump_error.Store → shares.new
             ≡ refused_one shares.old (next_pick R.run.limits.partitions shares.old)) }
         ensures memory { IfErr result

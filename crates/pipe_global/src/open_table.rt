@@ -3,7 +3,7 @@
 ghost use Rattle.std.specs.Prelude.{◌≡◌, All, IfErr, IfOk, vec_len, vec_capacity, ◌≤◌};
 ghost use Rattle.pipe_aggs.specs.QueryTrees.{query_tree};
 ghost use Rattle.pipe_plan.specs.Stores.{stores_seen};
-ghost use Rattle.pipe_global.specs.Opening.{AreStoresFrom, AreUnused, IsPlace};
+ghost use Rattle.pipe_global.specs.Opening.{AreStoresFrom, AreUnused, IsEmptyPlace};
 ghost use Rattle.pipe_global.specs.Partition.{IsRunnable};
 
 use crate::global_table::{GlobalTable, Room};
@@ -27,7 +27,7 @@ fn places_of(
     workers: usize,
 ) -> Result<Vec<Place>, AllocError>
     ensures len { IfOk result (λ v. vec_len v ≡ partitions) }
-    ensures places { IfOk result (λ v. All (IsPlace (query_tree query.now) workers) v.items) }
+    ensures places { IfOk result (λ v. All (IsEmptyPlace (query_tree query.now) workers) v.items) }
 {
     let mut places = Vec::with_capacity(alloc, partitions)?;
     for _number in 0..partitions {
@@ -89,7 +89,7 @@ fn locks_of<S: SpillStore + Drop, R: Naming>(
     requires room { (vec_len locks ≡ 0) × (vec_len stores ≤ vec_capacity locks) }
     requires count { vec_len stores ≡ R.run.limits.partitions }
     requires places { vec_len places ≡ vec_len stores }
-    requires each { All (IsPlace R.run.query R.run.limits.workers) places.items }
+    requires each { All (IsEmptyPlace R.run.query R.run.limits.workers) places.items }
     requires stores { AreStoresFrom R.run 0
         (stores_seen S.held S.told S.faults S.sure stores.items) }
     requires events { (events.parts ≡ vec_len stores) × (events.amount ≡ 0) }

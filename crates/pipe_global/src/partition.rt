@@ -5,8 +5,8 @@ ghost use Rattle.pipe_columns.specs.Causes.{Rose};
 ghost use Rattle.pipe_plan.specs.declared.event.PartitionEvent.TheVariants as event;
 ghost use Rattle.pipe_global.specs.Next.{next_event, next_payload};
 ghost use Rattle.pipe_global.specs.Partition.{IsReplayed, store_of};
-ghost use Rattle.pipe_global.specs.Shares.{fault_of, one_more_at, raised, refused_one, share_of};
-ghost use Rattle.pipe_global.specs.Refused.{IsKept};
+ghost use Rattle.pipe_global.specs.Shares.{refused_puts_in, one_more_at, raised, refused_one, share_of};
+ghost use Rattle.pipe_global.specs.Refused.{IsKeptBut};
 ghost use Rattle.pipe_global.specs.declared.dump_error.DumpError.TheVariants as dump_error;
 
 use crate::contents::Contents;
@@ -149,7 +149,7 @@ impl<S: SpillStore + Drop, R: Naming> Partition<S, R> {
         ensures number { self.new.number ≡ self.old.number }
         ensures failed { self.new.failed ≡ self.old.failed }
         ensures shares { OnOk result (shares.new ≡ raised shares.old self.old.number) }
-        ensures err { OnErr result (IsKept self.old self.new self.old.failed) }
+        ensures err { OnErr result (IsKeptBut self.old self.new self.old.failed) }
         ensures shares_err { OnErr result (shares.new ≡ shares.old) }
     {
         let worker = shares.worker();
@@ -174,7 +174,7 @@ impl<S: SpillStore + Drop, R: Naming> Partition<S, R> {
             ≡ Some (event.Dump shares.old.worker) }
         requires same { slice_index_or self.old.book shares.old.worker 0
             ≡ share_of shares.old self.old.number }
-        requires room { fault_of shares.old self.old.number < 2 ^ 64 - 1 }
+        requires room { refused_puts_in shares.old self.old.number < 2 ^ 64 - 1 }
         ensures journal { OnOk result (self.new.journal
             ≡ self.old.journal ++ event.Dump shares.old.worker ∷ []) }
         ensures book { OnOk result
@@ -183,12 +183,12 @@ impl<S: SpillStore + Drop, R: Naming> Partition<S, R> {
         ensures failed { OnOk result (self.new.failed ≡ self.old.failed) }
         ensures shares { OnOk result (shares.new ≡ raised shares.old self.old.number) }
         ensures store { IfErr result (λ e. e ≡ dump_error.Store
-            → IsKept self.old self.new true
+            → IsKeptBut self.old self.new true
             × Rose self.old.store.faults self.new.store.faults) }
         ensures fault { IfErr result (λ e. e ≡ dump_error.Store
             → shares.new ≡ refused_one shares.old self.old.number) }
         ensures memory { IfErr result (λ e. e ≡ dump_error.Memory
-            → IsKept self.old self.new self.old.failed × (shares.new ≡ shares.old)) }
+            → IsKeptBut self.old self.new self.old.failed × (shares.new ≡ shares.old)) }
     {
         let worker = shares.worker();
         let partition = self.contents.number();

@@ -2,7 +2,7 @@
 
 ghost use Rattle.std.specs.Prelude.{◌≡◌, IfErr, IfOk, OnErr, OnOk};
 ghost use Rattle.pipe_global.specs.Finishing.{CanFinish, IsCause, KeepsRest, StandAsBefore};
-ghost use Rattle.pipe_global.specs.Gathering.{HasGiven, HasGivenPlaced, HasTakenLocal, IsReady, without_groups};
+ghost use Rattle.pipe_global.specs.Gathering.{HasGiven, HasGivenPlaced, HasTakenLocal, HoldsAllRows, without_groups};
 
 use crate::batch_error::BatchError;
 use crate::contents::Contents;
@@ -44,7 +44,7 @@ impl<S: SpillStore + Drop> Contents<S> {
         requires { CanFinish self.old local.old }
         ensures kept { KeepsRest self.old self.new }
         ensures again { CanFinish self.new local.new }
-        ensures ready { OnOk result (IsReady self.old self.new local.old local.new) }
+        ensures ready { OnOk result (HoldsAllRows self.old self.new local.old local.new) }
         ensures err { OnErr result (StandAsBefore self.old self.new local.old local.new) }
         ensures local_err { OnErr result (local.new ≡ local.old) }
         ensures cause { IfErr result (λ e. IsCause self.old self.new e) }

@@ -1,7 +1,7 @@
 //! What a worker counts of its own events.
 
 ghost use Rattle.std.specs.Prelude.{◌≡◌, ◌+◌, ◌<◌, ◌≤◌, ◌^◌, length, replicate, sum, IfOk};
-ghost use Rattle.pipe_global.specs.Shares.{fault_of, next_pick, picked, raised, refused_one, share_of};
+ghost use Rattle.pipe_global.specs.Shares.{refused_puts_in, next_pick, one_more_pick, raised, refused_one, share_of};
 
 use crate::naming::{Naming, OfFaults, OfPartitions, OfRefusals, OfWorkers};
 use crate::tally::Tally;
@@ -132,7 +132,7 @@ impl<R: Naming> Shares<R> {
     /// How many of the worker's puts into a partition's store were refused.
     pub fn faults(&self, partition: usize) -> u64
         requires { partition < R.run.limits.partitions }
-        ensures { result ≡ fault_of self.now partition }
+        ensures { result ≡ refused_puts_in self.now partition }
     {
         self.faults[partition]
     }
@@ -177,7 +177,7 @@ impl<R: Naming> Shares<R> {
         partition: usize,
     )
         requires exists { partition < R.run.limits.partitions }
-        requires room { fault_of self.old partition + 1 < 2 ^ 64 }
+        requires room { refused_puts_in self.old partition + 1 < 2 ^ 64 }
         requires part { part.old.parts ≡ 1 }
         ensures shares { self.new ≡ refused_one self.old partition }
         ensures part { (part.new.parts ≡ 1) × (part.new.amount ≡ part.old.amount + 1) }
@@ -189,7 +189,7 @@ impl<R: Naming> Shares<R> {
     /// Counts a pick.
     pub(crate) fn pick(&mut self)
         requires { self.old.picks + 1 < 2 ^ 64 }
-        ensures { self.new ≡ picked self.old }
+        ensures { self.new ≡ one_more_pick self.old }
     {
         self.picks += 1;
     }

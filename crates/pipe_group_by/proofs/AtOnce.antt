@@ -7,8 +7,8 @@ use Rattle.pipe_run.specs.declared.error.PipeError.TheVariants as error
 use Rattle.pipe_run.specs.Answered.{HaveWholeFrames}
 use Rattle.pipe_run.specs.Fed.{FedSeen}
 use Rattle.pipe_run.specs.Feeding.{chunks_reached, IsFeedCause}
-use Rattle.pipe_run.specs.Refusals.{AllFit, AreMany, CanFeed, IsFirstMisfit}
-use Rattle.pipe_run.specs.Setting.{run_of, Setting}
+use Rattle.pipe_run.specs.Refusals.{AllHaveFields, AreMany, CanFeed, IsFirstMisfit}
+use Rattle.pipe_run.specs.Setting.{run_over, Setting}
 use Rattle.pipe_run.specs.WholeRun.{CanBegin, EndsRun}
 use Rattle.pipe_run.proofs.RunEnds.{chunks-ends, feed-ends, memory-ends}
 use Rattle.pipe_group_by.proofs.Untouched.{none-fell}
@@ -16,7 +16,7 @@ use Rattle.pipe_group_by.proofs.Untouched.{none-fell}
 -- where its one feed is refused: a feed that is refused for its chunks, or for want of memory, leaves the
 -- stores as they were
 pub typed-refused : (x : Setting) (chunks : List DataChunk) (s : FedSeen) (stores : List StoreSeen) (e : PipeError) → CanBegin x → s.setting ≡ x → s.chunks ≡ [] → s.stores ≡ x.stores
-    → IsFeedCause s chunks stores e → stores ≡ s.stores → HaveWholeFrames (run_of s.setting true (chunks_reached s chunks e)) stores → EndsRun x chunks (Err e) stores
+    → IsFeedCause s chunks stores e → stores ≡ s.stores → HaveWholeFrames (run_over s.setting true (chunks_reached s chunks e)) stores → EndsRun x chunks (Err e) stores
 typed-refused x chunks s stores e begin setting none found cause same back = by e cause back where
   left : stores ≡ x.stores
   left = same ∙ found
@@ -24,10 +24,10 @@ typed-refused x chunks s stores e begin setting none found cause same back = by 
   misfit : (i : ℕ) → IsFirstMisfit s.setting.query.schema (s.chunks ++ chunks) i → IsFirstMisfit x.query.schema chunks i
   misfit i is = subst (λ (y : Setting). IsFirstMisfit y.query.schema chunks i) setting (subst (λ (l : List DataChunk). IsFirstMisfit s.setting.query.schema (l ++ chunks) i) none is)
 
-  large : AllFit s.setting.query.schema (s.chunks ++ chunks) × AreMany (s.chunks ++ chunks) → AllFit x.query.schema chunks × AreMany chunks
-  large is = subst (λ (y : Setting). AllFit y.query.schema chunks × AreMany chunks) setting (subst (λ (l : List DataChunk). AllFit s.setting.query.schema (l ++ chunks) × AreMany (l ++ chunks)) none is)
+  large : AllHaveFields s.setting.query.schema (s.chunks ++ chunks) × AreMany (s.chunks ++ chunks) → AllHaveFields x.query.schema chunks × AreMany chunks
+  large is = subst (λ (y : Setting). AllHaveFields y.query.schema chunks × AreMany chunks) setting (subst (λ (l : List DataChunk). AllHaveFields s.setting.query.schema (l ++ chunks) × AreMany (l ++ chunks)) none is)
 
-  by : (e : PipeError) → IsFeedCause s chunks stores e → HaveWholeFrames (run_of s.setting true (chunks_reached s chunks e)) stores → EndsRun x chunks (Err e) stores
+  by : (e : PipeError) → IsFeedCause s chunks stores e → HaveWholeFrames (run_over s.setting true (chunks_reached s chunks e)) stores → EndsRun x chunks (Err e) stores
   by (error.Schema i) cause back = chunks-ends x chunks stores (error.Schema i) begin left tt (λ j is. misfit j (subst (λ (k : ℕ). IsFirstMisfit s.setting.query.schema (s.chunks ++ chunks) k) (cc) cause)) (λ is. cc)
   by error.TooLarge cause back = chunks-ends x chunks stores error.TooLarge begin left tt (λ j is. cc) (λ is. large cause)
   by (error.Store p) cause back =

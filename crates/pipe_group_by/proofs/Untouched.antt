@@ -20,7 +20,7 @@ use Rattle.pipe_run.specs.declared.output.GroupByOutput.{GroupByOutput}
 use Rattle.pipe_run.specs.Answered.{HasFrames, HaveReplayedFrames, HaveWholeFrames, IsAnswered}
 use Rattle.pipe_run.specs.Fed.{FedSeen}
 use Rattle.pipe_run.specs.Feeding.{NoneFell}
-use Rattle.pipe_run.specs.Setting.{run_of, Setting}
+use Rattle.pipe_run.specs.Setting.{run_over, Setting}
 use Rattle.pipe_run.specs.WholeRun.{setting_fits}
 use Rattle.pipe_run.proofs.LimitFacts.{fit-count}
 use Rattle.pipe_run.proofs.RunEnds.{untouched-in}
@@ -58,34 +58,34 @@ told-none (Some frames) = ap (λ (l : List (List ℕ)). Some l) (sym (append-nil
 
 module _ (x : Setting) (chunks : List DataChunk) (s : FedSeen) (view : typed_seen x chunks ≡ s) (fit : setting_fits x ≡ true) (stores : List StoreSeen) (same : stores ≡ x.stores) where
   -- they have the frames of no event
-  replayed : (o : Bool) → HaveReplayedFrames (run_of x o chunks) (no_journals x.limits.partitions) x.stores
+  replayed : (o : Bool) → HaveReplayedFrames (run_over x o chunks) (no_journals x.limits.partitions) x.stores
   replayed o = record {
     count = sym (length-map x.stores (λ (t : StoreSeen). t.held)) ∙ fit-count x.limits (length x.actions) (map (λ (t : StoreSeen). t.held) x.stores) fit;
     each = λ p lt.
-        let r = run_of x o chunks in
+        let r = run_over x o chunks in
         subst (λ (j : List PartitionEvent). HasFrames (store_of r p) r (replay r p j).frames (slice_index_or x.stores p no_store)) (sym (none-journal x.limits.partitions p))
         (record { told = told-none (store_of r p).told; held = omega arith; sure = refl });
   }
 
   -- where a run is given up
-  pub given-frames : HaveReplayedFrames (run_of s.setting true s.chunks) s.journals stores
-  given-frames = subst (λ (s : FedSeen). HaveReplayedFrames (run_of s.setting true s.chunks) s.journals stores) view (subst (HaveReplayedFrames (run_of x true chunks) (no_journals x.limits.partitions)) (sym same) (replayed true))
+  pub given-frames : HaveReplayedFrames (run_over s.setting true s.chunks) s.journals stores
+  given-frames = subst (λ (s : FedSeen). HaveReplayedFrames (run_over s.setting true s.chunks) s.journals stores) view (subst (HaveReplayedFrames (run_over x true chunks) (no_journals x.limits.partitions)) (sym same) (replayed true))
 
   -- and where it is refused
-  pub left-frames : (o : Bool) (reached : List DataChunk) → HaveWholeFrames (run_of s.setting o reached) stores
-  left-frames o reached = subst (λ (s : FedSeen). HaveWholeFrames (run_of s.setting o reached) stores) view (subst (HaveWholeFrames (run_of x o reached)) (sym same) (untouched-in x o reached fit))
+  pub left-frames : (o : Bool) (reached : List DataChunk) → HaveWholeFrames (run_over s.setting o reached) stores
+  left-frames o reached = subst (λ (s : FedSeen). HaveWholeFrames (run_over s.setting o reached) stores) view (subst (HaveWholeFrames (run_over x o reached)) (sym same) (untouched-in x o reached fit))
 
-  pub given-back : HaveWholeFrames (run_of s.setting true s.chunks) stores
+  pub given-back : HaveWholeFrames (run_over s.setting true s.chunks) stores
   given-back = left-frames true s.chunks
 
   -- and where it is answered
   pub typed-answered : is_generic x.limits.sink ≡ false → (out : GroupByOutput) → out.frame ≡ answer chunks (query_tree x.query) x.limits.partitions → out.journals ≡ no_journals x.limits.partitions → out.overflow ≡ 0
-      → IsAnswered (run_of s.setting false s.chunks) out stores
-  typed-answered typed out frame journals none = subst (λ (s : FedSeen). IsAnswered (run_of s.setting false s.chunks) out stores) view (record {
-    plans = λ p lt. subst (λ (js : List (List PartitionEvent)). IsWhole (run_of x false chunks) p (journal_of js p)) (sym journals) (none-plans (run_of x false chunks) x.limits.partitions p typed);
+      → IsAnswered (run_over s.setting false s.chunks) out stores
+  typed-answered typed out frame journals none = subst (λ (s : FedSeen). IsAnswered (run_over s.setting false s.chunks) out stores) view (record {
+    plans = λ p lt. subst (λ (js : List (List PartitionEvent)). IsWhole (run_over x false chunks) p (journal_of js p)) (sym journals) (none-plans (run_over x false chunks) x.limits.partitions p typed);
     count = ap (λ (js : List (List PartitionEvent)). length js) journals ∙ length-replicate x.limits.partitions [];
-    frames = subst (λ (js : List (List PartitionEvent)). HaveReplayedFrames (run_of x false chunks) js stores) (sym journals) (subst (HaveReplayedFrames (run_of x false chunks) (no_journals x.limits.partitions)) (sym same) (replayed false));
-    overflow = none ∙ sym (none-overflow (run_of x false chunks) typed);
+    frames = subst (λ (js : List (List PartitionEvent)). HaveReplayedFrames (run_over x false chunks) js stores) (sym journals) (subst (HaveReplayedFrames (run_over x false chunks) (no_journals x.limits.partitions)) (sym same) (replayed false));
+    overflow = none ∙ sym (none-overflow (run_over x false chunks) typed);
     answer = λ _. frame;
   })
 

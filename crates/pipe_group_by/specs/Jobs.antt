@@ -7,13 +7,13 @@ use Rattle.pipe_sinks.specs.Runs.{Run}
 use Rattle.pipe_group_by.specs.Positions.{numbered, turns_of}
 
 -- a worker's sink, and whether it was refused a chunk
-pub record JobSeen : Type 0 where
+pub record SinkJobSeen : Type 0 where
   pub sink : Run
   pub refused : Bool
 
 -- a sink before its round
-abbrev pub job_of : Run → JobSeen
-job_of s = record { sink = s; refused = false }
+abbrev pub sink_job : Run → SinkJobSeen
+sink_job s = record { sink = s; refused = false }
 
 -- a worker's sink may take its turns of a round: it has taken those before, the round's chunks have their
 -- positions, and its query may be asked of all

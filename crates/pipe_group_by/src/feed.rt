@@ -5,7 +5,7 @@ ghost use Rattle.pipe_plan.specs.Stores.{stores_seen};
 ghost use Rattle.pipe_run.specs.Answered.{HaveWholeFrames};
 ghost use Rattle.pipe_run.specs.Feeding.{chunks_reached, IsBadChunks, IsFeedCause, NoneFell};
 ghost use Rattle.pipe_run.specs.Refusals.{CanFeed};
-ghost use Rattle.pipe_run.specs.Setting.{run_of};
+ghost use Rattle.pipe_run.specs.Setting.{run_over};
 
 use crate::group_by_run::{GroupByRun, Kind};
 use pipe_columns::DataChunk;
@@ -35,7 +35,7 @@ impl<'a, S: SpillStore + Drop + Send> GroupByRun<'a, S> {
         ensures untouched { IfErr result (λ e. IsBadChunks e.0 →
             stores_seen S.held S.told S.faults S.sure e.1.items ≡ self.entry.stores) }
         ensures back { IfErr result (λ e. HaveWholeFrames
-            (run_of self.entry.setting true (chunks_reached self.entry chunks.items e.0))
+            (run_over self.entry.setting true (chunks_reached self.entry chunks.items e.0))
             (stores_seen S.held S.told S.faults S.sure e.1.items)) }
     {
         match self.kind {
@@ -75,7 +75,7 @@ impl<'a, S: SpillStore + Drop + Send> GroupByRun<'a, S> {
         ensures untouched { IfErr result (λ e. IsBadChunks e.0 →
             stores_seen S.held S.told S.faults S.sure e.1.items ≡ self.entry.stores) }
         ensures back { IfErr result (λ e. HaveWholeFrames
-            (run_of self.entry.setting true (chunks_reached self.entry chunks.items e.0))
+            (run_over self.entry.setting true (chunks_reached self.entry chunks.items e.0))
             (stores_seen S.held S.told S.faults S.sure e.1.items)) }
     {
         match self.kind {

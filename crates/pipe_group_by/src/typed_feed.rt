@@ -7,7 +7,7 @@ ghost use Rattle.pipe_plan.specs.Stores.{stores_seen};
 ghost use Rattle.pipe_run.specs.Answered.{HaveWholeFrames};
 ghost use Rattle.pipe_run.specs.Feeding.{chunks_reached, IsFeedCause};
 ghost use Rattle.pipe_run.specs.Refusals.{CanFeed};
-ghost use Rattle.pipe_run.specs.Setting.{run_of};
+ghost use Rattle.pipe_run.specs.Setting.{run_over};
 ghost use Rattle.pipe_group_by.specs.Taken.{HaveTaken};
 
 use crate::positions::at_positions;
@@ -89,7 +89,7 @@ impl<'a, S: SpillStore + Drop> TypedRun<'a, S> {
         ensures untouched { IfErr result (λ e.
             stores_seen S.held S.told S.faults S.sure e.1.items ≡ self.entry.stores) }
         ensures back { IfErr result (λ e. HaveWholeFrames
-            (run_of self.entry.setting true (chunks_reached self.entry chunks.items e.0))
+            (run_over self.entry.setting true (chunks_reached self.entry chunks.items e.0))
             (stores_seen S.held S.told S.faults S.sure e.1.items)) }
     {
         let TypedRun {

@@ -7,7 +7,7 @@ ghost use Rattle.pipe_model.specs.Rows.{AreChunksOf};
 ghost use Rattle.pipe_plan.specs.Stores.{stores_seen};
 ghost use Rattle.pipe_run.specs.Answered.{HaveWholeFrames, IsAnswered};
 ghost use Rattle.pipe_run.specs.Finish.{IsFinishCause};
-ghost use Rattle.pipe_run.specs.Setting.{run_of};
+ghost use Rattle.pipe_run.specs.Setting.{run_over};
 ghost use Rattle.pipe_group_by.specs.Taken.{HaveTaken};
 ghost use Rattle.pipe_group_by.specs.Typed.{no_journals};
 
@@ -64,12 +64,12 @@ impl<'a, S: SpillStore + Drop> TypedRun<'a, S> {
     /// order.
     pub(crate) fn finish(self, alloc: Global) -> (Result<GroupByOutput, PipeError>, Vec<S>)
         ensures answered { IfOk result.0 (λ out. IsAnswered
-            (run_of self.entry.setting false self.entry.chunks) out
+            (run_over self.entry.setting false self.entry.chunks) out
             (stores_seen S.held S.told S.faults S.sure result.1.items)) }
         ensures cause { IfErr result.0 (λ e. IsFinishCause self.entry
             (stores_seen S.held S.told S.faults S.sure result.1.items) e) }
         ensures back { IfErr result.0 (λ _. HaveWholeFrames
-            (run_of self.entry.setting false self.entry.chunks)
+            (run_over self.entry.setting false self.entry.chunks)
             (stores_seen S.held S.told S.faults S.sure result.1.items)) }
     {
         let TypedRun {

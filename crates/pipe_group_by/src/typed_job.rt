@@ -23,9 +23,9 @@ pub(crate) struct TypedJob<'a> {
 }
 
 impl<'a> Model for TypedJob<'a> {
-    ghost use Rattle.pipe_group_by.specs.Jobs.{JobSeen};
+    ghost use Rattle.pipe_group_by.specs.Jobs.{SinkJobSeen};
 
-    ghost Value = { JobSeen };
+    ghost Value = { SinkJobSeen };
 
     ghost view = { λ j. record { sink = j.sink; refused = j.refused } };
 }

@@ -4,7 +4,7 @@ ghost use Rattle.std.specs.Prelude.{◌≡◌, ◌<◌, ◌++◌, ℕ, All, IfOk
 ghost use Rattle.pipe_aggs.specs.QueryTrees.{query_tree};
 ghost use Rattle.pipe_model.specs.Rows.{AreChunksOf};
 ghost use Rattle.pipe_sinks.specs.Runs.{with_taken};
-ghost use Rattle.pipe_group_by.specs.Jobs.{job_of, MayWork};
+ghost use Rattle.pipe_group_by.specs.Jobs.{sink_job, MayWork};
 ghost use Rattle.pipe_group_by.specs.Positions.{numbered, turns_of};
 ghost use Rattle.pipe_group_by.specs.Taken.{HaveTaken};
 
@@ -24,7 +24,7 @@ fn jobs_of<'a>(
     sinks: Vec<PausedSink>,
 ) -> Result<Vec<TypedJob<'a>>, AllocError>
     requires { All (λ s. query.now ≡ s.query) sinks.items }
-    ensures { IfOk result (λ v. v.items ≡ map job_of sinks.items) }
+    ensures { IfOk result (λ v. v.items ≡ map sink_job sinks.items) }
 {
     let mut jobs = Vec::with_capacity(alloc, sinks.len())?;
     for sink in sinks {

@@ -4,7 +4,7 @@ ghost use Rattle.std.specs.Prelude.{◌≡◌, ◌<◌, map, true};
 ghost use Rattle.pipe_plan.specs.Journals.{IsWhole, journal_of};
 ghost use Rattle.pipe_plan.specs.Stores.{stores_seen};
 ghost use Rattle.pipe_run.specs.Answered.{HaveReplayedFrames, HaveWholeFrames};
-ghost use Rattle.pipe_run.specs.Setting.{run_of};
+ghost use Rattle.pipe_run.specs.Setting.{run_over};
 
 use pipe_aggs::CheckedQuery;
 use pipe_columns::DataChunk;
@@ -57,7 +57,7 @@ impl<'a, S: SpillStore + Drop> TypedRun<'a, S> {
     pub(crate) fn journal(&self, partition: usize) -> &Journal
         requires { partition < self.now.setting.limits.partitions }
         ensures is { result.now ≡ journal_of self.now.journals partition }
-        ensures whole { IsWhole (run_of self.now.setting true self.now.chunks) partition result.now }
+        ensures whole { IsWhole (run_over self.now.setting true self.now.chunks) partition result.now }
     {
         let _ = partition;
         &self.journal
@@ -66,9 +66,9 @@ impl<'a, S: SpillStore + Drop> TypedRun<'a, S> {
     /// Gives the run up, and hands the stores back, in order. It takes no memory.
     pub(crate) fn into_stores(self) -> Vec<S>
         ensures same { stores_seen S.held S.told S.faults S.sure result.items ≡ self.entry.setting.stores }
-        ensures frames { HaveReplayedFrames (run_of self.entry.setting true self.entry.chunks)
+        ensures frames { HaveReplayedFrames (run_over self.entry.setting true self.entry.chunks)
             self.entry.journals (stores_seen S.held S.told S.faults S.sure result.items) }
-        ensures back { HaveWholeFrames (run_of self.entry.setting true self.entry.chunks)
+        ensures back { HaveWholeFrames (run_over self.entry.setting true self.entry.chunks)
             (stores_seen S.held S.told S.faults S.sure result.items) }
     {
         let TypedRun { stores, .. } = self;

@@ -5,7 +5,7 @@ use Rattle.std.proofs.lemmas.Option.{get_or_from_slice_get, slice_get-get_or}
 use Rattle.std.specs.Str.{bytes_eq}
 use Rattle.std.specs.Io.KnownBytes.{Consumes, IsAtEnd}
 use Rattle.pipe_io.specs.Files.{file_of}
-use Rattle.pipe_io.specs.FilePlace.{rest_of}
+use Rattle.pipe_io.specs.FilePlace.{file_rest}
 use Rattle.pipe_io.specs.MemoryFiles.{entries}
 
 -- a name and its bytes, as the code holds them
@@ -26,7 +26,7 @@ hit fs name i d h same = at_drop_more (search_of name) fs i d h ∙ rw same refl
 
 -- what a copy of the front took
 pub copied : (fs : List Named) (at i n room : ℕ) (buf : List ℕ) (f : Named) → slice_get fs i ≡ Some f → n ≡ min (length f.1.items - at) room → 0 < room → take n buf ≡ take n (drop at f.1.items)
-    → Consumes (rest_of fs at i) (rest_of fs (at + n) i) (take n buf) × (n ≡ 0 → IsAtEnd (rest_of fs (at + n) i))
+    → Consumes (file_rest fs at i) (file_rest fs (at + n) i) (take n buf) × (n ≡ 0 → IsAtEnd (file_rest fs (at + n) i))
 copied fs at i n room buf f e size some same = rw (e, same) (
   sym (ap (λ (t : List ℕ). take n (drop at f.1.items) ++ t) (sym (drop-drop n at f.1.items)) ∙ take-append-drop n (drop at f.1.items)),
   λ none. drop_all (at + n) f.1.items (omega arith),
@@ -34,12 +34,12 @@ copied fs at i n room buf f e size some same = rw (e, same) (
 
 -- where the file at a place is the first of its name
 pub placed : (fs : List Named) (name : List ℕ) (i : ℕ) (d : Named) → i < length fs → file_of (entries fs) name ≡ file_of (entries (drop i fs)) name → bytes_eq (get_or fs i d).0 name ≡ true
-    → (bytes : List ℕ) × (rest_of fs 0 i ≡ Some bytes) × (file_of (entries fs) name ≡ Some bytes)
+    → (bytes : List ℕ) × (file_rest fs 0 i ≡ Some bytes) × (file_of (entries fs) name ≡ Some bytes)
 placed fs name i d h passed same = ((get_or fs i d).1.items, rw (slice_get-get_or fs i d h) refl, passed ∙ hit fs name i d h same)
 
 -- the begun file is the one at its place
-pub begun-there : (fs : List Named) (at i : ℕ) (d : Named) → is_some (rest_of fs at i) ≡ true → d ≡ get_or fs i d → slice_get fs i ≡ Some d
+pub begun-there : (fs : List Named) (at i : ℕ) (d : Named) → is_some (file_rest fs at i) ≡ true → d ≡ get_or fs i d → slice_get fs i ≡ Some d
 begun-there fs at i d begun read = by_case (slice_get fs i) refl where
   by_case : (o : Option Named) → slice_get fs i ≡ o → slice_get fs i ≡ Some d
-  by_case None none = let no : is_some (rest_of fs at i) ≡ false = rw none refl in cc
+  by_case None none = let no : is_some (file_rest fs at i) ≡ false = rw none refl in cc
   by_case (Some x) some = some ∙ ap Some (sym (get_or_from_slice_get fs i x d some) ∙ sym read)

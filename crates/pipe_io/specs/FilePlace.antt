@@ -3,5 +3,5 @@ use Rattle.std.specs.Prelude.{ℕ, List, drop, Option, option_map, slice_get, Ve
 use Rattle.std.specs.declared.alloc.Global.{Global}
 
 -- the bytes of the file at a place of a list, from an offset on
-abbrev pub rest_of : List (List ℕ × Vec ℕ Global) → ℕ → ℕ → Option (List ℕ)
-rest_of files at place = option_map (λ f. drop at f.1.items) (slice_get files place)
+abbrev pub file_rest : List (List ℕ × Vec ℕ Global) → ℕ → ℕ → Option (List ℕ)
+file_rest files at place = option_map (λ f. drop at f.1.items) (slice_get files place)

@@ -12,9 +12,9 @@ abbrev pub file_of : Files → List ℕ → Option (List ℕ)
 file_of files name = option_map (λ f. f.1) (find (λ f. bytes_eq f.0 name) files)
 
 -- where files are told, none has the name
-abbrev pub HasNone : Option Files → List ℕ → Type 0
-HasNone None name = ⊤
-HasNone (Some files) name = file_of files name ≡ None
+abbrev pub HasNoFile : Option Files → List ℕ → Type 0
+HasNoFile None name = ⊤
+HasNoFile (Some files) name = file_of files name ≡ None
 
 -- where files are told, these bytes of the file were read, and what is left comes after them
 abbrev pub IsRead : Option Files → List ℕ → Option (List ℕ) → List ℕ → Type 0

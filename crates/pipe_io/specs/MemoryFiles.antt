@@ -17,20 +17,20 @@ abbrev pub entries : List (List ℕ × Vec ℕ Global) → Files
 entries files = map (λ f. (f.0, f.1.items)) files
 
 -- all files, which are always told
-abbrev pub told_of : HeldFiles → Option Files
-told_of s = Some s.files
+abbrev pub held_files : HeldFiles → Option Files
+held_files s = Some s.files
 
 -- what is left of the begun file
-abbrev pub left_of : HeldFiles → Option (List ℕ)
-left_of s = s.left
+abbrev pub held_rest : HeldFiles → Option (List ℕ)
+held_rest s = s.left
 
 -- whether a file is begun
 abbrev pub begun_of : HeldFiles → Bool
 begun_of s = is_some s.left
 
 -- how many calls failed
-abbrev pub faults_of : HeldFiles → ℕ
-faults_of s = s.calls.faults
+abbrev pub held_faults : HeldFiles → ℕ
+held_faults s = s.calls.faults
 
 -- the names that were tried
 abbrev pub tried_of : HeldFiles → List (List ℕ)

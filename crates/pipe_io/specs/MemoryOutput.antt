@@ -8,9 +8,9 @@ pub record HeldBytes : Type 0 where
   pub calls : Calls
 
 -- its bytes, which are always told
-abbrev pub told_of : HeldBytes → Option (List ℕ)
-told_of s = Some s.bytes
+abbrev pub held_files : HeldBytes → Option (List ℕ)
+held_files s = Some s.bytes
 
 -- how many calls failed
-abbrev pub faults_of : HeldBytes → ℕ
-faults_of s = s.calls.faults
+abbrev pub held_faults : HeldBytes → ℕ
+held_faults s = s.calls.faults

@@ -12,8 +12,8 @@ abbrev pub begun_of : SystemFiles → Bool
 begun_of s = s.begun
 
 -- how many calls failed
-abbrev pub faults_of : SystemFiles → ℕ
-faults_of s = s.faults
+abbrev pub held_faults : SystemFiles → ℕ
+held_faults s = s.faults
 
 -- the names that were tried
 abbrev pub tried_of : SystemFiles → List (List ℕ)

@@ -5,7 +5,7 @@ ghost use Rattle.std.specs.Io.{ReadsAtMost};
 ghost use Rattle.std.specs.Io.KnownBytes.{ReadConsumes};
 ghost use Rattle.std.specs.Thread.{IsSync};
 ghost use Rattle.pipe_columns.specs.Causes.{HasCause};
-ghost use Rattle.pipe_io.specs.Files.{Files, HasNone, IsRead};
+ghost use Rattle.pipe_io.specs.Files.{Files, HasNoFile, IsRead};
 ghost use Rattle.pipe_io.specs.declared.input.InputError.TheVariants as input_error;
 
 use pipe_columns::Text;
@@ -44,7 +44,7 @@ pub trait InputFiles {
         ensures told { told self.new ≡ told self.old }
         ensures started { OnOk result (begun self.new ≡ true) }
         ensures at_start { OnOk result (IsRead (told self.old) name.now (left self.new) []) }
-        ensures missing { IsErrOf result input_error.NoFile → HasNone (told self.old) name.now }
+        ensures missing { IsErrOf result input_error.NoFile → HasNoFile (told self.old) name.now }
         ensures no_fault { IsErrOf result input_error.NoFile → faults self.new ≡ faults self.old }
         ensures refused { OnErr result (begun self.new ≡ false) }
         ensures tried { tried self.new ≡ tried self.old ++ name.now ∷ [] }

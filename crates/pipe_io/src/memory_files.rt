@@ -5,9 +5,9 @@ ghost use Rattle.std.specs.Io.{ReadsAtMost};
 ghost use Rattle.std.specs.Io.KnownBytes.{ReadConsumes};
 ghost use Rattle.pipe_columns.specs.Calls.{after_call, is_listed, no_calls};
 ghost use Rattle.pipe_columns.specs.Causes.{HasCause};
-ghost use Rattle.pipe_io.specs.FilePlace.{rest_of};
-ghost use Rattle.pipe_io.specs.Files.{HasNone, IsRead, file_of};
-ghost use Rattle.pipe_io.specs.MemoryFiles.{begun_of, entries, faults_of, left_of, told_of, tried_of};
+ghost use Rattle.pipe_io.specs.FilePlace.{file_rest};
+ghost use Rattle.pipe_io.specs.Files.{HasNoFile, IsRead, file_of};
+ghost use Rattle.pipe_io.specs.MemoryFiles.{begun_of, entries, held_faults, held_rest, held_files, tried_of};
 ghost use Rattle.pipe_io.specs.declared.input.InputError.TheVariants as input_error;
 
 use crate::input::{InputError, InputFiles};
@@ -28,14 +28,14 @@ pub struct MemoryFiles {
 
 impl Model for MemoryFiles {
     ghost use Rattle.std.specs.Prelude.{option_and_then};
-    ghost use Rattle.pipe_io.specs.FilePlace.{rest_of};
+    ghost use Rattle.pipe_io.specs.FilePlace.{file_rest};
     ghost use Rattle.pipe_io.specs.MemoryFiles.{HeldFiles, entries};
 
     ghost Value = { HeldFiles };
 
     ghost view = { λ s. record {
       files = entries s.files.items;
-      left = option_and_then (rest_of s.files.items s.at) s.current;
+      left = option_and_then (file_rest s.files.items s.at) s.current;
       calls = s.calls;
       tried = s.tried;
     } };
@@ -60,26 +60,26 @@ impl MemoryFiles {
 }
 
 impl InputFiles for MemoryFiles {
-    ghost told = { told_of };
+    ghost told = { held_files };
 
-    ghost left = { left_of };
+    ghost left = { held_rest };
 
     ghost begun = { begun_of };
 
-    ghost faults = { faults_of };
+    ghost faults = { held_faults };
 
     ghost tried = { tried_of };
 
     fn begin(&mut self, name: &Text) -> Result<(), InputError>
-        ensures told { told_of self.new ≡ told_of self.old }
+        ensures told { held_files self.new ≡ held_files self.old }
         ensures started { OnOk result (begun_of self.new ≡ true) }
-        ensures at_start { OnOk result (IsRead (told_of self.old) name.now (left_of self.new) []) }
-        ensures missing { IsErrOf result input_error.NoFile → HasNone (told_of self.old) name.now }
+        ensures at_start { OnOk result (IsRead (held_files self.old) name.now (held_rest self.new) []) }
+        ensures missing { IsErrOf result input_error.NoFile → HasNoFile (held_files self.old) name.now }
         ensures no_fault { IsErrOf result input_error.NoFile
-            → faults_of self.new ≡ faults_of self.old }
+            → held_faults self.new ≡ held_faults self.old }
         ensures refused { OnErr result (begun_of self.new ≡ false) }
         ensures tried { tried_of self.new ≡ tried_of self.old ++ name.now ∷ [] }
-        ensures cause { HasCause (faults_of self.old) (faults_of self.new)
+        ensures cause { HasCause (held_faults self.old) (held_faults self.new)
             (IsErrOf result input_error.Failed) }
         ensures fails_exactly { IsErrOf result input_error.Failed
             ↔ IsTrue (is_listed self.old.calls) }
@@ -104,13 +104,13 @@ impl InputFiles for MemoryFiles {
     fn read(&mut self, into: &mut [u8]) -> Result<usize, InputError>
         requires started { begun_of self.old ≡ true }
         requires room { 0 < length into.old }
-        ensures told { told_of self.new ≡ told_of self.old }
+        ensures told { held_files self.new ≡ held_files self.old }
         ensures begun { begun_of self.new ≡ true }
         ensures bound { ReadsAtMost result into.new }
-        ensures bytes { ReadConsumes (left_of self.old) (left_of self.new) result into.new }
+        ensures bytes { ReadConsumes (held_rest self.old) (held_rest self.new) result into.new }
         ensures found { IsErrOf result input_error.NoFile → ⊥ }
         ensures tried { tried_of self.new ≡ tried_of self.old }
-        ensures cause { HasCause (faults_of self.old) (faults_of self.new)
+        ensures cause { HasCause (held_faults self.old) (held_faults self.new)
             (IsErrOf result input_error.Failed) }
         ensures fails_exactly { IsErrOf result input_error.Failed
             ↔ IsTrue (is_listed self.old.calls) }
@@ -129,7 +129,7 @@ impl InputFiles for MemoryFiles {
 
 /// The place of the first file of a name.
 fn place_of(files: &[(Text, Vec<u8>)], name: &[u8]) -> Option<usize>
-    ensures found { IfSome result (λ i. (bytes : List ℕ) × (rest_of files.now 0 i ≡ Some bytes)
+    ensures found { IfSome result (λ i. (bytes : List ℕ) × (file_rest files.now 0 i ≡ Some bytes)
         × (file_of (entries files.now) name.now ≡ Some bytes)) }
     ensures within { IfSome result (λ i. i < length files.now) }
     ensures none { IfNone result (file_of (entries files.now) name.now ≡ None) }

@@ -4,7 +4,7 @@ ghost use Rattle.std.specs.Prelude.{◌≡◌, ◌<◌, ◌≤◌, ◌↔◌, []
 ghost use Rattle.std.specs.Io.KnownBytes.{WriteAppends};
 ghost use Rattle.pipe_columns.specs.Calls.{after_call, is_listed, no_calls};
 ghost use Rattle.pipe_columns.specs.Causes.{HasCause};
-ghost use Rattle.pipe_io.specs.MemoryOutput.{faults_of, told_of};
+ghost use Rattle.pipe_io.specs.MemoryOutput.{held_faults, held_bytes};
 ghost use Rattle.pipe_io.specs.declared.output.OutputError.TheVariants as output_error;
 
 use crate::output::{Output, OutputError};
@@ -48,17 +48,17 @@ impl MemoryOutput {
 }
 
 impl Output for MemoryOutput {
-    ghost told = { told_of };
+    ghost told = { held_bytes };
 
-    ghost faults = { faults_of };
+    ghost faults = { held_faults };
 
     fn write(&mut self, piece: &[u8]) -> Result<usize, OutputError>
         requires { 0 < length piece.now }
         ensures some { IfOk result (λ n. 0 < n) }
         ensures bound { IfOk result (λ n. n ≤ length piece.now) }
-        ensures tells { is_some (told_of self.new) ≡ is_some (told_of self.old) }
-        ensures bytes { WriteAppends (told_of self.old) (told_of self.new) result piece.now }
-        ensures cause { HasCause (faults_of self.old) (faults_of self.new)
+        ensures tells { is_some (held_bytes self.new) ≡ is_some (held_bytes self.old) }
+        ensures bytes { WriteAppends (held_bytes self.old) (held_bytes self.new) result piece.now }
+        ensures cause { HasCause (held_faults self.old) (held_faults self.new)
             (IsErrOf result output_error.Failed) }
         ensures whole { IfOk result (λ n. n ≡ length piece.now) }
         ensures fails_exactly { IsErrOf result output_error.Failed

@@ -56,7 +56,7 @@ impl<'a, R: Files<File = File>, S: Read + Drop> RealFiles<'a, R, S> {
 
 impl<'a, R: Files<File = File>, S: Read + Drop> InputFiles for RealFiles<'a, R, S> {
     ghost use Rattle.std.specs.Prelude.{None};
-    ghost use Rattle.pipe_io.specs.RealFiles.{begun_of, faults_of, tried_of};
+    ghost use Rattle.pipe_io.specs.RealFiles.{begun_of, held_faults, tried_of};
 
     ghost told = { λ s. None };
 
@@ -64,7 +64,7 @@ impl<'a, R: Files<File = File>, S: Read + Drop> InputFiles for RealFiles<'a, R, 
 
     ghost begun = { begun_of };
 
-    ghost faults = { faults_of };
+    ghost faults = { held_faults };
 
     ghost tried = { tried_of };
 

@@ -2,7 +2,7 @@
 
 ghost use Rattle.std.specs.Prelude.{◌≡◌, ◌<◌, ◌≤◌, ◌^◌, ◌+◌, ◌++◌, ◌∷◌, [], List, ℕ, length, IfOk, IsErrOf, Some, take, true, vec_len};
 ghost use Rattle.pipe_columns.specs.Causes.{HasCause};
-ghost use Rattle.pipe_io.specs.Files.{HasNone, IsLarger, IsRead, IsWhole};
+ghost use Rattle.pipe_io.specs.Files.{HasNoFile, IsLarger, IsRead, IsWhole};
 ghost use Rattle.pipe_io.specs.declared.whole_file.FileEnd.TheVariants as file_end;
 
 use crate::input::{InputError, InputFiles};
@@ -49,7 +49,7 @@ pub fn read_file<I: InputFiles>(
     ensures told { I.told input.new ≡ I.told input.old }
     ensures bytes { IfOk result (λ v. IsWhole (I.told input.old) name.now v.items) }
     ensures small { IfOk result (λ v. length v.items ≤ MOST_FILE_BYTES) }
-    ensures missing { IsErrOf result file_end.Missing → HasNone (I.told input.old) name.now }
+    ensures missing { IsErrOf result file_end.Missing → HasNoFile (I.told input.old) name.now }
     ensures no_fault { IsErrOf result file_end.Missing → I.faults input.new ≡ I.faults input.old }
     ensures large { IsErrOf result file_end.TooLarge
         → IsLarger (I.told input.old) name.now MOST_FILE_BYTES }

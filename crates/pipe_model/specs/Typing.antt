@@ -16,10 +16,6 @@ use Rattle.pipe_model.specs.Expr as expr
 abbrev pub field_named : List ℕ → List Field → Option Field
 field_named name fields = find (λ f. bytes_eq f.name name) fields
 
--- a type that meets a test
-abbrev pub type_if : (DataType → Bool) → DataType → Option DataType
-type_if test t = if test t then Some t else None
-
 -- the type of two operands of one type that meets a test
 abbrev pub shared_type : (DataType → Bool) → DataType → DataType → Option DataType
 shared_type test a b = if same_type a b && test a then Some a else None

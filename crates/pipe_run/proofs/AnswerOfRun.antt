@@ -22,7 +22,7 @@ use Rattle.pipe_global.specs.Partition.{IsReplayed, marks_from, PartitionSeen, s
 use Rattle.pipe_run.specs.Ending.{IsAnswerCause}
 use Rattle.pipe_run.specs.Fed.{AreWholePartitions, RoseFrom}
 use Rattle.pipe_run.specs.Given.{HasRows, joined_frames, SourceSeen}
-use Rattle.pipe_run.specs.Sources.{chunks_left, GroupSourceSeen, HasAllRows, is_over, IsGiveCause, KeepsAsked, LeavesOthers, query_of, unasked}
+use Rattle.pipe_run.specs.Sources.{chunks_left, GroupSourceSeen, HasAllRows, is_over, IsGiveCause, KeepsAsked, LeavesOthers, source_query, unasked}
 use Rattle.pipe_run.proofs.Asking.{asked-same, asked-trans, others-same, others-trans}
 use Rattle.pipe_run.proofs.ByPlace.{stacked-fields}
 use Rattle.pipe_run.proofs.Joining.{joined-chunks}
@@ -38,11 +38,11 @@ below f chunks = fold (λ f c. stacked f c.frame) f chunks
 pub record IsJoining (s now : GroupSourceSeen) (f : FrameData) : Type 0 where
   pub kept : KeepsAsked s.asked now.asked
   pub others : LeavesOthers s.asked now.asked
-  pub fields : FitsSchema (output_schema (query_of s)) f
-  pub rows : (rs : List Row) → HasAllRows rs s → HasAllRows rs now × (below f (chunks_left rs now) ≡ joined_frames (query_of s) (chunks_left rs s))
+  pub fields : FitsSchema (output_schema (source_query s)) f
+  pub rows : (rs : List Row) → HasAllRows rs s → HasAllRows rs now × (below f (chunks_left rs now) ≡ joined_frames (source_query s) (chunks_left rs s))
 
 -- before the first
-pub joining-none : (s : GroupSourceSeen) (f : FrameData) → f ≡ frame_of (output_schema (query_of s)) [] → FitsSchema (output_schema (query_of s)) f → IsJoining s s f
+pub joining-none : (s : GroupSourceSeen) (f : FrameData) → f ≡ frame_of (output_schema (source_query s)) [] → FitsSchema (output_schema (source_query s)) f → IsJoining s s f
 joining-none s f is fit = record {
   kept = asked-same s.asked;
   others = others-same s.asked;
@@ -57,14 +57,14 @@ module _ (s now new : GroupSourceSeen) (f : FrameData) (h : IsJoining s now f) (
   joining-more c g others is stands left = record {
     kept = asked-trans s.asked now.asked new.asked h.kept kept;
     others = others-trans s.asked now.asked new.asked kept h.others others;
-    fields = subst (FitsSchema (output_schema (query_of s))) (sym is) (stacked-fields c.frame.columns f.columns ∙ h.fields);
+    fields = subst (FitsSchema (output_schema (source_query s))) (sym is) (stacked-fields c.frame.columns f.columns ∙ h.fields);
     rows = λ rs all.
         let before = h.rows rs all in
         (stands rs before.0, ap (λ (x : FrameData). below x (chunks_left rs new)) is ∙ ap (below f) (sym (left rs before.0)) ∙ before.1);
   }
 
 -- and where none is left, all of them
-pub joining-all : (s now : GroupSourceSeen) (f : FrameData) → IsJoining s now f → is_over now ≡ true → (rs : List Row) → HasAllRows rs s → f ≡ joined_frames (query_of s) (chunks_left rs s)
+pub joining-all : (s now : GroupSourceSeen) (f : FrameData) → IsJoining s now f → is_over now ≡ true → (rs : List Row) → HasAllRows rs s → f ≡ joined_frames (source_query s) (chunks_left rs s)
 joining-all s now f h over rs all = ap (below f) (sym (over-left now rs over)) ∙ (h.rows rs all).1
 
 -- ---- over the rows that its partitions stand for

@@ -19,7 +19,7 @@ use Rattle.std.specs.Prelude.{count_by}
 use Rattle.pipe_global.specs.Partition.{IsRunnable, no_store, PartitionSeen, store_of}
 use Rattle.pipe_run.specs.Answered.{HasFrames, HasWholeFrames, HaveReplayedFrames, HaveWholeFrames, IsAnswered}
 use Rattle.pipe_global.specs.Finishing.{KeepsRest}
-use Rattle.pipe_run.specs.Ending.{AreKept}
+use Rattle.pipe_run.specs.Ending.{AreSamePartitions}
 use Rattle.pipe_run.specs.Fed.{AllStand, AreWholePartitions, IsWholePartition}
 use Rattle.pipe_run.proofs.Feeding.{stands-frames, whole-stand}
 use Rattle.pipe_run.proofs.Lists.{front-all}
@@ -43,7 +43,7 @@ frames-kept : (r : Run) (p : ℕ) (s new : PartitionSeen) (frames : List (List R
 frames-kept r p s new frames kept has = record { told = kept.store.told ∙ has.told; held = kept.store.held ∙ has.held; sure = kept.store.sure ∙ has.sure }
 
 -- partitions that weren't asked
-pub kept-same : (closed : List PartitionSeen) → AreKept closed closed
+pub kept-same : (closed : List PartitionSeen) → AreSamePartitions closed closed
 kept-same closed = record {
   count = refl;
   each = λ p d lt. record { shape = (refl, refl); store = record { told = refl; held = refl; sure = refl; faults = omega arith }; others = refl };
@@ -52,7 +52,7 @@ kept-same closed = record {
 -- ---- all partitions
 
 -- those that keep their journals have the frames of these, each with the default that the lists have
-module _ (r : Run) (closed after : List PartitionSeen) (d : PartitionSeen) (stand : AllStand r closed) (kept : AreKept closed after) where
+module _ (r : Run) (closed after : List PartitionSeen) (d : PartitionSeen) (stand : AllStand r closed) (kept : AreSamePartitions closed after) where
   long : length after ≡ r.limits.partitions
   long = kept.count ∙ stand.count
 
@@ -144,18 +144,18 @@ pub some-partition : (r : Run) (closed : List PartitionSeen) → 0 < r.limits.pa
 some-partition r [] some stand = absurd (omega (arith, some, stand.count))
 some-partition r (d ∷ closed) some stand = d
 
-pub replayed-frames : (r : Run) (closed after : List PartitionSeen) → 0 < r.limits.partitions → AllStand r closed → AreKept closed after → HaveReplayedFrames r (journals_of after) (stores_of after)
+pub replayed-frames : (r : Run) (closed after : List PartitionSeen) → 0 < r.limits.partitions → AllStand r closed → AreSamePartitions closed after → HaveReplayedFrames r (journals_of after) (stores_of after)
 replayed-frames r closed after some stand kept = replayed-kept r closed after (some-partition r closed some stand) stand kept
 
-pub whole-frames : (r : Run) (closed after : List PartitionSeen) → 0 < r.limits.partitions → 0 < r.limits.buffer_size → AllStand r closed → AreKept closed after → HaveWholeFrames r (stores_of after)
+pub whole-frames : (r : Run) (closed after : List PartitionSeen) → 0 < r.limits.partitions → 0 < r.limits.buffer_size → AllStand r closed → AreSamePartitions closed after → HaveWholeFrames r (stores_of after)
 whole-frames r closed after some buffer stand kept = whole-kept r closed after (some-partition r closed some stand) stand kept buffer
 
-pub few-arrived : (r : Run) (closed after : List PartitionSeen) → IsRunnable r → r.is_open ≡ false → AreWholePartitions r closed → AreKept closed after → sum_by (λ (s : PartitionSeen). s.arrived) after < 2 ^ 32
+pub few-arrived : (r : Run) (closed after : List PartitionSeen) → IsRunnable r → r.is_open ≡ false → AreWholePartitions r closed → AreSamePartitions closed after → sum_by (λ (s : PartitionSeen). s.arrived) after < 2 ^ 32
 few-arrived r closed after run shut whole kept =
     let stand = whole-stand r closed whole in
     few-kept r closed after (some-partition r closed run.limits.partitions stand) stand kept run shut whole
 
-pub run-answered : (r : Run) (closed after : List PartitionSeen) (frame : FrameData) (n : ℕ) → IsRunnable r → r.is_open ≡ false → AreWholePartitions r closed → AreKept closed after
+pub run-answered : (r : Run) (closed after : List PartitionSeen) (frame : FrameData) (n : ℕ) → IsRunnable r → r.is_open ≡ false → AreWholePartitions r closed → AreSamePartitions closed after
     → n ≡ sum_by (λ (s : PartitionSeen). s.arrived) after → (All (λ s. tells s ≡ true) r.stores → frame ≡ answer r.chunks r.query r.limits.partitions)
     → IsAnswered r (record { frame = frame; journals = journals_of after; overflow = n }) (stores_of after)
 run-answered r closed after frame n run shut whole kept is told =

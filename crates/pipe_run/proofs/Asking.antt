@@ -14,7 +14,7 @@ use Rattle.pipe_global.specs.declared.batch_error.BatchError.{BatchError}
 use Rattle.pipe_global.specs.declared.batch_error.BatchError.TheVariants as batch_error
 use Rattle.pipe_global.specs.Finishing.{IsCause, KeepsRest}
 use Rattle.pipe_global.specs.Partition.{PartitionSeen}
-use Rattle.pipe_run.specs.Ending.{AreKept}
+use Rattle.pipe_run.specs.Ending.{AreSamePartitions}
 use Rattle.pipe_run.specs.Given.{HasRows, IsSource, KeepsSource, SourceSeen}
 use Rattle.pipe_run.specs.Sources.{ArePlacedParts, IsGiveCause, IsPlacedFrame, KeepsAsked, LeavesOthers}
 use Rattle.pipe_run.proofs.SourceFacts.{keeps-itself}
@@ -33,10 +33,10 @@ rest-trans a b c x y = record {
   others = y.others ∙ ap (λ (s : PartitionSeen). record s { table = c.table; waiting = c.waiting; store = c.store; marks = c.marks }) x.others;
 }
 
-pub kept-same : (ps : List PartitionSeen) → AreKept ps ps
+pub kept-same : (ps : List PartitionSeen) → AreSamePartitions ps ps
 kept-same ps = record { count = refl; each = λ p d lt. keeps-itself (slice_index_or ps p d) }
 
-pub kept-trans : (ps qs rs : List PartitionSeen) → AreKept ps qs → AreKept qs rs → AreKept ps rs
+pub kept-trans : (ps qs rs : List PartitionSeen) → AreSamePartitions ps qs → AreSamePartitions qs rs → AreSamePartitions ps rs
 kept-trans ps qs rs x y = record {
   count = y.count ∙ x.count;
   each = λ p d lt. rest-trans (slice_index_or ps p d) (slice_index_or qs p d) (slice_index_or rs p d) (x.each p d lt) (y.each p d (omega (arith, lt, x.count)));

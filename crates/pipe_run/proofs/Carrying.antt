@@ -7,7 +7,7 @@ use Rattle.pipe_plan.specs.Rounds.{GoesOn}
 use Rattle.pipe_plan.specs.Run.{Run, StoreSeen}
 use Rattle.pipe_plan.proofs.Fronts.{replay-on, within-on}
 use Rattle.pipe_global.specs.Partition.{IsReplayed, no_store, PartitionSeen, StandsFor, store_of}
-use Rattle.pipe_run.specs.Setting.{counted_from, run_of, Setting, with_faults}
+use Rattle.pipe_run.specs.Setting.{counted_from, run_over, Setting, with_faults}
 
 -- a store is as before, but for its count of faults
 pub record IsAlike (a b : StoreSeen) : Type 0 where
@@ -35,10 +35,10 @@ faults-at (s ∷ stores) (n ∷ faults) (suc p) same lt = faults-at stores fault
 module _ (x : Setting) (o : Bool) (before more : List DataChunk) (faults : List ℕ) where
   -- the run over chunks, and the one that goes on from it
   abbrev pub from : Run
-  from = run_of x true before
+  from = run_over x true before
 
   abbrev pub onto : Run
-  onto = counted_from (run_of x o (before ++ more)) faults
+  onto = counted_from (run_over x o (before ++ more)) faults
 
   pub on : GoesOn from onto
   on = record { more = more; chunks = refl; query = refl; limits = refl; actions = refl }
@@ -52,7 +52,7 @@ module _ (x : Setting) (o : Bool) (before more : List DataChunk) (faults : List 
         waiting = is.waiting;
         marks = subst (λ n. s.marks ≡ Rattle.pipe_global.specs.Partition.marks_from n made.frames) (sym alike.held) is.marks;
         held = is.held ∙ ap (λ n. n + length made.frames) (sym alike.held);
-        told = is.told ∙ ap (λ t. Rattle.pipe_global.specs.Partition.with_frames t (map (Rattle.pipe_global.specs.Partition.bytes_of from.query) made.frames)) (sym alike.told);
+        told = is.told ∙ ap (λ t. Rattle.pipe_global.specs.Partition.with_frames t (map (Rattle.pipe_global.specs.Partition.frame_bytes_of from.query) made.frames)) (sym alike.told);
         arrived = is.arrived;
       }
 

@@ -37,7 +37,7 @@ use Rattle.pipe_groups.proofs.PartsFacts.{part-answer, part-placed}
 use Rattle.pipe_keyed.specs.Tables.{Table}
 use Rattle.pipe_global.specs.Finishing.{GivesGroups, GivesOwn, GivesOwnPlaced, GivesPlaced, KeepsRest, own_rows, StandFor}
 use Rattle.pipe_global.specs.Partition.{PartitionSeen, spilled_all}
-use Rattle.pipe_run.specs.Given.{frame_of_keys, HasGiven, HasRows, IsSource, SourceSeen, StandsForPart}
+use Rattle.pipe_run.specs.Given.{frame_of_keys, HasGivenNext, HasRows, IsSource, SourceSeen, StandsForPart}
 use Rattle.pipe_run.specs.Sources.{IsPlacedFrame}
 use Rattle.pipe_run.proofs.SourceFacts.{asked, both, mine}
 
@@ -94,7 +94,7 @@ module _ (s : SourceSeen) (y : PartitionSeen) (local : Table) (slice : Option (�
   -- so what it gives is the chunk of the partition
   pub given-chunk : (f : FrameData)
       → ((rows locals : List SpillRow) → StandFor here s.local rows locals → GivesGroups here.table.shape s.slice slice (rows ++ own_rows here locals) f)
-      → HasGiven rs s (asked s y local slice (s.given + 1)) (record { chunk_index = s.given + 1; frame = f })
+      → HasGivenNext rs s (asked s y local slice (s.given + 1)) (record { chunk_index = s.given + 1; frame = f })
   given-chunk f clause =
       let at = is.each s.given y lt in
       let gives = clause part.rows h.stands.locals (both s y local slice is lt kept rs h.stands) in

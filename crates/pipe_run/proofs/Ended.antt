@@ -20,7 +20,7 @@ use Rattle.pipe_workers.specs.declared.stop.WorkerStop.{WorkerStop}
 use Rattle.pipe_workers.specs.Rounds.{HasEnded, IsDone, JobSeen}
 use Rattle.pipe_workers.specs.Workers.{WorkerSeen}
 use Rattle.pipe_run.specs.Fed.{AllStand, AreWholePartitions, HasKept, HaveEnded, IsRested, RoseAt}
-use Rattle.pipe_run.specs.Rounds.{AreWholeShares, has_gone_on, rest_of, shares_of}
+use Rattle.pipe_run.specs.Rounds.{AreWholeShares, has_gone_on, paused_of, shares_of}
 use Rattle.pipe_run.proofs.Whole.{journal-at, whole-journals}
 
 -- what all have, each has
@@ -44,8 +44,8 @@ module _ (r : Run) (jobs : List JobSeen) (d : JobSeen) (generic : is_generic r.l
   share-at : (w : ℕ) (e : SharesSeen) → w < length jobs → slice_index_or (map shares_of jobs) w e ≡ (slice_index_or jobs w d).worker.shares
   share-at w e lt = get_or-map shares_of jobs w d e lt
 
-  rest-at : (w : ℕ) (e : PausedWorker) → w < length jobs → slice_index_or (map rest_of jobs) w e ≡ rest_of (slice_index_or jobs w d)
-  rest-at w e lt = get_or-map rest_of jobs w d e lt
+  rest-at : (w : ℕ) (e : PausedWorker) → w < length jobs → slice_index_or (map paused_of jobs) w e ≡ paused_of (slice_index_or jobs w d)
+  rest-at w e lt = get_or-map paused_of jobs w d e lt
 
   -- its shares count the whole plan
   events-whole : (w p : ℕ) → w < length jobs → p < r.limits.partitions → share_of (slice_index_or jobs w d).worker.shares p ≡ length (plan r w p)
@@ -60,7 +60,7 @@ module _ (r : Run) (jobs : List JobSeen) (d : JobSeen) (generic : is_generic r.l
       let below : w < length jobs = omega (arith, lt, length-map jobs shares_of) in
       (lens w e lt, λ p here. ap (λ (s : SharesSeen). share_of s p) (share-at w e below) ∙ events-whole w p below here)
 
-  rested : (w : ℕ) → w < length jobs → r.is_open ≡ true → IsRested r w (rest_of (slice_index_or jobs w d))
+  rested : (w : ℕ) → w < length jobs → r.is_open ≡ true → IsRested r w (paused_of (slice_index_or jobs w d))
   rested w lt is =
       let ready = (done w lt).open_run is in
       record {
@@ -69,24 +69,24 @@ module _ (r : Run) (jobs : List JobSeen) (d : JobSeen) (generic : is_generic r.l
         picks = ready.after.shares.picks;
       }
 
-  kept : (w : ℕ) → w < length jobs → r.is_open ≡ false → HasKept r w (rest_of (slice_index_or jobs w d))
+  kept : (w : ℕ) → w < length jobs → r.is_open ≡ false → HasKept r w (paused_of (slice_index_or jobs w d))
   kept w lt is =
       let closed = (done w lt).closed_run is in
       record { shape = closed.shape; holds = closed.holds; none_waits = closed.none_waits }
 
   -- the workers rest, or have closed
-  pub have-ended : HaveEnded r (map rest_of jobs)
+  pub have-ended : HaveEnded r (map paused_of jobs)
   have-ended = record {
     open_run = λ is. record {
-      count = length-map jobs rest_of ∙ count;
+      count = length-map jobs paused_of ∙ count;
       each = λ w e lt.
-          let below : w < length jobs = omega (arith, lt, length-map jobs rest_of) in
+          let below : w < length jobs = omega (arith, lt, length-map jobs paused_of) in
           subst (IsRested r w) (sym (rest-at w e below)) (rested w below is);
     };
     closed_run = λ is. record {
-      count = length-map jobs rest_of ∙ count;
+      count = length-map jobs paused_of ∙ count;
       each = λ w e lt.
-          let below : w < length jobs = omega (arith, lt, length-map jobs rest_of) in
+          let below : w < length jobs = omega (arith, lt, length-map jobs paused_of) in
           subst (HasKept r w) (sym (rest-at w e below)) (kept w below is);
     };
   }
@@ -120,7 +120,7 @@ module _ (r : Run) (jobs : List JobSeen) (some : 0 < r.limits.workers) (generic 
     by [] none = absurd (omega (arith, some, count, ap (λ (l : List JobSeen). length l) none))
     by (j ∷ js) e = subst (AreWholeShares r) (sym is) (shares-whole r jobs j generic count ended all (subst (All (λ (s : SharesSeen). length s.events ≡ r.limits.partitions)) is lens))
 
-  pub all-ended : (rests : List PausedWorker) → rests ≡ map rest_of jobs → list_all has_gone_on jobs ≡ true → HaveEnded r rests
+  pub all-ended : (rests : List PausedWorker) → rests ≡ map paused_of jobs → list_all has_gone_on jobs ≡ true → HaveEnded r rests
   all-ended rests is all = by jobs refl where
     by : (js : List JobSeen) → jobs ≡ js → HaveEnded r rests
     by [] none = absurd (omega (arith, some, count, ap (λ (l : List JobSeen). length l) none))

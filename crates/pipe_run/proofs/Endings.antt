@@ -17,10 +17,10 @@ use Rattle.pipe_workers.specs.declared.paused.PausedWorker.{PausedWorker}
 use Rattle.pipe_run.specs.declared.round.RoundStop.{RoundStop}
 use Rattle.pipe_run.specs.declared.round.RoundStop.TheVariants as stop
 use Rattle.pipe_run.specs.Answered.{HaveReplayedFrames, HaveWholeFrames, IsAnswered}
-use Rattle.pipe_run.specs.Ending.{AreKept, IsAnswerCause}
+use Rattle.pipe_run.specs.Ending.{AreSamePartitions, IsAnswerCause}
 use Rattle.pipe_run.specs.Finish.{HasPutUntold, IsFinishCause}
 use Rattle.pipe_run.specs.Fed.{AllStand, AreWholePartitions, CountOn, FedSeen, HaveEnded, HaveKept, IsFedRun, RoseFrom}
-use Rattle.pipe_run.specs.Setting.{run_of, Setting}
+use Rattle.pipe_run.specs.Setting.{run_over, Setting}
 use Rattle.pipe_run.specs.Stops.{error_of, error_of_groups}
 use Rattle.pipe_run.proofs.Answering.{few-arrived, kept-same, replayed-frames, run-answered, some-partition, stores_of, whole-frames}
 use Rattle.pipe_run.proofs.Feeding.{whole-stand}
@@ -47,14 +47,14 @@ module _ (x : Setting) (taken : List DataChunk) (journals : List (List Partition
     (closed : List PartitionSeen) (rests : List PausedWorker) (rows : ℕ) (run : IsFedRun x taken closed rests rows) where
   -- the run, open and closed
   abbrev open_run : Run
-  open_run = run_of x true taken
+  open_run = run_over x true taken
 
   abbrev shut_run : Run
-  shut_run = run_of x false taken
+  shut_run = run_over x false taken
 
   -- given up, it leaves the frames of its journals
-  pub frames-given_up : stores ≡ stores_of closed → journals ≡ journals_of closed → HaveReplayedFrames (run_of s.setting true s.chunks) s.journals stores
-  frames-given_up is named = subst (λ (s : FedSeen). HaveReplayedFrames (run_of s.setting true s.chunks) s.journals stores) view
+  pub frames-given_up : stores ≡ stores_of closed → journals ≡ journals_of closed → HaveReplayedFrames (run_over s.setting true s.chunks) s.journals stores
+  frames-given_up is named = subst (λ (s : FedSeen). HaveReplayedFrames (run_over s.setting true s.chunks) s.journals stores) view
       (subst (λ l. HaveReplayedFrames open_run l stores) (sym named) (subst (HaveReplayedFrames open_run (journals_of closed)) (sym is)
       (replayed-frames open_run closed closed run.fed.run.limits.partitions (whole-stand open_run closed run.fed.partitions) (kept-same closed))))
 
@@ -71,21 +71,21 @@ module _ (x : Setting) (taken : List DataChunk) (journals : List (List Partition
   pub chunks-none : AreChunksOf (query_tree x.query) (taken ++ [])
   chunks-none = subst (AreChunksOf (query_tree x.query)) (sym (append-nil taken)) run.chunks_are
 
-  left-by : (after : List PartitionSeen) → AllStand shut_run after → stores ≡ stores_of after → HaveWholeFrames (run_of s.setting false s.chunks) stores
-  left-by after stand is = subst (λ (s : FedSeen). HaveWholeFrames (run_of s.setting false s.chunks) stores) view
+  left-by : (after : List PartitionSeen) → AllStand shut_run after → stores ≡ stores_of after → HaveWholeFrames (run_over s.setting false s.chunks) stores
+  left-by after stand is = subst (λ (s : FedSeen). HaveWholeFrames (run_over s.setting false s.chunks) stores) view
       (subst (HaveWholeFrames shut_run) (sym is) (whole-frames shut_run after after run.fed.run.limits.partitions run.fed.run.limits.buffer stand (kept-same after)))
 
   -- refused before its last round
-  pub early-left : stores ≡ stores_of closed → HaveWholeFrames (run_of s.setting false s.chunks) stores
+  pub early-left : stores ≡ stores_of closed → HaveWholeFrames (run_over s.setting false s.chunks) stores
   early-left is = left-by closed
-      (none-more (λ l. AllStand (run_of x false l) closed) (stand-uncounted (run_of x false (taken ++ [])) (faults_of closed) (same x false taken [] closed rests run.fed) closed (take-stand x false taken [] closed rests run.fed)))
+      (none-more (λ l. AllStand (run_over x false l) closed) (stand-uncounted (run_over x false (taken ++ [])) (faults_of closed) (same x false taken [] closed rests run.fed) closed (take-stand x false taken [] closed rests run.fed)))
       is
 
   -- refused in its last round
-  pub round-left : (after : List PartitionSeen) → AllStand (run_of x false (taken ++ [])) after → stores ≡ stores_of after → HaveWholeFrames (run_of s.setting false s.chunks) stores
-  round-left after stand is = left-by after (none-more (λ l. AllStand (run_of x false l) after) stand) is
+  pub round-left : (after : List PartitionSeen) → AllStand (run_over x false (taken ++ [])) after → stores ≡ stores_of after → HaveWholeFrames (run_over s.setting false s.chunks) stores
+  round-left after stand is = left-by after (none-more (λ l. AllStand (run_over x false l) after) stand) is
 
-  pub round-cause : (after : List PartitionSeen) (e : RoundStop) → AllStand (run_of x false (taken ++ [])) after → stores ≡ stores_of after → seen ≡ stores_of closed
+  pub round-cause : (after : List PartitionSeen) (e : RoundStop) → AllStand (run_over x false (taken ++ [])) after → stores ≡ stores_of after → seen ≡ stores_of closed
       → ((p : ℕ) → e ≡ stop.Store p → RoseFrom closed p after) → IsFinishCause s stores (error_of e)
   round-cause after stop.Memory stand is found rose = tt
   round-cause after (stop.Store p) stand is found rose =
@@ -99,12 +99,12 @@ module _ (x : Setting) (taken : List DataChunk) (journals : List (List Partition
       )
 
   -- refused as its partitions were to give their groups, and answered
-  module _ (ended after : List PartitionSeen) (whole : AreWholePartitions (run_of x false (taken ++ [])) ended) (kept : AreKept ended after) where
+  module _ (ended after : List PartitionSeen) (whole : AreWholePartitions (run_over x false (taken ++ [])) ended) (kept : AreSamePartitions ended after) where
     whole-shut : AreWholePartitions shut_run ended
-    whole-shut = none-more (λ l. AreWholePartitions (run_of x false l) ended) whole
+    whole-shut = none-more (λ l. AreWholePartitions (run_over x false l) ended) whole
 
-    pub groups-left : stores ≡ stores_of after → HaveWholeFrames (run_of s.setting false s.chunks) stores
-    groups-left is = subst (λ (s : FedSeen). HaveWholeFrames (run_of s.setting false s.chunks) stores) view
+    pub groups-left : stores ≡ stores_of after → HaveWholeFrames (run_over s.setting false s.chunks) stores
+    groups-left is = subst (λ (s : FedSeen). HaveWholeFrames (run_over s.setting false s.chunks) stores) view
         (subst (HaveWholeFrames shut_run) (sym is) (whole-frames shut_run ended after run.fed.run.limits.partitions run.fed.run.limits.buffer (whole-stand shut_run ended whole-shut) kept))
 
     pub groups-cause : (e : BatchError) → stores ≡ stores_of after → seen ≡ stores_of closed → CountOn closed ended → IsAnswerCause shut_run ended after e → IsFinishCause s stores (error_of_groups e)
@@ -134,12 +134,12 @@ module _ (x : Setting) (taken : List DataChunk) (journals : List (List Partition
 
     pub answered-shut : (frame : FrameData) (listed : List (List PartitionEvent)) (n : ℕ) → stores ≡ stores_of after → listed ≡ journals_of after → n ≡ sum_by (λ (s : PartitionSeen). s.arrived) after
         → (All (λ s. tells s ≡ true) x.stores → frame ≡ answer taken (query_tree x.query) x.limits.partitions)
-        → IsAnswered (run_of s.setting false s.chunks) (record { frame = frame; journals = listed; overflow = n }) stores
-    answered-shut frame listed n is named count told = subst (λ (s : FedSeen). IsAnswered (run_of s.setting false s.chunks) (record { frame = frame; journals = listed; overflow = n }) stores) view
+        → IsAnswered (run_over s.setting false s.chunks) (record { frame = frame; journals = listed; overflow = n }) stores
+    answered-shut frame listed n is named count told = subst (λ (s : FedSeen). IsAnswered (run_over s.setting false s.chunks) (record { frame = frame; journals = listed; overflow = n }) stores) view
         (subst (λ l. IsAnswered shut_run (record { frame = frame; journals = l; overflow = n }) stores) (sym named)
         (subst (IsAnswered shut_run (record { frame = frame; journals = journals_of after; overflow = n })) (sym is)
         (run-answered shut_run ended after frame n runnable-shut refl whole-shut kept count told)))
 
     -- what the workers kept
-    pub kept-shut : (left : List PausedWorker) → HaveEnded (run_of x false (taken ++ [])) left → HaveKept shut_run left
-    kept-shut left all = none-more (λ l. HaveKept (run_of x false l) left) (all.closed_run refl)
+    pub kept-shut : (left : List PausedWorker) → HaveEnded (run_over x false (taken ++ [])) left → HaveKept shut_run left
+    kept-shut left all = none-more (λ l. HaveKept (run_over x false l) left) (all.closed_run refl)

@@ -17,8 +17,8 @@ use Rattle.pipe_run.specs.declared.round.RoundStop.TheVariants as stop
 use Rattle.pipe_run.specs.Answered.{HaveWholeFrames}
 use Rattle.pipe_run.specs.Fed.{AllStand, CountOn, FedSeen, IsFed, IsFedRun, RoseFrom}
 use Rattle.pipe_run.specs.Feeding.{all_chunks, chunks_reached, IsBadChunks, IsFeedCause, NoneFell}
-use Rattle.pipe_run.specs.Refusals.{AllFit, AreMany, CanFeed, IsFirstMisfit}
-use Rattle.pipe_run.specs.Setting.{run_of, Setting}
+use Rattle.pipe_run.specs.Refusals.{AllHaveFields, AreMany, CanFeed, IsFirstMisfit}
+use Rattle.pipe_run.specs.Setting.{run_over, Setting}
 use Rattle.pipe_run.specs.Stops.{error_of}
 use Rattle.pipe_run.proofs.Feeding.{stand-frames, whole-stand}
 use Rattle.pipe_run.proofs.Leaving.{stand-uncounted}
@@ -28,7 +28,7 @@ use Rattle.pipe_run.proofs.Taking.{faults_of, same, take-stand}
 
 pub bad-cause : (s : FedSeen) (chunks : List DataChunk) (stores : List StoreSeen) (e : PipeError) → IsBadChunks e
     → ((i : ℕ) → e ≡ error.Schema i → IsFirstMisfit s.setting.query.schema (all_chunks s chunks) i)
-    → (e ≡ error.TooLarge → AllFit s.setting.query.schema (all_chunks s chunks) × AreMany (all_chunks s chunks)) → IsFeedCause s chunks stores e
+    → (e ≡ error.TooLarge → AllHaveFields s.setting.query.schema (all_chunks s chunks) × AreMany (all_chunks s chunks)) → IsFeedCause s chunks stores e
 bad-cause s chunks stores (error.Schema i) bad misfit large = misfit i refl
 bad-cause s chunks stores error.TooLarge bad misfit large = large refl
 bad-cause s chunks stores (error.Store p) bad misfit large = absurd bad
@@ -84,9 +84,9 @@ can-feed x chunks are = record { fit = are.columns; few = (are.rows, are.number)
 -- ---- before its round
 
 -- the partitions stand for the run over more chunks too
-pub stand-longer : (x : Setting) (before more : List DataChunk) (closed : List PartitionSeen) (rests : List PausedWorker) → IsFed (run_of x true before) closed rests → AllStand (run_of x true (before ++ more)) closed
+pub stand-longer : (x : Setting) (before more : List DataChunk) (closed : List PartitionSeen) (rests : List PausedWorker) → IsFed (run_over x true before) closed rests → AllStand (run_over x true (before ++ more)) closed
 stand-longer x before more closed rests fed =
-    stand-uncounted (run_of x true (before ++ more)) (faults_of closed) (same x true before more closed rests fed) closed (take-stand x true before more closed rests fed)
+    stand-uncounted (run_over x true (before ++ more)) (faults_of closed) (same x true before more closed rests fed) closed (take-stand x true before more closed rests fed)
 
 -- ---- what a refused feed leaves of the stores
 
@@ -94,33 +94,33 @@ module _ (x : Setting) (taken : List DataChunk) (journals : List (List Partition
     (view : record { setting = x; chunks = taken; journals = journals; stores = seen } ≡ s) (stores : List StoreSeen)
     (closed : List PartitionSeen) (rests : List PausedWorker) (rows : ℕ) (run : IsFedRun x taken closed rests rows) where
   -- where it is given up between its calls
-  pub whole-back : stores ≡ map (λ c. c.store) closed → HaveWholeFrames (run_of s.setting true s.chunks) stores
-  whole-back is = subst (λ (s : FedSeen). HaveWholeFrames (run_of s.setting true s.chunks) stores) view
-      (stand-frames (run_of x true taken) closed stores run.fed.run.limits.buffer is (whole-stand (run_of x true taken) closed run.fed.partitions))
+  pub whole-back : stores ≡ map (λ c. c.store) closed → HaveWholeFrames (run_over s.setting true s.chunks) stores
+  whole-back is = subst (λ (s : FedSeen). HaveWholeFrames (run_over s.setting true s.chunks) stores) view
+      (stand-frames (run_over x true taken) closed stores run.fed.run.limits.buffer is (whole-stand (run_over x true taken) closed run.fed.partitions))
 
   some : 0 < x.limits.buffer_size
   some = run.fed.run.limits.buffer
 
   -- where its chunks can't be fed
-  pub bad-back : (chunks : List DataChunk) (e : PipeError) → IsBadChunks e → stores ≡ map (λ c. c.store) closed → HaveWholeFrames (run_of s.setting true (chunks_reached s chunks e)) stores
-  bad-back chunks e bad is = subst (λ (s : FedSeen). HaveWholeFrames (run_of s.setting true (chunks_reached s chunks e)) stores) view
-      (subst (λ l. HaveWholeFrames (run_of x true l) stores) (sym (bad-reached (record { setting = x; chunks = taken; journals = journals; stores = seen }) chunks e bad))
-      (stand-frames (run_of x true taken) closed stores some is (whole-stand (run_of x true taken) closed run.fed.partitions)))
+  pub bad-back : (chunks : List DataChunk) (e : PipeError) → IsBadChunks e → stores ≡ map (λ c. c.store) closed → HaveWholeFrames (run_over s.setting true (chunks_reached s chunks e)) stores
+  bad-back chunks e bad is = subst (λ (s : FedSeen). HaveWholeFrames (run_over s.setting true (chunks_reached s chunks e)) stores) view
+      (subst (λ l. HaveWholeFrames (run_over x true l) stores) (sym (bad-reached (record { setting = x; chunks = taken; journals = journals; stores = seen }) chunks e bad))
+      (stand-frames (run_over x true taken) closed stores some is (whole-stand (run_over x true taken) closed run.fed.partitions)))
 
   -- where there is no room for their marks
-  pub early-back : (chunks : List DataChunk) → stores ≡ map (λ c. c.store) closed → HaveWholeFrames (run_of s.setting true (chunks_reached s chunks error.Memory)) stores
-  early-back chunks is = subst (λ (s : FedSeen). HaveWholeFrames (run_of s.setting true (s.chunks ++ chunks)) stores) view
-      (stand-frames (run_of x true (taken ++ chunks)) closed stores some is (stand-longer x taken chunks closed rests run.fed))
+  pub early-back : (chunks : List DataChunk) → stores ≡ map (λ c. c.store) closed → HaveWholeFrames (run_over s.setting true (chunks_reached s chunks error.Memory)) stores
+  early-back chunks is = subst (λ (s : FedSeen). HaveWholeFrames (run_over s.setting true (s.chunks ++ chunks)) stores) view
+      (stand-frames (run_over x true (taken ++ chunks)) closed stores some is (stand-longer x taken chunks closed rests run.fed))
 
   -- where its round stops
-  pub stop-back : (chunks : List DataChunk) (after : List PartitionSeen) (e : RoundStop) → stores ≡ map (λ c. c.store) after → AllStand (run_of x true (taken ++ chunks)) after → HaveWholeFrames (run_of s.setting true (chunks_reached s chunks (error_of e))) stores
-  stop-back chunks after e is stand = subst (λ (s : FedSeen). HaveWholeFrames (run_of s.setting true (chunks_reached s chunks (error_of e))) stores) view
-      (subst (λ l. HaveWholeFrames (run_of x true l) stores) (sym (stop-reached (record { setting = x; chunks = taken; journals = journals; stores = seen }) chunks e))
-      (stand-frames (run_of x true (taken ++ chunks)) after stores some is stand))
+  pub stop-back : (chunks : List DataChunk) (after : List PartitionSeen) (e : RoundStop) → stores ≡ map (λ c. c.store) after → AllStand (run_over x true (taken ++ chunks)) after → HaveWholeFrames (run_over s.setting true (chunks_reached s chunks (error_of e))) stores
+  stop-back chunks after e is stand = subst (λ (s : FedSeen). HaveWholeFrames (run_over s.setting true (chunks_reached s chunks (error_of e))) stores) view
+      (subst (λ l. HaveWholeFrames (run_over x true l) stores) (sym (stop-reached (record { setting = x; chunks = taken; journals = journals; stores = seen }) chunks e))
+      (stand-frames (run_over x true (taken ++ chunks)) after stores some is stand))
 
   -- why its round stopped
   pub stop-cause-of : (chunks : List DataChunk) (after : List PartitionSeen) (e : RoundStop) → AreChunksOf (query_tree x.query) (taken ++ chunks) → stores ≡ map (λ c. c.store) after → seen ≡ map (λ c. c.store) closed
-      → AllStand (run_of x true (taken ++ chunks)) after → ((p : ℕ) → e ≡ stop.Store p → RoseFrom closed p after) → IsFeedCause s chunks stores (error_of e)
+      → AllStand (run_over x true (taken ++ chunks)) after → ((p : ℕ) → e ≡ stop.Store p → RoseFrom closed p after) → IsFeedCause s chunks stores (error_of e)
   stop-cause-of chunks after e are is counts stand rose = subst (λ (s : FedSeen). IsFeedCause s chunks stores (error_of e)) view
       (stop-cause (record { setting = x; chunks = taken; journals = journals; stores = seen }) chunks stores e closed after (can-feed x (taken ++ chunks) are) is counts (run.fed.partitions.count ∙ sym stand.count) rose)
 

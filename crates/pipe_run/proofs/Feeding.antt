@@ -20,8 +20,8 @@ use Rattle.pipe_workers.specs.declared.paused.PausedWorker.{PausedWorker}
 use Rattle.pipe_workers.proofs.Runs.{takes-turns}
 use Rattle.pipe_run.specs.Answered.{HasWholeFrames, HaveWholeFrames}
 use Rattle.pipe_run.specs.Fed.{AllStand, AreWholePartitions, HaveEnded, IsFedRun}
-use Rattle.pipe_run.specs.Refusals.{AllFit, IsFirstMisfit}
-use Rattle.pipe_run.specs.Setting.{run_of, Setting}
+use Rattle.pipe_run.specs.Refusals.{AllHaveFields, IsFirstMisfit}
+use Rattle.pipe_run.specs.Setting.{run_over, Setting}
 
 -- ---- chunks behind others
 
@@ -29,7 +29,7 @@ pub height-append : (xs ys : List DataChunk) → total_height (xs ++ ys) ≡ tot
 height-append xs ys = sum_by-append (λ (c : DataChunk). c.frame.height) xs ys
 
 -- those that fit behind others that do
-pub chunks-more : (q : QueryTree) (taken more : List DataChunk) → AreChunksOf q taken → AllFit q.schema more → All (λ (c : DataChunk). HoldsTypes c.frame) more
+pub chunks-more : (q : QueryTree) (taken more : List DataChunk) → AreChunksOf q taken → AllHaveFields q.schema more → All (λ (c : DataChunk). HoldsTypes c.frame) more
     → total_height (taken ++ more) < 2 ^ 32 → length (taken ++ more) < 2 ^ 32 → AreChunksOf q (taken ++ more)
 chunks-more q taken more are fit typed low few = record {
   columns = All-append (λ (c : DataChunk). FitsSchema q.schema c.frame) taken more are.columns fit;
@@ -39,11 +39,11 @@ chunks-more q taken more are fit typed low few = record {
 }
 
 -- the first that doesn't fit is as much further behind
-pub misfit-behind : (fields : List Field) (taken more : List DataChunk) (i : ℕ) → AllFit fields taken → IsFirstMisfit fields more i → IsFirstMisfit fields (taken ++ more) (length taken + i)
+pub misfit-behind : (fields : List Field) (taken more : List DataChunk) (i : ℕ) → AllHaveFields fields taken → IsFirstMisfit fields more i → IsFirstMisfit fields (taken ++ more) (length taken + i)
 misfit-behind fields taken more i fit is = record {
   chunk = is.chunk;
   at = behind taken more i ∙ is.at;
-  before = subst (AllFit fields) (sym (front taken more i)) (All-append (λ (c : DataChunk). FitsSchema fields c.frame) taken (take i more) fit is.before);
+  before = subst (AllHaveFields fields) (sym (front taken more i)) (All-append (λ (c : DataChunk). FitsSchema fields c.frame) taken (take i more) fit is.before);
   misfit = is.misfit;
 } where
   behind : (xs ys : List DataChunk) (k : ℕ) → slice_get (xs ++ ys) (length xs + k) ≡ slice_get ys k
@@ -56,13 +56,13 @@ misfit-behind fields taken more i fit is = record {
 
 pub fed-more : (x : Setting) (chunks : List DataChunk) (closed new : List PartitionSeen) (rests left : List PausedWorker) (before : List DataChunk) (rows all : ℕ)
     → IsSound x.query → IsFedRun x before closed rests rows → AreChunksOf (query_tree x.query) chunks → all ≡ total_height chunks
-    → AreWholePartitions (run_of x true chunks) new → HaveEnded (run_of x true chunks) left → IsFedRun x chunks new left all
+    → AreWholePartitions (run_over x true chunks) new → HaveEnded (run_over x true chunks) left → IsFedRun x chunks new left all
 fed-more x chunks closed new rests left before rows all sound run are high whole ended = record {
   generic = run.generic;
   few = run.few;
   chunks_are = are;
   fed = record {
-    run = (takes-turns x.query (run_of x true chunks) sound run.fed.run.query refl run.fed.run.limits run.generic are run.fed.run.stores run.fed.run.former).runnable;
+    run = (takes-turns x.query (run_over x true chunks) sound run.fed.run.query refl run.fed.run.limits run.generic are run.fed.run.stores run.fed.run.former).runnable;
     partitions = whole;
     workers = ended.open_run refl;
   };

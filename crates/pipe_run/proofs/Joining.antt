@@ -16,7 +16,7 @@ use Rattle.pipe_model.specs.Query.{QueryTree}
 use Rattle.pipe_model.proofs.PartitionFacts.{groups-joined}
 use Rattle.pipe_groups.specs.Given.{slice_after}
 use Rattle.pipe_groups.proofs.PartsFacts.{stacked-frame}
-use Rattle.pipe_run.specs.Given.{chunk_at, chunks_from, is_used_up, joined_frames}
+use Rattle.pipe_run.specs.Given.{partition_chunk, partition_chunks, is_used_up, joined_frames}
 use Rattle.pipe_run.specs.Sources.{chunks_in_all, whole_chunk}
 use Rattle.pipe_run.proofs.Slicing.{sliced-append}
 
@@ -49,24 +49,24 @@ module _ (q : QueryTree) (rs : List Row) (partitions : ℕ) where
 
   -- below some rows, the chunks are the rows of the slice of what is left
   joined-from : (slice : Option (ℕ × ℕ)) (p n : ℕ) (above : List (List AnyValue))
-      → fold (λ f c. stacked f c.frame) (frame above) (chunks_from q rs partitions slice p n) ≡ frame (above ++ rows_of (sliced slice (keys_from p n)))
+      → fold (λ f c. stacked f c.frame) (frame above) (partition_chunks q rs partitions slice p n) ≡ frame (above ++ rows_of (sliced slice (keys_from p n)))
   joined-from slice p zero above = ap frame (sym (append-nil above) ∙ ap (λ l. above ++ rows_of l) (sym (sliced-nil slice)))
   joined-from slice p (suc n) above = by (is_used_up slice) refl (λ left more. joined-from left (p + 1) n more) where
     by : (b : Bool) → is_used_up slice ≡ b
-        → ((left : Option (ℕ × ℕ)) (more : List (List AnyValue)) → fold (λ f c. stacked f c.frame) (frame more) (chunks_from q rs partitions left (p + 1) n) ≡ frame (more ++ rows_of (sliced left (keys_from (p + 1) n))))
-        → fold (λ f c. stacked f c.frame) (frame above) (if b then [] else chunk_at q rs partitions slice p ∷ chunks_from q rs partitions (slice_after (length (groups_in partitions q p rs)) slice) (p + 1) n)
+        → ((left : Option (ℕ × ℕ)) (more : List (List AnyValue)) → fold (λ f c. stacked f c.frame) (frame more) (partition_chunks q rs partitions left (p + 1) n) ≡ frame (more ++ rows_of (sliced left (keys_from (p + 1) n))))
+        → fold (λ f c. stacked f c.frame) (frame above) (if b then [] else partition_chunk q rs partitions slice p ∷ partition_chunks q rs partitions (slice_after (length (groups_in partitions q p rs)) slice) (p + 1) n)
         ≡ frame (above ++ rows_of (sliced slice (groups_in partitions q p rs ++ keys_from (p + 1) n)))
     by true e next = ap frame (sym (append-nil above) ∙ ap (λ l. above ++ rows_of l) (sym (used-up slice (groups_in partitions q p rs ++ keys_from (p + 1) n) e)))
     by false e next =
         let own = groups_in partitions q p rs in
         let left = slice_after (length own) slice in
-        ap (λ f. fold (λ f c. stacked f c.frame) f (chunks_from q rs partitions left (p + 1) n)) (stacked-frame (output_schema q) above (rows_of (sliced slice own)))
+        ap (λ f. fold (λ f c. stacked f c.frame) f (partition_chunks q rs partitions left (p + 1) n)) (stacked-frame (output_schema q) above (rows_of (sliced slice own)))
         ∙ next left (above ++ rows_of (sliced slice own))
         ∙ ap frame (append_assoc above (rows_of (sliced slice own)) (rows_of (sliced left (keys_from (p + 1) n)))
         ∙ ap (λ l. above ++ l) (sym (map-append (answer_row q rs) (sliced slice own) (sliced left (keys_from (p + 1) n))) ∙ ap rows_of (sym (sliced-append slice own (keys_from (p + 1) n)))))
 
   -- so all of them are the answer
-  joined-all : 0 < partitions → q.keeps_order ≡ false → joined_frames q (chunks_from q rs partitions q.slice 0 partitions) ≡ answer_of rs q partitions
+  joined-all : 0 < partitions → q.keeps_order ≡ false → joined_frames q (partition_chunks q rs partitions q.slice 0 partitions) ≡ answer_of rs q partitions
   joined-all some unordered =
       joined-from q.slice 0 partitions []
       ∙ ap (λ keys. frame (rows_of (sliced q.slice keys))) (sym (groups-joined rs q partitions unordered some))
@@ -78,7 +78,7 @@ module _ (q : QueryTree) (rs : List Row) (partitions : ℕ) where
 
   -- all chunks, by whether order is kept
   abbrev chunks_by : Bool → List DataChunk
-  chunks_by b = if b then (if is_used_up q.slice then [] else whole_chunk q rs partitions q.slice ∷ []) else chunks_from q rs partitions q.slice 0 partitions
+  chunks_by b = if b then (if is_used_up q.slice then [] else whole_chunk q rs partitions q.slice ∷ []) else partition_chunks q rs partitions q.slice 0 partitions
 
   -- in either order
   pub joined-chunks : 0 < partitions → joined_frames q (chunks_in_all q rs partitions) ≡ answer_of rs q partitions

@@ -5,7 +5,7 @@ use Rattle.std.proofs.lemmas.List.{get_or-map, length-map}
 use Rattle.pipe_columns.specs.Causes.{Rose}
 use Rattle.pipe_plan.specs.Replay.{replay}
 use Rattle.pipe_plan.specs.Run.{Run}
-use Rattle.pipe_global.specs.Partition.{bytes_of, IsReplayed, marks_from, PartitionSeen, with_frames}
+use Rattle.pipe_global.specs.Partition.{frame_bytes_of, IsReplayed, marks_from, PartitionSeen, with_frames}
 use Rattle.pipe_workers.specs.declared.paused.PausedWorker.{PausedWorker}
 use Rattle.pipe_run.specs.Fed.{AllStand, AreCounted, AreWholePartitions, CountOn, HaveEnded, RoseAt, RoseFrom}
 use Rattle.pipe_run.specs.Setting.{counted_from}
@@ -28,7 +28,7 @@ module _ (r : Run) (faults : List ℕ) (same : length faults ≡ length r.stores
           waiting = is.replayed.waiting;
           marks = subst (λ n. s.marks ≡ marks_from n made.frames) alike.held is.replayed.marks;
           held = is.replayed.held ∙ ap (λ n. n + length made.frames) alike.held;
-          told = is.replayed.told ∙ ap (λ t. with_frames t (map (bytes_of r.query) made.frames)) alike.told;
+          told = is.replayed.told ∙ ap (λ t. with_frames t (map (frame_bytes_of r.query) made.frames)) alike.told;
           arrived = is.replayed.arrived;
         };
         numbers = is.numbers;

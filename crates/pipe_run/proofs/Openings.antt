@@ -28,13 +28,13 @@ use Rattle.pipe_workers.specs.declared.paused.PausedWorker.{PausedWorker}
 use Rattle.pipe_run.specs.Fed.{AreCounted, AreRested, AreWholePartitions, IsFedRun, IsUnused}
 use Rattle.pipe_run.specs.Feeding.{NoneFell}
 use Rattle.pipe_run.specs.Rounds.{AreWholeShares}
-use Rattle.pipe_run.specs.Setting.{run_of, Setting}
+use Rattle.pipe_run.specs.Setting.{run_over, Setting}
 use Rattle.pipe_run.proofs.Ended.{all-partitions}
 use Rattle.pipe_run.proofs.Whole.{sum_by-positions}
 use Rattle.pipe_plan.proofs.Adding.{sum_to-same, sum_to-zero}
 
 -- it can be made
-pub runnable-none : (x : Setting) → AreLimits x.limits → IsGroupable (query_tree x.query) → length x.stores ≡ x.limits.partitions → All (λ (s : StoreSeen). s.held < 2 ^ 63) x.stores → IsRunnable (run_of x true [])
+pub runnable-none : (x : Setting) → AreLimits x.limits → IsGroupable (query_tree x.query) → length x.stores ≡ x.limits.partitions → All (λ (s : StoreSeen). s.held < 2 ^ 63) x.stores → IsRunnable (run_over x true [])
 runnable-none x limits groupable count former = record {
   limits = limits;
   query = groupable;
@@ -45,12 +45,12 @@ runnable-none x limits groupable count former = record {
 }
 
 -- its plans have no event
-plan-none : (x : Setting) (w p : ℕ) → is_generic x.limits.sink ≡ true → length (plan (run_of x true []) w p) ≡ 0
-plan-none x w p generic = ap (λ (l : List PartitionEvent). length l) (plan-open (run_of x true []) w p refl generic)
+plan-none : (x : Setting) (w p : ℕ) → is_generic x.limits.sink ≡ true → length (plan (run_over x true []) w p) ≡ 0
+plan-none x w p generic = ap (λ (l : List PartitionEvent). length l) (plan-open (run_over x true []) w p refl generic)
 
 module _ (x : Setting) (generic : is_generic x.limits.sink ≡ true) (shares : List SharesSeen) (unused : AreUnused x.limits.partitions shares) where
   -- so shares that count none are whole
-  shares-none : AreWholeShares (run_of x true []) shares
+  shares-none : AreWholeShares (run_over x true []) shares
   shares-none w d lt =
       let is = unused w d lt in (
         ap (λ (s : SharesSeen). length s.events) is ∙ length-replicate {A = ℕ} x.limits.partitions 0,
@@ -80,10 +80,10 @@ none-failed (s ∷ partitions) none p d lt = by s.failed refl none p lt (none-fa
 
 -- the partitions that were opened and closed again hold the plans, which are empty
 pub opened-whole : (x : Setting) (partitions : List PartitionSeen) (shares : List SharesSeen) → AreLimits x.limits → is_generic x.limits.sink ≡ true → AreUnused x.limits.partitions shares
-    → length partitions ≡ x.limits.partitions → length shares ≡ x.limits.workers → AreClosed (run_of x true []) partitions → all_events partitions ≡ all_shares shares → AreFailed partitions (all_faults shares)
-    → AreWholePartitions (run_of x true []) partitions
+    → length partitions ≡ x.limits.partitions → length shares ≡ x.limits.workers → AreClosed (run_over x true []) partitions → all_events partitions ≡ all_shares shares → AreFailed partitions (all_faults shares)
+    → AreWholePartitions (run_over x true []) partitions
 opened-whole x partitions shares limits generic unused count workers closed same failed =
-    all-partitions (run_of x true []) partitions shares limits count workers closed same (shares-none x generic shares unused) (none-failed partitions (by (has_failed partitions) refl))
+    all-partitions (run_over x true []) partitions shares limits count workers closed same (shares-none x generic shares unused) (none-failed partitions (by (has_failed partitions) refl))
   where
     first : (ss : List SharesSeen) → shares ≡ ss → all_faults shares ≡ 0
     first [] e = absurd (omega (arith, limits.workers, workers, ap (λ (l : List SharesSeen). length l) e))
@@ -94,7 +94,7 @@ opened-whole x partitions shares limits generic unused count workers closed same
     by false e = e
 
 -- the same of a run that is named
-pub opened-as : (x : Setting) (r : Run) → r ≡ run_of x true [] → (partitions : List PartitionSeen) (shares : List SharesSeen) → AreLimits x.limits → is_generic x.limits.sink ≡ true
+pub opened-as : (x : Setting) (r : Run) → r ≡ run_over x true [] → (partitions : List PartitionSeen) (shares : List SharesSeen) → AreLimits x.limits → is_generic x.limits.sink ≡ true
     → AreUnused r.limits.partitions shares → length partitions ≡ r.limits.partitions → length shares ≡ r.limits.workers → AreClosed r partitions → all_events partitions ≡ all_shares shares
     → AreFailed partitions (all_faults shares) → AreWholePartitions r partitions
 opened-as x r e partitions shares limits generic =
@@ -103,7 +103,7 @@ opened-as x r e partitions shares limits generic =
     (λ unused count workers closed same failed. opened-whole x partitions shares limits generic unused count workers closed same failed)
 
 -- workers that took no chunk rest
-pub unused-rested : (x : Setting) (rests : List PausedWorker) → length rests ≡ x.limits.workers → All (IsUnused x.limits (shape_of (query_tree x.query))) rests → AreRested (run_of x true []) rests
+pub unused-rested : (x : Setting) (rests : List PausedWorker) → length rests ≡ x.limits.workers → All (IsUnused x.limits (shape_of (query_tree x.query))) rests → AreRested (run_over x true []) rests
 unused-rested x rests count all = record {
   count = count;
   each = λ w d lt. let one = all w d lt in record { table = one.table; turns = one.turns; picks = one.picks };
@@ -120,7 +120,7 @@ no-chunks q = record {
 
 -- what a run keeps before its first chunk
 pub begun-fed : (x : Setting) (closed : List PartitionSeen) (rests : List PausedWorker) → is_generic x.limits.sink ≡ true → x.limits.partitions < 2 ^ 32 → AreLimits x.limits → IsGroupable (query_tree x.query) → length x.stores ≡ x.limits.partitions
-    → All (λ (s : StoreSeen). s.held < 2 ^ 63) x.stores → AreWholePartitions (run_of x true []) closed → length rests ≡ x.limits.workers → All (IsUnused x.limits (shape_of (query_tree x.query))) rests → IsFedRun x [] closed rests 0
+    → All (λ (s : StoreSeen). s.held < 2 ^ 63) x.stores → AreWholePartitions (run_over x true []) closed → length rests ≡ x.limits.workers → All (IsUnused x.limits (shape_of (query_tree x.query))) rests → IsFedRun x [] closed rests 0
 begun-fed x closed rests generic few limits groupable stores former whole count unused = record {
   generic = generic;
   few = few;
@@ -130,7 +130,7 @@ begun-fed x closed rests generic few limits groupable stores former whole count 
 }
 
 -- no count of faults is lower than the stores had
-pub none-fallen : (x : Setting) (closed : List PartitionSeen) → length closed ≡ length x.stores → AreCounted (run_of x true []) closed → NoneFell x.stores (map (λ c. c.store) closed)
+pub none-fallen : (x : Setting) (closed : List PartitionSeen) → length closed ≡ length x.stores → AreCounted (run_over x true []) closed → NoneFell x.stores (map (λ c. c.store) closed)
 none-fallen x closed long counted = record { count = length-map closed (λ (c : PartitionSeen). c.store) ∙ long; each = by closed refl } where
   by : (ps : List PartitionSeen) → closed ≡ ps → (p : ℕ) → p < length x.stores → (slice_index_or x.stores p no_store).faults ≤ (slice_index_or (map (λ c. c.store) closed) p no_store).faults
   by [] e p lt = absurd (omega (arith, lt, long, ap (λ (l : List PartitionSeen). length l) e))

@@ -18,12 +18,12 @@ use Rattle.pipe_workers.specs.declared.paused.PausedWorker.{PausedWorker}
 use Rattle.pipe_workers.specs.Rounds.{JobSeen}
 use Rattle.pipe_workers.specs.Turns.{IsReady}
 use Rattle.pipe_run.specs.Fed.{IsFed}
-use Rattle.pipe_run.specs.Rounds.{job_of, jobs_of, rest_of, shares_of, StandReady, worker_of}
-use Rattle.pipe_run.specs.Setting.{run_of, Setting}
+use Rattle.pipe_run.specs.Rounds.{job_of, jobs_of, paused_of, shares_of, StandReady, resumed_worker}
+use Rattle.pipe_run.specs.Setting.{run_over, Setting}
 use Rattle.pipe_run.proofs.Carrying.{from, on, onto}
 
 module _ (x : Setting) (o : Bool) (before more : List DataChunk) (faults : List ℕ) (closed : List PartitionSeen) (rests : List PausedWorker) (generic : is_generic x.limits.sink ≡ true)
-    (fed : IsFed (run_of x true before) closed rests) where
+    (fed : IsFed (run_over x true before) closed rests) where
   abbrev r : Run
   r = from x o before more faults
 
@@ -40,7 +40,7 @@ module _ (x : Setting) (o : Bool) (before more : List DataChunk) (faults : List 
       ∙ ap (λ (l : List PartitionEvent). length l) (sym (events-on r s (on x o before more faults) w p (length before) (omega arith)))
 
   module _ (shares : List SharesSeen) (e : PartitionSeen) (count : length shares ≡ x.limits.workers) (resumed : AreResumed closed (map (λ (c : PausedWorker). c.picks) rests) shares) where
-    one : (w : ℕ) (d : PausedWorker) (k : SharesSeen) → w < length shares → IsReady s w (length before) (worker_of (slice_index_or rests w d) (slice_index_or shares w k))
+    one : (w : ℕ) (d : PausedWorker) (k : SharesSeen) → w < length shares → IsReady s w (length before) (resumed_worker (slice_index_or rests w d) (slice_index_or shares w k))
     one w d k lt =
         let mine : w < x.limits.workers = omega (arith, count, lt) in
         let below : w < length rests = omega (arith, fed.workers.count, mine) in
@@ -94,6 +94,6 @@ pub jobs-ready : (r : Run) (n : ℕ) (rests : List PausedWorker) (shares : List 
 jobs-ready r n rests shares jobs is same ready k d lt =
     let long : length jobs ≡ length shares = ap (λ (l : List JobSeen). length l) is ∙ jobs-long rests shares same in
     let here : k < length shares = omega (arith, lt, long) in
-    let at : slice_index_or jobs k d ≡ job_of (slice_index_or rests k (rest_of d), slice_index_or shares k (shares_of d)) =
-    ap (λ (l : List JobSeen). slice_index_or l k d) is ∙ jobs-at rests shares k d (rest_of d) (shares_of d) same here in
-    subst (λ (j : JobSeen). IsReady r k n j.worker) (sym at) (ready k (rest_of d) (shares_of d) here)
+    let at : slice_index_or jobs k d ≡ job_of (slice_index_or rests k (paused_of d), slice_index_or shares k (shares_of d)) =
+    ap (λ (l : List JobSeen). slice_index_or l k d) is ∙ jobs-at rests shares k d (paused_of d) (shares_of d) same here in
+    subst (λ (j : JobSeen). IsReady r k n j.worker) (sym at) (ready k (paused_of d) (shares_of d) here)

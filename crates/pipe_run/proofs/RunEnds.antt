@@ -33,9 +33,9 @@ use Rattle.pipe_run.specs.Answered.{HaveWholeFrames, IsAnswered}
 use Rattle.pipe_run.specs.Finish.{HasPutUntold, IsFinishCause}
 use Rattle.pipe_run.specs.Fed.{FedSeen}
 use Rattle.pipe_run.specs.Feeding.{chunks_reached, IsBadChunks, IsFeedCause, NoneFell}
-use Rattle.pipe_run.specs.Refusals.{AllFit, AreFew, AreMany, IsBeginCause, IsFirstMisfit, limits_fit}
-use Rattle.pipe_run.specs.Setting.{run_of, Setting}
-use Rattle.pipe_run.specs.WholeRun.{CanBegin, CanRun, EndsRun, IsRunCause, LeavesStores, NoneRose, setting_fits, setting_suits}
+use Rattle.pipe_run.specs.Refusals.{AllHaveFields, AreFewChunks, AreMany, IsBeginCause, IsFirstMisfit, limits_fit}
+use Rattle.pipe_run.specs.Setting.{run_over, Setting}
+use Rattle.pipe_run.specs.WholeRun.{CanBegin, CanRunOver, EndsRun, IsRunCause, LeavesStores, NoneRose, setting_fits, setting_suits}
 use Rattle.pipe_run.proofs.Endings.{rose-later}
 use Rattle.pipe_run.proofs.LimitFacts.{fit-count, fit-limits}
 
@@ -73,16 +73,16 @@ module _ (r s : Run) (p : ℕ) (fronts : (w : ℕ) → IsFront (payloads r w p) 
   }
 
 -- so they are whole frames where no chunk may follow
-pub frames-shut : (x : Setting) (chunks : List DataChunk) (stores : List StoreSeen) → 0 < x.limits.buffer_size → HaveWholeFrames (run_of x true chunks) stores → HaveWholeFrames (run_of x false chunks) stores
+pub frames-shut : (x : Setting) (chunks : List DataChunk) (stores : List StoreSeen) → 0 < x.limits.buffer_size → HaveWholeFrames (run_over x true chunks) stores → HaveWholeFrames (run_over x false chunks) stores
 frames-shut x chunks stores some all =
-    let on : GoesOn (run_of x true chunks) (run_of x false chunks) = record { more = []; chunks = sym (append-nil chunks); query = refl; limits = refl; actions = refl } in
+    let on : GoesOn (run_over x true chunks) (run_over x false chunks) = record { more = []; chunks = sym (append-nil chunks); query = refl; limits = refl; actions = refl } in
     record {
       count = all.count;
       each = λ p lt.
           let has = all.each p lt in
           record {
             frames = has.frames;
-            pieces = pieces-on (run_of x true chunks) (run_of x false chunks) p (λ w. payloads-on (run_of x true chunks) (run_of x false chunks) on w p some refl) has.frames refl has.pieces;
+            pieces = pieces-on (run_over x true chunks) (run_over x false chunks) p (λ w. payloads-on (run_over x true chunks) (run_over x false chunks) on w p some refl) has.frames refl has.pieces;
             has = record { told = has.has.told; held = has.has.held; sure = has.has.sure };
           };
     }
@@ -93,14 +93,14 @@ told-none None = refl
 told-none (Some frames) = ap (λ (l : List (List ℕ)). Some l) (sym (append-nil frames))
 
 -- stores that were not touched have no frame of the run, open or not
-pub untouched-in : (x : Setting) (o : Bool) (chunks : List DataChunk) → setting_fits x ≡ true → HaveWholeFrames (run_of x o chunks) x.stores
+pub untouched-in : (x : Setting) (o : Bool) (chunks : List DataChunk) → setting_fits x ≡ true → HaveWholeFrames (run_over x o chunks) x.stores
 untouched-in x o chunks fit =
     let held : List ℕ = map (λ (s : StoreSeen). s.held) x.stores in
     let limits = fit-limits x.limits (length x.actions) held fit in
     record {
       count = sym (length-map x.stores (λ (s : StoreSeen). s.held)) ∙ fit-count x.limits (length x.actions) held fit;
       each = λ p lt.
-          let r = run_of x o chunks in
+          let r = run_over x o chunks in
           record {
             frames = [];
             pieces = frames-apart r p [] limits.buffer (within-none r p);
@@ -108,7 +108,7 @@ untouched-in x o chunks fit =
           };
     }
 
-pub untouched-frames : (x : Setting) (chunks : List DataChunk) → setting_fits x ≡ true → HaveWholeFrames (run_of x false chunks) x.stores
+pub untouched-frames : (x : Setting) (chunks : List DataChunk) → setting_fits x ≡ true → HaveWholeFrames (run_over x false chunks) x.stores
 untouched-frames x chunks fit = untouched-in x false chunks fit
 
 -- ---- refused as it was begun
@@ -126,7 +126,7 @@ begin-cause x chunks stores (error.Damaged p n) cause = absurd cause
 pub begin-left : (x : Setting) (chunks : List DataChunk) (stores : List StoreSeen) (e : PipeError) → IsBeginCause (setting_fits x) (first_fault x.query) (setting_suits x) e → stores ≡ x.stores → LeavesStores x chunks stores e
 begin-left x chunks stores error.Limits cause same = same
 begin-left x chunks stores (error.Query f) cause same = same
-begin-left x chunks stores error.Memory cause same = subst (HaveWholeFrames (run_of x false chunks)) (sym same) (untouched-frames x chunks cause)
+begin-left x chunks stores error.Memory cause same = subst (HaveWholeFrames (run_over x false chunks)) (sym same) (untouched-frames x chunks cause)
 begin-left x chunks stores error.Sink cause same = same
 begin-left x chunks stores (error.Schema i) cause same = same
 begin-left x chunks stores error.TooLarge cause same = same
@@ -136,7 +136,7 @@ begin-left x chunks stores (error.Damaged p n) cause same = absurd cause
 -- ---- refused as its chunks were fed
 
 -- a chunk that fits is no misfit
-fit-misfit : (fields : List Field) (chunks : List DataChunk) (i : ℕ) → AllFit fields chunks → IsFirstMisfit fields chunks i → ⊥
+fit-misfit : (fields : List Field) (chunks : List DataChunk) (i : ℕ) → AllHaveFields fields chunks → IsFirstMisfit fields chunks i → ⊥
 fit-misfit fields chunks i fit is =
     is.misfit (subst (λ (c : DataChunk). FitsSchema fields c.frame) (get_or_from_slice_get chunks i is.chunk is.chunk is.at)
     (All-get_or (λ (c : DataChunk). FitsSchema fields c.frame) chunks i is.chunk (slice_get_within chunks i is.chunk is.at) fit))
@@ -147,7 +147,7 @@ stores-long x stores fit count =
     count ∙ sym (fit-count x.limits (length x.actions) (map (λ (s : StoreSeen). s.held) x.stores) fit) ∙ length-map x.stores (λ (s : StoreSeen). s.held)
 
 -- few chunks are not many
-few-many : (chunks : List DataChunk) → AreFew chunks → AreMany chunks → ⊥
+few-many : (chunks : List DataChunk) → AreFewChunks chunks → AreMany chunks → ⊥
 few-many chunks few many = ⊎_elim (λ rows. omega (arith, rows, few.0)) (λ number. omega (arith, number, few.1)) many
 
 -- a run before its first chunk
@@ -159,11 +159,11 @@ is-before x s setting none =
     ap {B = FedSeen} (λ (y : Setting). record { setting = y; chunks = s.chunks; journals = s.journals; stores = s.stores }) setting
     ∙ ap {B = FedSeen} (λ (l : List DataChunk). record { setting = x; chunks = l; journals = s.journals; stores = s.stores }) none
 
-module _ (x : Setting) (journals : List (List PartitionEvent)) (found : List StoreSeen) (chunks : List DataChunk) (stores : List StoreSeen) (can : CanRun x chunks) (fell : NoneFell x.stores found) where
+module _ (x : Setting) (journals : List (List PartitionEvent)) (found : List StoreSeen) (chunks : List DataChunk) (stores : List StoreSeen) (can : CanRunOver x chunks) (fell : NoneFell x.stores found) where
   some : 0 < x.limits.buffer_size
   some = (fit-limits x.limits (length x.actions) (map (λ (s : StoreSeen). s.held) x.stores) can.begin.fit).buffer
 
-  fed-left : (e : PipeError) → IsFeedCause (before_any x journals found) chunks stores e → HaveWholeFrames (run_of x true (chunks_reached (before_any x journals found) chunks e)) stores → LeavesStores x chunks stores e
+  fed-left : (e : PipeError) → IsFeedCause (before_any x journals found) chunks stores e → HaveWholeFrames (run_over x true (chunks_reached (before_any x journals found) chunks e)) stores → LeavesStores x chunks stores e
   fed-left (error.Schema i) cause back = absurd (fit-misfit x.query.schema chunks i can.feed.fit cause)
   fed-left error.TooLarge cause back = absurd (few-many chunks can.feed.few cause.1)
   fed-left (error.Store p) cause back = frames-shut x chunks stores some back
@@ -173,7 +173,7 @@ module _ (x : Setting) (journals : List (List PartitionEvent)) (found : List Sto
   fed-left error.Sink cause back = absurd cause
   fed-left (error.Damaged p n) cause back = absurd cause
 
-  fed-cause : (e : PipeError) → IsFeedCause (before_any x journals found) chunks stores e → HaveWholeFrames (run_of x true (chunks_reached (before_any x journals found) chunks e)) stores → IsRunCause x chunks stores e
+  fed-cause : (e : PipeError) → IsFeedCause (before_any x journals found) chunks stores e → HaveWholeFrames (run_over x true (chunks_reached (before_any x journals found) chunks e)) stores → IsRunCause x chunks stores e
   fed-cause (error.Schema i) cause back = absurd (fit-misfit x.query.schema chunks i can.feed.fit cause)
   fed-cause error.TooLarge cause back = absurd (few-many chunks can.feed.few cause.1)
   fed-cause (error.Store p) cause back =
@@ -187,10 +187,10 @@ module _ (x : Setting) (journals : List (List PartitionEvent)) (found : List Sto
 
 -- ---- refused as it was finished
 
-module _ (x : Setting) (chunks : List DataChunk) (s : FedSeen) (stores : List StoreSeen) (setting : s.setting ≡ x) (fed : s.chunks ≡ chunks) (can : CanRun x chunks) (fell : NoneFell x.stores s.stores) where
-  end-left : (e : PipeError) → IsFinishCause s stores e → HaveWholeFrames (run_of s.setting false s.chunks) stores → LeavesStores x chunks stores e
-  end-left e cause back = by e cause (subst (λ (y : Setting). HaveWholeFrames (run_of y false chunks) stores) setting (subst (λ l. HaveWholeFrames (run_of s.setting false l) stores) fed back)) where
-    by : (e : PipeError) → IsFinishCause s stores e → HaveWholeFrames (run_of x false chunks) stores → LeavesStores x chunks stores e
+module _ (x : Setting) (chunks : List DataChunk) (s : FedSeen) (stores : List StoreSeen) (setting : s.setting ≡ x) (fed : s.chunks ≡ chunks) (can : CanRunOver x chunks) (fell : NoneFell x.stores s.stores) where
+  end-left : (e : PipeError) → IsFinishCause s stores e → HaveWholeFrames (run_over s.setting false s.chunks) stores → LeavesStores x chunks stores e
+  end-left e cause back = by e cause (subst (λ (y : Setting). HaveWholeFrames (run_over y false chunks) stores) setting (subst (λ l. HaveWholeFrames (run_over s.setting false l) stores) fed back)) where
+    by : (e : PipeError) → IsFinishCause s stores e → HaveWholeFrames (run_over x false chunks) stores → LeavesStores x chunks stores e
     by (error.Store p) cause back = back
     by (error.Damaged p n) cause back = back
     by error.Memory cause back = back
@@ -216,7 +216,7 @@ module _ (x : Setting) (chunks : List DataChunk) (s : FedSeen) (stores : List St
 
 -- where a run can be made, its stores tell and none rose, memory alone is wanting
 only-memory : (x : Setting) (chunks : List DataChunk) (stores : List StoreSeen) (e : PipeError) → IsRunCause x chunks stores e → LeavesStores x chunks stores e
-    → CanRun x chunks → All (λ s. tells s ≡ true) x.stores → NoneRose x.stores stores → e ≡ error.Memory
+    → CanRunOver x chunks → All (λ s. tells s ≡ true) x.stores → NoneRose x.stores stores → e ≡ error.Memory
 only-memory x chunks stores error.Limits cause left can telling none = absurd (false≢true (sym cause ∙ can.begin.fit))
 only-memory x chunks stores (error.Query f) cause left can telling none = absurd (none-some f (sym can.begin.faultless ∙ cause.1))
 only-memory x chunks stores error.Sink cause left can telling none = absurd (false≢true (sym cause.2 ∙ can.begin.suited))
@@ -244,7 +244,7 @@ pub begin-ends : (x : Setting) (chunks : List DataChunk) (stores : List StoreSee
 begin-ends x chunks stores e cause same = refused x chunks stores e (begin-cause x chunks stores e cause) (begin-left x chunks stores e cause same)
 
 pub chunks-ends : (x : Setting) (chunks : List DataChunk) (stores : List StoreSeen) (e : PipeError) → CanBegin x → stores ≡ x.stores → IsBadChunks e
-    → ((i : ℕ) → e ≡ error.Schema i → IsFirstMisfit x.query.schema chunks i) → (e ≡ error.TooLarge → AllFit x.query.schema chunks × AreMany chunks) → EndsRun x chunks (Err e) stores
+    → ((i : ℕ) → e ≡ error.Schema i → IsFirstMisfit x.query.schema chunks i) → (e ≡ error.TooLarge → AllHaveFields x.query.schema chunks × AreMany chunks) → EndsRun x chunks (Err e) stores
 chunks-ends x chunks stores (error.Schema i) begin same bad misfit large = refused x chunks stores (error.Schema i) (begin, misfit i refl) same
 chunks-ends x chunks stores error.TooLarge begin same bad misfit large = refused x chunks stores error.TooLarge (begin, (large refl).0, (large refl).1) same
 chunks-ends x chunks stores (error.Store p) begin same bad misfit large = absurd bad
@@ -255,22 +255,22 @@ chunks-ends x chunks stores error.Sink begin same bad misfit large = absurd bad
 chunks-ends x chunks stores (error.Damaged p n) begin same bad misfit large = absurd bad
 
 pub memory-ends : (x : Setting) (chunks : List DataChunk) (stores : List StoreSeen) → setting_fits x ≡ true → stores ≡ x.stores → EndsRun x chunks (Err error.Memory) stores
-memory-ends x chunks stores fit same = refused x chunks stores error.Memory fit (subst (HaveWholeFrames (run_of x false chunks)) (sym same) (untouched-frames x chunks fit))
+memory-ends x chunks stores fit same = refused x chunks stores error.Memory fit (subst (HaveWholeFrames (run_over x false chunks)) (sym same) (untouched-frames x chunks fit))
 
-pub feed-ends : (x : Setting) (chunks : List DataChunk) (s : FedSeen) (stores : List StoreSeen) (e : PipeError) → CanRun x chunks → s.setting ≡ x → s.chunks ≡ [] → NoneFell x.stores s.stores → IsFeedCause s chunks stores e
-    → HaveWholeFrames (run_of s.setting true (chunks_reached s chunks e)) stores → EndsRun x chunks (Err e) stores
+pub feed-ends : (x : Setting) (chunks : List DataChunk) (s : FedSeen) (stores : List StoreSeen) (e : PipeError) → CanRunOver x chunks → s.setting ≡ x → s.chunks ≡ [] → NoneFell x.stores s.stores → IsFeedCause s chunks stores e
+    → HaveWholeFrames (run_over s.setting true (chunks_reached s chunks e)) stores → EndsRun x chunks (Err e) stores
 feed-ends x chunks s stores e can setting none fell cause back =
     let is = is-before x s setting none in
     let why : IsFeedCause (before_any x s.journals s.stores) chunks stores e = subst (λ (s : FedSeen). IsFeedCause s chunks stores e) is cause in
-    let leaves : HaveWholeFrames (run_of x true (chunks_reached (before_any x s.journals s.stores) chunks e)) stores = subst (λ (s : FedSeen). HaveWholeFrames (run_of s.setting true (chunks_reached s chunks e)) stores) is back in
+    let leaves : HaveWholeFrames (run_over x true (chunks_reached (before_any x s.journals s.stores) chunks e)) stores = subst (λ (s : FedSeen). HaveWholeFrames (run_over s.setting true (chunks_reached s chunks e)) stores) is back in
     refused x chunks stores e (fed-cause x s.journals s.stores chunks stores can fell e why leaves) (fed-left x s.journals s.stores chunks stores can fell e why leaves)
 
-pub finish-ends : (x : Setting) (chunks : List DataChunk) (s : FedSeen) (result : Result GroupByOutput PipeError) (stores : List StoreSeen) → s.setting ≡ x → s.chunks ≡ chunks → CanRun x chunks → NoneFell x.stores s.stores
-    → IfOk result (λ out. IsAnswered (run_of s.setting false s.chunks) out stores) → IfErr result (λ e. IsFinishCause s stores e) → IfErr result (λ e. HaveWholeFrames (run_of s.setting false s.chunks) stores)
+pub finish-ends : (x : Setting) (chunks : List DataChunk) (s : FedSeen) (result : Result GroupByOutput PipeError) (stores : List StoreSeen) → s.setting ≡ x → s.chunks ≡ chunks → CanRunOver x chunks → NoneFell x.stores s.stores
+    → IfOk result (λ out. IsAnswered (run_over s.setting false s.chunks) out stores) → IfErr result (λ e. IsFinishCause s stores e) → IfErr result (λ e. HaveWholeFrames (run_over s.setting false s.chunks) stores)
     → EndsRun x chunks result stores
 finish-ends x chunks s (Ok out) stores setting fed can fell answered cause back = record {
   made = can;
-  answered = subst (λ (y : Setting). IsAnswered (run_of y false chunks) out stores) setting (subst (λ l. IsAnswered (run_of s.setting false l) out stores) fed answered);
+  answered = subst (λ (y : Setting). IsAnswered (run_over y false chunks) out stores) setting (subst (λ l. IsAnswered (run_over s.setting false l) out stores) fed answered);
   cause = tt;
   left = tt;
   complete = λ _ _ _. tt;

@@ -18,7 +18,7 @@ use Rattle.pipe_tables.proofs.ChunkValues.{chunk-values}
 use Rattle.pipe_global.specs.Partition.{IsRunnable}
 use Rattle.pipe_global.proofs.Covering.{all-left, all-right}
 use Rattle.pipe_workers.specs.Workers.{TakesTurns}
-use Rattle.pipe_run.specs.Setting.{run_of, Setting, with_faults}
+use Rattle.pipe_run.specs.Setting.{run_over, Setting, with_faults}
 use Rattle.pipe_run.proofs.Carrying.{onto}
 
 -- chunks have as many rows as they are high
@@ -58,7 +58,7 @@ counted-former (s ∷ stores) (n ∷ faults) same all =
     (counted-former stores faults (omega (arith, same)) (All-tail (λ (x : StoreSeen). x.held < 2 ^ 63) s stores all))
 
 module _ (x : Setting) (o : Bool) (before more : List DataChunk) (faults : List ℕ) (same : length faults ≡ length x.stores)
-    (run : IsRunnable (run_of x true before)) (sound : IsSound x.query) (chunks : AreChunksOf (query_tree x.query) (before ++ more)) where
+    (run : IsRunnable (run_over x true before)) (sound : IsSound x.query) (chunks : AreChunksOf (query_tree x.query) (before ++ more)) where
   pub runnable-on : IsRunnable (onto x o before more faults)
   runnable-on =
       let q = query_tree x.query in

@@ -36,7 +36,7 @@ use Rattle.pipe_global.specs.declared.mark.Mark.{Mark}
 use Rattle.pipe_global.specs.Finishing.{CanFinish, GivesPlaced, IsCause, KeepsRest, own_rows, StandFor}
 use Rattle.pipe_global.specs.Partition.{PartitionSeen}
 use Rattle.pipe_global.proofs.RunFacts.{length-kept}
-use Rattle.pipe_run.specs.Ending.{AreKept}
+use Rattle.pipe_run.specs.Ending.{AreSamePartitions}
 use Rattle.pipe_run.specs.Given.{HasRows, IsAt, IsSource, SourceSeen, StandsForPart}
 use Rattle.pipe_run.specs.Sources.{ArePlacedParts, IsGiveCause, IsPlacedFrame}
 use Rattle.pipe_run.specs.Stacking.{all_frames}
@@ -254,7 +254,7 @@ module _ {T : Type 0} (partition : T → PartitionSeen) (mine : T → Table) (gi
       by (d ∷ l) e = f d
 
     -- the partitions are kept
-    pub tasks-kept : AreKept s.partitions after
+    pub tasks-kept : AreSamePartitions s.partitions after
     tasks-kept = record {
       count = ap (λ (l : List PartitionSeen). length l) afters ∙ length-map new partition ∙ count ∙ long;
       each = λ p e lt.

@@ -15,7 +15,7 @@ use Rattle.pipe_workers.specs.Rounds.{IsRoundOf}
 use Rattle.pipe_workers.specs.Workers.{TakesTurns}
 use Rattle.pipe_run.specs.Fed.{AllStand, IsFed}
 use Rattle.pipe_run.specs.Rounds.{StandReady}
-use Rattle.pipe_run.specs.Setting.{run_of, Setting}
+use Rattle.pipe_run.specs.Setting.{run_over, Setting}
 use Rattle.pipe_run.proofs.Carrying.{carried, faults-at, onto}
 use Rattle.pipe_run.proofs.Ready.{resumed-ready}
 use Rattle.pipe_run.proofs.Running.{runnable-on, turns-on}
@@ -24,7 +24,7 @@ use Rattle.pipe_run.proofs.Running.{runnable-on, turns-on}
 abbrev pub faults_of : List PartitionSeen → List ℕ
 faults_of closed = map (λ c. c.store.faults) closed
 
-module _ (x : Setting) (o : Bool) (before more : List DataChunk) (closed : List PartitionSeen) (rests : List PausedWorker) (fed : IsFed (run_of x true before) closed rests) where
+module _ (x : Setting) (o : Bool) (before more : List DataChunk) (closed : List PartitionSeen) (rests : List PausedWorker) (fed : IsFed (run_over x true before) closed rests) where
   abbrev pub run : Run
   run = onto x o before more (faults_of closed)
 

@@ -8,13 +8,13 @@ use Rattle.pipe_plan.specs.Journals.{AreWhole, journal_of}
 use Rattle.pipe_plan.specs.Overflow.{overflow_count}
 use Rattle.pipe_plan.specs.Replay.{replay}
 use Rattle.pipe_plan.specs.Run.{Run, StoreSeen, tells}
-use Rattle.pipe_global.specs.Partition.{bytes_of, no_store, store_of, with_frames}
+use Rattle.pipe_global.specs.Partition.{frame_bytes_of, no_store, store_of, with_frames}
 use Rattle.pipe_run.specs.declared.output.GroupByOutput.{GroupByOutput}
 
 -- a store has the frames that were there before the run, and then these
 pub record HasFrames (before : StoreSeen) (r : Run) (frames : List (List Row)) (s : StoreSeen)
     : Type 0 where
-  pub told : s.told ≡ with_frames before.told (map (bytes_of r.query) frames)
+  pub told : s.told ≡ with_frames before.told (map (frame_bytes_of r.query) frames)
   pub held : s.held ≡ before.held + length frames
   pub sure : s.sure ≡ before.sure
 

@@ -9,7 +9,7 @@ use Rattle.pipe_run.specs.Fed.{RoseFrom}
 
 -- partitions that were asked for their groups: as many, in order, each with its number, journal and
 -- book and the frames of its store as before
-pub record AreKept (before after : List PartitionSeen) : Type 0 where
+pub record AreSamePartitions (before after : List PartitionSeen) : Type 0 where
   pub count : length after ≡ length before
   pub each : (p : ℕ) (d : PartitionSeen) → p < length before
       → KeepsRest (slice_index_or before p d) (slice_index_or after p d)

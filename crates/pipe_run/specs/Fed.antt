@@ -15,7 +15,7 @@ use Rattle.pipe_tables.specs.After.{IsAfter}
 use Rattle.pipe_tables.specs.LocalTable.{NoneWaits}
 use Rattle.pipe_global.specs.Partition.{IsReplayed, IsRunnable, PartitionSeen, spilled_all, store_of}
 use Rattle.pipe_workers.specs.declared.paused.PausedWorker.{PausedWorker}
-use Rattle.pipe_run.specs.Setting.{run_of, Setting}
+use Rattle.pipe_run.specs.Setting.{run_over, Setting}
 
 -- how a run was begun, the chunks that were fed, and each partition's journal and store
 pub record FedSeen : Type 0 where
@@ -68,7 +68,7 @@ pub record IsFedRun (x : Setting) (chunks : List DataChunk) (closed : List Parti
   pub generic : is_generic x.limits.sink ≡ true
   pub few : x.limits.partitions < 2 ^ 32
   pub chunks_are : AreChunksOf (query_tree x.query) chunks
-  pub fed : IsFed (run_of x true chunks) closed rests
+  pub fed : IsFed (run_over x true chunks) closed rests
   pub rows_are : rows ≡ total_height chunks
 
 -- ---- the end of a run

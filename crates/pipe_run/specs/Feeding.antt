@@ -7,7 +7,7 @@ use Rattle.pipe_global.specs.Partition.{no_store}
 use Rattle.pipe_run.specs.declared.error.PipeError.{PipeError}
 use Rattle.pipe_run.specs.declared.error.PipeError.TheVariants as error
 use Rattle.pipe_run.specs.Fed.{FedSeen}
-use Rattle.pipe_run.specs.Refusals.{AllFit, AreMany, CanFeed, IsFirstMisfit}
+use Rattle.pipe_run.specs.Refusals.{AllHaveFields, AreMany, CanFeed, IsFirstMisfit}
 
 -- all chunks of a run with more of them
 abbrev pub all_chunks : FedSeen → List DataChunk → List DataChunk
@@ -19,7 +19,7 @@ abbrev pub IsFeedCause : FedSeen → List DataChunk → List StoreSeen → PipeE
 IsFeedCause s chunks stores (error.Schema i) =
     IsFirstMisfit s.setting.query.schema (all_chunks s chunks) i
 IsFeedCause s chunks stores error.TooLarge =
-    AllFit s.setting.query.schema (all_chunks s chunks) × AreMany (all_chunks s chunks)
+    AllHaveFields s.setting.query.schema (all_chunks s chunks) × AreMany (all_chunks s chunks)
 IsFeedCause s chunks stores (error.Store p) =
     CanFeed s.setting.query.schema (all_chunks s chunks) × (p < length stores)
     × Rose (slice_index_or s.stores p no_store).faults (slice_index_or stores p no_store).faults

@@ -22,7 +22,7 @@ use Rattle.pipe_groups.specs.Shape.{shape_of}
 use Rattle.pipe_keyed.specs.Tables.{Table}
 use Rattle.pipe_global.specs.Finishing.{CanFinish, own_rows, StandsForRows}
 use Rattle.pipe_global.specs.Partition.{PartitionSeen, spilled_all}
-use Rattle.pipe_run.specs.Ending.{AreKept}
+use Rattle.pipe_run.specs.Ending.{AreSamePartitions}
 
 -- its query, the partitions, the local table, what is left of the slice, how many partitions it gave
 pub record SourceSeen : Type 0 where
@@ -81,19 +81,19 @@ frame_of_keys q rs slice keys =
     frame_of (output_schema q) (map (answer_row q rs) (sliced slice keys))
 
 -- the chunk of partition p, out of so many
-abbrev pub chunk_at : QueryTree → List Row → ℕ → Option (ℕ × ℕ) → ℕ → DataChunk
-chunk_at q rs partitions slice p = record {
+abbrev pub partition_chunk : QueryTree → List Row → ℕ → Option (ℕ × ℕ) → ℕ → DataChunk
+partition_chunk q rs partitions slice p = record {
   chunk_index = p + 1;
   frame = frame_of_keys q rs slice (groups_in partitions q p rs);
 }
 
 -- the chunks of n partitions from p on, out of so many, while the slice has length left
-abbrev pub chunks_from : QueryTree → List Row → ℕ → Option (ℕ × ℕ) → ℕ → ℕ → List DataChunk
-chunks_from q rs partitions slice p zero = []
-chunks_from q rs partitions slice p (suc n) =
+abbrev pub partition_chunks : QueryTree → List Row → ℕ → Option (ℕ × ℕ) → ℕ → ℕ → List DataChunk
+partition_chunks q rs partitions slice p zero = []
+partition_chunks q rs partitions slice p (suc n) =
     if is_used_up slice then []
-    else chunk_at q rs partitions slice p
-    ∷ chunks_from q rs partitions
+    else partition_chunk q rs partitions slice p
+    ∷ partition_chunks q rs partitions
     (slice_after (length (groups_in partitions q p rs)) slice) (p + 1) n
 
 -- ---- what a call does
@@ -105,8 +105,8 @@ pub record HasRows (rs : List Row) (s : SourceSeen) : Type 0 where
   pub stands : StandsForParts rs s
 
 -- the chunk of the next partition was given, and less is left of the slice
-pub record HasGiven (rs : List Row) (s new : SourceSeen) (c : DataChunk) : Type 0 where
-  pub chunk : c ≡ chunk_at (query_tree s.query) rs (length s.partitions) s.slice s.given
+pub record HasGivenNext (rs : List Row) (s new : SourceSeen) (c : DataChunk) : Type 0 where
+  pub chunk : c ≡ partition_chunk (query_tree s.query) rs (length s.partitions) s.slice s.given
   pub slice : new.slice
       ≡ slice_after (length (groups_in (length s.partitions) (query_tree s.query) s.given rs))
       s.slice
@@ -115,7 +115,7 @@ pub record HasGiven (rs : List Row) (s new : SourceSeen) (c : DataChunk) : Type 
 -- partitions were given
 pub record KeepsSource (s new : SourceSeen) (given : ℕ) : Type 0 where
   pub query : new.query ≡ s.query
-  pub partitions : AreKept s.partitions new.partitions
+  pub partitions : AreSamePartitions s.partitions new.partitions
   pub others : (p : ℕ) (d : PartitionSeen) → p ≢ s.given
       → slice_index_or new.partitions p d ≡ slice_index_or s.partitions p d
   pub given_is : new.given ≡ given

@@ -45,12 +45,12 @@ pub record IsFirstMisfit (fields : List Field) (chunks : List DataChunk) (i : �
   pub misfit : FitsSchema fields chunk.frame → ⊥
 
 -- each chunk has the columns of a schema
-abbrev pub AllFit : List Field → List DataChunk → Type 0
-AllFit fields chunks = All (λ c. FitsSchema fields c.frame) chunks
+abbrev pub AllHaveFields : List Field → List DataChunk → Type 0
+AllHaveFields fields chunks = All (λ c. FitsSchema fields c.frame) chunks
 
 -- there are fewer than 2^32 rows, and as few chunks
-abbrev pub AreFew : List DataChunk → Type 0
-AreFew chunks = (total_height chunks < 2 ^ 32) × (length chunks < 2 ^ 32)
+abbrev pub AreFewChunks : List DataChunk → Type 0
+AreFewChunks chunks = (total_height chunks < 2 ^ 32) × (length chunks < 2 ^ 32)
 
 -- there are 2^32 rows or more, or as many chunks
 abbrev pub AreMany : List DataChunk → Type 0
@@ -70,5 +70,5 @@ IsBeginCause fit fault suited (error.Damaged p n) = ⊥
 
 -- chunks can be fed: all fit, and they are few
 pub record CanFeed (fields : List Field) (chunks : List DataChunk) : Type 0 where
-  pub fit : AllFit fields chunks
-  pub few : AreFew chunks
+  pub fit : AllHaveFields fields chunks
+  pub few : AreFewChunks chunks

@@ -10,8 +10,8 @@ use Rattle.pipe_workers.specs.Turns.{IsReady}
 use Rattle.pipe_workers.specs.Workers.{WorkerSeen}
 
 -- a worker that goes on where it was paused
-abbrev pub worker_of : PausedWorker → SharesSeen → WorkerSeen
-worker_of rest shares = record {
+abbrev pub resumed_worker : PausedWorker → SharesSeen → WorkerSeen
+resumed_worker rest shares = record {
   table = rest.table;
   shares = shares;
   turns = rest.turns;
@@ -21,15 +21,15 @@ worker_of rest shares = record {
 
 -- a job of such a worker
 abbrev pub job_of : PausedWorker × SharesSeen → JobSeen
-job_of e = record { worker = worker_of e.0 e.1; end = None }
+job_of e = record { worker = resumed_worker e.0 e.1; end = None }
 
 -- the jobs of workers, in order
 abbrev pub jobs_of : List PausedWorker → List SharesSeen → List JobSeen
 jobs_of rests shares = map job_of (zip rests shares)
 
 -- what a worker keeps as it is paused
-abbrev pub rest_of : JobSeen → PausedWorker
-rest_of j = record {
+abbrev pub paused_of : JobSeen → PausedWorker
+paused_of j = record {
   table = j.worker.table;
   turns = j.worker.turns;
   picks = j.worker.shares.picks;
@@ -47,7 +47,7 @@ has_gone_on j = not (is_some j.end)
 abbrev pub StandReady : Run → ℕ → List PausedWorker → List SharesSeen → Type 0
 StandReady r n rests shares =
     (w : ℕ) (d : PausedWorker) (e : SharesSeen) → w < length shares
-    → IsReady r w n (worker_of (slice_index_or rests w d) (slice_index_or shares w e))
+    → IsReady r w n (resumed_worker (slice_index_or rests w d) (slice_index_or shares w e))
 
 -- each worker's shares count all events of its plans
 abbrev pub AreWholeShares : Run → List SharesSeen → Type 0

@@ -16,8 +16,8 @@ pub record Setting : Type 0 where
   pub stores : List StoreSeen
 
 -- the run over chunks; while it is open, more may follow
-abbrev pub run_of : Setting → Bool → List DataChunk → Run
-run_of s is_open chunks = record {
+abbrev pub run_over : Setting → Bool → List DataChunk → Run
+run_over s is_open chunks = record {
   chunks = chunks;
   query = query_tree s.query;
   limits = s.limits;

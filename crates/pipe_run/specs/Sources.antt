@@ -16,9 +16,9 @@ use Rattle.pipe_keyed.specs.Tables.{Table}
 use Rattle.pipe_global.specs.declared.batch_error.BatchError.{BatchError}
 use Rattle.pipe_global.specs.declared.batch_error.BatchError.TheVariants as batch_error
 use Rattle.pipe_global.specs.Partition.{PartitionSeen}
-use Rattle.pipe_run.specs.Ending.{AreKept}
+use Rattle.pipe_run.specs.Ending.{AreSamePartitions}
 use Rattle.pipe_run.specs.Fed.{RoseFrom}
-use Rattle.pipe_run.specs.Given.{chunks_from, frame_of_keys, HasRows, is_used_up, SourceSeen}
+use Rattle.pipe_run.specs.Given.{partition_chunks, frame_of_keys, HasRows, is_used_up, SourceSeen}
 
 -- its partitions; where order is kept, the placed groups of those that were asked, which wait for the
 -- others, and whether the one chunk was given
@@ -28,12 +28,12 @@ pub record GroupSourceSeen : Type 0 where
   pub is_given : Bool
 
 -- the query that it gives the groups of
-abbrev pub query_of : GroupSourceSeen → QueryTree
-query_of s = query_tree s.asked.query
+abbrev pub source_query : GroupSourceSeen → QueryTree
+source_query s = query_tree s.asked.query
 
 -- how many partitions it has
-abbrev pub count_of : GroupSourceSeen → ℕ
-count_of s = length s.asked.partitions
+abbrev pub partition_count : GroupSourceSeen → ℕ
+partition_count s = length s.asked.partitions
 
 -- closed partitions, a local table and a slice, of which nothing was given
 abbrev pub unasked : Query → List PartitionSeen → Table → Option (ℕ × ℕ) → SourceSeen
@@ -54,8 +54,8 @@ pub record IsPlacedFrame (q : QueryTree) (g : PlacedGroups) : Type 0 where
 
 -- where order is kept, the groups of each partition that was asked wait
 pub record IsGroupSource (s : GroupSourceSeen) : Type 0 where
-  pub waiting : (query_of s).keeps_order ≡ true → length s.placed ≡ s.asked.given
-  pub frames : All (IsPlacedFrame (query_of s)) s.placed
+  pub waiting : (source_query s).keeps_order ≡ true → length s.placed ≡ s.asked.given
+  pub frames : All (IsPlacedFrame (source_query s)) s.placed
 
 -- ---- what it stands for
 
@@ -67,9 +67,9 @@ ArePlacedParts q rs partitions placed =
 
 -- rows of the query for which its partitions stand, and the groups that wait
 pub record HasAllRows (rs : List Row) (s : GroupSourceSeen) : Type 0 where
-  pub some : 0 < count_of s
+  pub some : 0 < partition_count s
   pub rows : HasRows rs s.asked
-  pub placed : ArePlacedParts (query_of s) rs (count_of s) s.placed
+  pub placed : ArePlacedParts (source_query s) rs (partition_count s) s.placed
 
 -- ---- what is left to give
 
@@ -78,7 +78,7 @@ pub record HasAllRows (rs : List Row) (s : GroupSourceSeen) : Type 0 where
 abbrev pub is_over : GroupSourceSeen → Bool
 is_over s =
     is_used_up s.asked.slice
-    || (if (query_of s).keeps_order then s.is_given else s.asked.given == count_of s)
+    || (if (source_query s).keeps_order then s.is_given else s.asked.given == partition_count s)
 
 -- the one chunk of all groups in the order of their least places, under a slice
 abbrev pub whole_chunk : QueryTree → List Row → ℕ → Option (ℕ × ℕ) → DataChunk
@@ -90,30 +90,30 @@ whole_chunk q rs partitions slice = record {
 -- the chunks that are left to give, over the rows for which it stands
 abbrev pub chunks_left : List Row → GroupSourceSeen → List DataChunk
 chunks_left rs s =
-    if (query_of s).keeps_order
-    then (if is_over s then [] else whole_chunk (query_of s) rs (count_of s) s.asked.slice ∷ [])
-    else chunks_from (query_of s) rs (count_of s) s.asked.slice s.asked.given
-    (count_of s - s.asked.given)
+    if (source_query s).keeps_order
+    then (if is_over s then [] else whole_chunk (source_query s) rs (partition_count s) s.asked.slice ∷ [])
+    else partition_chunks (source_query s) rs (partition_count s) s.asked.slice s.asked.given
+    (partition_count s - s.asked.given)
 
 -- all chunks of rows in so many partitions, under the query's slice
 abbrev pub chunks_in_all : QueryTree → List Row → ℕ → List DataChunk
 chunks_in_all q rs partitions =
     if q.keeps_order
     then (if is_used_up q.slice then [] else whole_chunk q rs partitions q.slice ∷ [])
-    else chunks_from q rs partitions q.slice 0 partitions
+    else partition_chunks q rs partitions q.slice 0 partitions
 
 -- how many chunks are left at most
 abbrev pub most_left : GroupSourceSeen → ℕ
 most_left s =
-    if (query_of s).keeps_order then (if s.is_given then 0 else 1)
-    else count_of s - s.asked.given
+    if (source_query s).keeps_order then (if s.is_given then 0 else 1)
+    else partition_count s - s.asked.given
 
 -- ---- what a call does
 
 -- the query stays, the partitions are kept, and no fewer were asked
 pub record KeepsAsked (s new : SourceSeen) : Type 0 where
   pub query : new.query ≡ s.query
-  pub partitions : AreKept s.partitions new.partitions
+  pub partitions : AreSamePartitions s.partitions new.partitions
   pub given : s.given ≤ new.given
 
 -- the partitions that weren't asked are as before

@@ -12,8 +12,8 @@ use Rattle.pipe_run.specs.declared.error.PipeError.TheVariants as error
 use Rattle.pipe_run.specs.declared.output.GroupByOutput.{GroupByOutput}
 use Rattle.pipe_run.specs.Answered.{HaveWholeFrames, IsAnswered}
 use Rattle.pipe_run.specs.Finish.{HasPutUntold}
-use Rattle.pipe_run.specs.Refusals.{AllFit, AreMany, CanFeed, IsFirstMisfit, limits_fit, suits_keys}
-use Rattle.pipe_run.specs.Setting.{run_of, Setting}
+use Rattle.pipe_run.specs.Refusals.{AllHaveFields, AreMany, CanFeed, IsFirstMisfit, limits_fit, suits_keys}
+use Rattle.pipe_run.specs.Setting.{run_over, Setting}
 
 -- whether the limits of a setting fit its actions and its stores
 abbrev pub setting_fits : Setting → Bool
@@ -30,7 +30,7 @@ pub record CanBegin (x : Setting) : Type 0 where
   pub suited : setting_suits x ≡ true
 
 -- a run can be made over chunks
-pub record CanRun (x : Setting) (chunks : List DataChunk) : Type 0 where
+pub record CanRunOver (x : Setting) (chunks : List DataChunk) : Type 0 where
   pub begin : CanBegin x
   pub feed : CanFeed x.query.schema chunks
 
@@ -47,10 +47,10 @@ IsRunCause x chunks stores error.Sink =
 IsRunCause x chunks stores (error.Schema i) =
     CanBegin x × IsFirstMisfit x.query.schema chunks i
 IsRunCause x chunks stores error.TooLarge =
-    CanBegin x × AllFit x.query.schema chunks × AreMany chunks
-IsRunCause x chunks stores (error.Store p) = CanRun x chunks × (p < length stores)
+    CanBegin x × AllHaveFields x.query.schema chunks × AreMany chunks
+IsRunCause x chunks stores (error.Store p) = CanRunOver x chunks × (p < length stores)
     × Rose (slice_index_or x.stores p no_store).faults (slice_index_or stores p no_store).faults
-IsRunCause x chunks stores (error.Damaged p n) = CanRun x chunks × (p < length stores)
+IsRunCause x chunks stores (error.Damaged p n) = CanRunOver x chunks × (p < length stores)
     × HasPutUntold (slice_index_or x.stores p no_store) (slice_index_or stores p no_store) n
 IsRunCause x chunks stores error.Memory = setting_fits x ≡ true
 
@@ -62,9 +62,9 @@ LeavesStores x chunks stores (error.Query f) = stores ≡ x.stores
 LeavesStores x chunks stores error.Sink = stores ≡ x.stores
 LeavesStores x chunks stores (error.Schema i) = stores ≡ x.stores
 LeavesStores x chunks stores error.TooLarge = stores ≡ x.stores
-LeavesStores x chunks stores (error.Store p) = HaveWholeFrames (run_of x false chunks) stores
-LeavesStores x chunks stores (error.Damaged p n) = HaveWholeFrames (run_of x false chunks) stores
-LeavesStores x chunks stores error.Memory = HaveWholeFrames (run_of x false chunks) stores
+LeavesStores x chunks stores (error.Store p) = HaveWholeFrames (run_over x false chunks) stores
+LeavesStores x chunks stores (error.Damaged p n) = HaveWholeFrames (run_over x false chunks) stores
+LeavesStores x chunks stores error.Memory = HaveWholeFrames (run_over x false chunks) stores
 
 -- no store's count of faults rose
 abbrev pub NoneRose : List StoreSeen → List StoreSeen → Type 0
@@ -75,9 +75,9 @@ NoneRose before after = (p : ℕ) → p < length after
 -- where it can be made, all stores tell and no count of faults rose, it is answered or memory ran out
 pub record EndsRun (x : Setting) (chunks : List DataChunk) (result : Result GroupByOutput PipeError)
     (stores : List StoreSeen) : Type 0 where
-  pub made : OnOk result (CanRun x chunks)
-  pub answered : IfOk result (λ out. IsAnswered (run_of x false chunks) out stores)
+  pub made : OnOk result (CanRunOver x chunks)
+  pub answered : IfOk result (λ out. IsAnswered (run_over x false chunks) out stores)
   pub cause : IfErr result (λ e. IsRunCause x chunks stores e)
   pub left : IfErr result (λ e. LeavesStores x chunks stores e)
-  pub complete : CanRun x chunks → All (λ s. tells s ≡ true) x.stores → NoneRose x.stores stores
+  pub complete : CanRunOver x chunks → All (λ s. tells s ≡ true) x.stores → NoneRose x.stores stores
       → IfErr result (λ e. e ≡ error.Memory)

@@ -8,10 +8,10 @@ ghost use Rattle.pipe_model.specs.Rows.{AreChunksOf};
 ghost use Rattle.pipe_plan.specs.Run.{tells};
 ghost use Rattle.pipe_spill.specs.Store.{HasHeld};
 ghost use Rattle.pipe_global.specs.Partition.{IsRunnable};
-ghost use Rattle.pipe_run.specs.Ending.{AreKept, IsAnswerCause};
+ghost use Rattle.pipe_run.specs.Ending.{AreSamePartitions, IsAnswerCause};
 ghost use Rattle.pipe_run.specs.Fed.{AreWholePartitions, HaveKept};
 ghost use Rattle.pipe_run.specs.Given.{HasRows, IsSource, joined_frames};
-ghost use Rattle.pipe_run.specs.Setting.{run_of};
+ghost use Rattle.pipe_run.specs.Setting.{run_over};
 ghost use Rattle.pipe_run.specs.Sources.{chunks_left, HasAllRows, IsGiveCause, KeepsAsked, unasked};
 
 use crate::begun::Begun;
@@ -86,7 +86,7 @@ fn answer_in_turn<S: SpillStore + Drop>(
     ensures frame { IfOk result.0 (λ f. (rs : List Row)
         → HasRows rs (unasked query.now closed.items local slice)
         → f ≡ answer_of rs (query_tree query.now) (length closed.items)) }
-    ensures kept { AreKept closed.items result.1.items }
+    ensures kept { AreSamePartitions closed.items result.1.items }
     ensures cause { IfErr result.0 (λ e. IsGiveCause (unasked query.now closed.items local slice)
         (unasked query.now result.1.items local slice) e) }
 {
@@ -112,7 +112,7 @@ fn answer_of_parts<S: SpillStore + Drop + Send, H: Threads + Sync>(
     ensures frame { IfOk result.0 (λ f. (rs : List Row)
         → HasRows rs (unasked query.now closed.items local (query_tree query.now).slice)
         → f ≡ answer_of rs (query_tree query.now) (length closed.items)) }
-    ensures kept { AreKept closed.items result.1.items }
+    ensures kept { AreSamePartitions closed.items result.1.items }
     ensures cause { IfErr result.0 (λ e. IsGiveCause
         (unasked query.now closed.items local (query_tree query.now).slice)
         (unasked query.now result.1.items local (query_tree query.now).slice) e) }
@@ -133,19 +133,19 @@ pub(crate) fn answer_of_run<S: SpillStore + Drop + Send, H: Threads + Sync>(
     closed: Vec<ClosedPartition<S>>,
     rests: Vec<PausedWorker>,
 ) -> (Result<DataFrame, BatchError>, Vec<ClosedPartition<S>>)
-    requires run { IsRunnable (run_of begun.now false (map (λ c. c.value) chunks.now)) }
+    requires run { IsRunnable (run_over begun.now false (map (λ c. c.value) chunks.now)) }
     requires few { begun.now.limits.partitions < 2 ^ 32 }
     requires chunks { AreChunksOf (query_tree begun.now.query) (map (λ c. c.value) chunks.now) }
-    requires whole { AreWholePartitions (run_of begun.now false (map (λ c. c.value) chunks.now))
+    requires whole { AreWholePartitions (run_over begun.now false (map (λ c. c.value) chunks.now))
         closed.items }
-    requires kept { HaveKept (run_of begun.now false (map (λ c. c.value) chunks.now))
+    requires kept { HaveKept (run_over begun.now false (map (λ c. c.value) chunks.now))
         rests.items }
     ensures answer { IfOk result.0 (λ f. All (λ s. tells s ≡ true) begun.now.stores
         → f ≡ answer (map (λ c. c.value) chunks.now) (query_tree begun.now.query)
         begun.now.limits.partitions) }
-    ensures kept { AreKept closed.items result.1.items }
+    ensures kept { AreSamePartitions closed.items result.1.items }
     ensures cause { IfErr result.0 (λ e. IsAnswerCause
-        (run_of begun.now false (map (λ c. c.value) chunks.now)) closed.items result.1.items e) }
+        (run_over begun.now false (map (λ c. c.value) chunks.now)) closed.items result.1.items e) }
 {
     // Called for what its clauses say.
     let _query = begun.query.query();

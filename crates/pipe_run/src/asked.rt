@@ -7,7 +7,7 @@ ghost use Rattle.pipe_columns.specs.Row.{Row};
 ghost use Rattle.pipe_model.specs.Output.{output_schema};
 ghost use Rattle.pipe_model.specs.Partitions.{groups_in};
 ghost use Rattle.pipe_groups.specs.QueryRows.{ArePlacedRows};
-ghost use Rattle.pipe_run.specs.Given.{HasGiven, HasRows, is_used_up, IsSource, KeepsSource};
+ghost use Rattle.pipe_run.specs.Given.{HasGivenNext, HasRows, is_used_up, IsSource, KeepsSource};
 ghost use Rattle.pipe_run.specs.Sources.{IsPlacedFrame};
 ghost use Rattle.pipe_global.specs.Finishing.{IsCause};
 
@@ -127,7 +127,7 @@ impl<'a, S: SpillStore + Drop> AskedPartitions<'a, S> {
     pub(crate) fn next_chunk(&mut self) -> Result<DataChunk, BatchError>
         requires left { self.old.given < length self.old.partitions }
         ensures chunk { IfOk result (λ c. (rs : List Row)
-            → HasRows rs self.old → HasGiven rs self.old self.new c) }
+            → HasRows rs self.old → HasGivenNext rs self.old self.new c) }
         ensures fields { IfOk result
             (λ c. FitsSchema (output_schema (query_tree self.old.query)) c.frame) }
         ensures kept { OnOk result (KeepsSource self.old self.new (self.old.given + 1)) }

@@ -6,7 +6,7 @@ ghost use Rattle.pipe_aggs.specs.QueryTrees.{query_tree};
 ghost use Rattle.pipe_columns.specs.Frame.{HoldsTypes};
 ghost use Rattle.pipe_model.specs.Rows.{AreChunksOf, total_height};
 ghost use Rattle.pipe_run.specs.Feeding.{IsBadChunks};
-ghost use Rattle.pipe_run.specs.Refusals.{AllFit, AreMany, IsFirstMisfit};
+ghost use Rattle.pipe_run.specs.Refusals.{AllHaveFields, AreMany, IsFirstMisfit};
 ghost use Rattle.pipe_run.specs.declared.error.PipeError.TheVariants as error;
 
 use crate::error::PipeError;
@@ -17,7 +17,7 @@ use std::snapshot::Snapshot;
 /// The position of the first of some chunks that has other columns than a schema.
 pub(crate) fn first_misfit(chunks: &[DataChunk], schema: &Schema) -> Option<usize>
     ensures some { IfSome result (λ i. IsFirstMisfit schema.now chunks.now i) }
-    ensures none { IfNone result (AllFit schema.now chunks.now) }
+    ensures none { IfNone result (AllHaveFields schema.now chunks.now) }
     ensures typed { IfNone result (All (λ c. HoldsTypes c.frame) chunks.now) }
 {
     for position in 0..chunks.len() {
@@ -62,7 +62,7 @@ pub fn checked_rows(
     ensures misfit { IfErr result (λ e. (i : ℕ) → e ≡ error.Schema i
         → IsFirstMisfit query.now.schema (map (λ c. c.value) taken.now ++ chunks.now) i) }
     ensures large { IfErr result (λ e. e ≡ error.TooLarge
-        → AllFit query.now.schema (map (λ c. c.value) taken.now ++ chunks.now)
+        → AllHaveFields query.now.schema (map (λ c. c.value) taken.now ++ chunks.now)
         × AreMany (map (λ c. c.value) taken.now ++ chunks.now)) }
     ensures kinds { IfErr result (λ e. IsBadChunks e) }
     ensures sound { OnOk result (IsSound query.now) }

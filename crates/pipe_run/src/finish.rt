@@ -6,7 +6,7 @@ ghost use Rattle.pipe_plan.specs.Stores.{stores_seen};
 ghost use Rattle.pipe_run.specs.Answered.{HaveWholeFrames, IsAnswered};
 ghost use Rattle.pipe_run.specs.Fed.{IsFedRun};
 ghost use Rattle.pipe_run.specs.Finish.{IsFinishCause};
-ghost use Rattle.pipe_run.specs.Setting.{run_of};
+ghost use Rattle.pipe_run.specs.Setting.{run_over};
 
 use crate::answer::answer_of_run;
 use crate::begun::Begun;
@@ -51,7 +51,7 @@ fn finish_with<S: SpillStore + Drop + Send, G: Gate + Sync, H: Threads + Wait + 
     requires journals { (vec_len journals ≡ 0) × (vec_len closed ≤ vec_capacity journals) }
     requires room { (vec_len room ≡ 0) × (vec_len closed ≤ vec_capacity room) }
     ensures answered { IfOk result.0 (λ out. IsAnswered
-        (run_of begun.now false (map (λ c. c.value) chunks.now)) out
+        (run_over begun.now false (map (λ c. c.value) chunks.now)) out
         (stores_seen S.held S.told S.faults S.sure result.1.items)) }
     ensures cause { IfErr result.0 (λ e. IsFinishCause (record {
       setting = begun.now;
@@ -60,7 +60,7 @@ fn finish_with<S: SpillStore + Drop + Send, G: Gate + Sync, H: Threads + Wait + 
       stores = map (λ c. c.store) closed.items;
     }) (stores_seen S.held S.told S.faults S.sure result.1.items) e) }
     ensures back { IfErr result.0 (λ _. HaveWholeFrames
-        (run_of begun.now false (map (λ c. c.value) chunks.now))
+        (run_over begun.now false (map (λ c. c.value) chunks.now))
         (stores_seen S.held S.told S.faults S.sure result.1.items)) }
 {
     let Ended { closed, rested } = match round(
@@ -105,12 +105,12 @@ impl<'a, S: SpillStore + Drop + Send> GenericRun<'a, S> {
         gate: &G,
     ) -> (Result<GroupByOutput, PipeError>, Vec<S>)
         ensures answered { IfOk result.0 (λ out. IsAnswered
-            (run_of self.entry.setting false self.entry.chunks) out
+            (run_over self.entry.setting false self.entry.chunks) out
             (stores_seen S.held S.told S.faults S.sure result.1.items)) }
         ensures cause { IfErr result.0 (λ e. IsFinishCause self.entry
             (stores_seen S.held S.told S.faults S.sure result.1.items) e) }
         ensures back { IfErr result.0 (λ _. HaveWholeFrames
-            (run_of self.entry.setting false self.entry.chunks)
+            (run_over self.entry.setting false self.entry.chunks)
             (stores_seen S.held S.told S.faults S.sure result.1.items)) }
     {
         let GenericRun {

@@ -6,7 +6,7 @@ ghost use Rattle.pipe_columns.specs.Frame.{FitsSchema};
 ghost use Rattle.pipe_columns.specs.Row.{Row};
 ghost use Rattle.pipe_model.specs.Output.{output_schema};
 ghost use Rattle.pipe_run.specs.Given.{IsSource};
-ghost use Rattle.pipe_run.specs.Sources.{chunks_left, count_of, HasAllRows, is_over, IsGiveCause, KeepsAsked, LeavesOthers, most_left, query_of, unasked};
+ghost use Rattle.pipe_run.specs.Sources.{chunks_left, partition_count, HasAllRows, is_over, IsGiveCause, KeepsAsked, LeavesOthers, most_left, source_query, unasked};
 
 use crate::asked::AskedPartitions;
 use crate::by_place::{ask_rest, frame_by_place};
@@ -91,7 +91,7 @@ impl<'a, S: SpillStore + Drop> GroupBySource<'a, S> {
 
     /// Whether groups come in the order of their first rows.
     fn keeps_order(&self) -> bool
-        ensures is { result ≡ (query_of self.now).keeps_order }
+        ensures is { result ≡ (source_query self.now).keeps_order }
         ensures source { IsSource self.now.asked }
     {
         self.asked.query().query().maintain_order
@@ -107,7 +107,7 @@ impl<'a, S: SpillStore + Drop> GroupBySource<'a, S> {
         ensures chunk { IfOk result (λ given. (rs : List Row) → HasAllRows rs self.old
             → chunks_left rs self.old ≡ option_to_list given ++ chunks_left rs self.new) }
         ensures fields { IfOk result (λ given. IfSome given
-            (λ c. FitsSchema (output_schema (query_of self.old)) c.frame)) }
+            (λ c. FitsSchema (output_schema (source_query self.old)) c.frame)) }
         ensures fewer { IfOk result (λ given. IfSome given
             (λ _. most_left self.new < most_left self.old)) }
         ensures refused { OnErr result ((rs : List Row)
@@ -130,14 +130,14 @@ impl<'a, S: SpillStore + Drop> GroupBySource<'a, S> {
 
     /// Gives the groups of the next partition.
     fn give_next(&mut self) -> Result<Option<DataChunk>, BatchError>
-        requires order { (query_of self.old).keeps_order ≡ false }
+        requires order { (source_query self.old).keeps_order ≡ false }
         requires left { is_over self.old ≡ false }
         requires source { IsSource self.old.asked }
         ensures some { IfOk result (λ given. given ≡ None → ⊥) }
         ensures chunk { IfOk result (λ given. (rs : List Row) → HasAllRows rs self.old
             → chunks_left rs self.old ≡ option_to_list given ++ chunks_left rs self.new) }
         ensures fields { IfOk result (λ given. IfSome given
-            (λ c. FitsSchema (output_schema (query_of self.old)) c.frame)) }
+            (λ c. FitsSchema (output_schema (source_query self.old)) c.frame)) }
         ensures fewer { OnOk result (most_left self.new < most_left self.old) }
         ensures refused { OnErr result ((rs : List Row)
             → chunks_left rs self.new ≡ chunks_left rs self.old) }
@@ -157,13 +157,13 @@ impl<'a, S: SpillStore + Drop> GroupBySource<'a, S> {
     /// Gives all groups in the order of their first rows. What partitions gave is kept where another
     /// refuses.
     fn give_all(&mut self) -> Result<Option<DataChunk>, BatchError>
-        requires order { (query_of self.old).keeps_order ≡ true }
+        requires order { (source_query self.old).keeps_order ≡ true }
         requires left { is_over self.old ≡ false }
         ensures some { IfOk result (λ given. given ≡ None → ⊥) }
         ensures chunk { IfOk result (λ given. (rs : List Row) → HasAllRows rs self.old
             → chunks_left rs self.old ≡ option_to_list given ++ chunks_left rs self.new) }
         ensures fields { IfOk result (λ given. IfSome given
-            (λ c. FitsSchema (output_schema (query_of self.old)) c.frame)) }
+            (λ c. FitsSchema (output_schema (source_query self.old)) c.frame)) }
         ensures fewer { OnOk result (most_left self.new < most_left self.old) }
         ensures refused { OnErr result ((rs : List Row)
             → chunks_left rs self.new ≡ chunks_left rs self.old) }

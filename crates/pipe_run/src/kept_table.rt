@@ -9,7 +9,7 @@ ghost use Rattle.pipe_groups.specs.Shape.{shape_of};
 ghost use Rattle.pipe_keyed.specs.Tables.{HoldFewTogether, KeepsShape};
 ghost use Rattle.pipe_global.specs.Partition.{IsRunnable, spilled_all};
 ghost use Rattle.pipe_run.specs.Fed.{HaveKept};
-ghost use Rattle.pipe_run.specs.Setting.{run_of};
+ghost use Rattle.pipe_run.specs.Setting.{run_over};
 
 use crate::begun::Begun;
 use pipe_columns::DataChunk;
@@ -48,14 +48,14 @@ pub(crate) fn kept_table<S: SpillStore + Drop>(
     chunks: &[Snapshot<DataChunk>],
     rests: Vec<PausedWorker>,
 ) -> Result<AggHashTable, AllocError>
-    requires run { IsRunnable (run_of begun.now false (map (λ c. c.value) chunks.now)) }
-    requires kept { HaveKept (run_of begun.now false (map (λ c. c.value) chunks.now))
+    requires run { IsRunnable (run_over begun.now false (map (λ c. c.value) chunks.now)) }
+    requires kept { HaveKept (run_over begun.now false (map (λ c. c.value) chunks.now))
         rests.items }
     ensures shape { IfOk result (λ t. t.shape ≡ shape_of (query_tree begun.now.query)) }
     ensures holds { IfOk result
         (λ t. Holds (shape_of (query_tree begun.now.query)).prototypes t.groups
         (spilled_all (query_tree begun.now.query)
-        (all_kept (run_of begun.now false (map (λ c. c.value) chunks.now))))) }
+        (all_kept (run_over begun.now false (map (λ c. c.value) chunks.now))))) }
 {
     let mut waiting = rests.into_iter();
     let Some(first) = waiting.next() else {

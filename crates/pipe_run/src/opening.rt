@@ -6,7 +6,7 @@ ghost use Rattle.pipe_groups.specs.Shape.{shape_of};
 ghost use Rattle.pipe_plan.specs.Run.{AreLimits, is_generic};
 ghost use Rattle.pipe_plan.specs.Stores.{stores_seen};
 ghost use Rattle.pipe_run.specs.Fed.{AreCounted, AreWholePartitions, IsUnused};
-ghost use Rattle.pipe_run.specs.Setting.{run_of};
+ghost use Rattle.pipe_run.specs.Setting.{run_over};
 
 use crate::begun::Begun;
 use pipe_aggs::CheckedQuery;
@@ -90,7 +90,7 @@ fn opened_named<S: SpillStore + Drop, R: Naming, H: Wait>(
     begun: &Begun<'_, S>,
     stores: Vec<S>,
 ) -> Result<Vec<ClosedPartition<S>>, (AllocError, Vec<S>)>
-    requires run { R.run ≡ run_of begun.now true [] }
+    requires run { R.run ≡ run_over begun.now true [] }
     requires partitions { (blanks.partitions.name ≡ R.partition_ledger)
         × (blanks.partitions.parts ≡ begun.now.limits.partitions) }
     requires workers { (blanks.workers.name ≡ R.worker_ledger)
@@ -130,8 +130,8 @@ pub(crate) fn opened<S: SpillStore + Drop, H: Wait>(
     requires count { vec_len stores ≡ begun.now.limits.partitions }
     requires stores { begun.now.stores ≡ stores_seen S.held S.told S.faults S.sure stores.items }
     requires former { All (λ s. s.held < 2 ^ 63) begun.now.stores }
-    ensures whole { IfOk result (λ v. AreWholePartitions (run_of begun.now true []) v.items) }
-    ensures counted { IfOk result (λ v. AreCounted (run_of begun.now true []) v.items) }
+    ensures whole { IfOk result (λ v. AreWholePartitions (run_over begun.now true []) v.items) }
+    ensures counted { IfOk result (λ v. AreCounted (run_over begun.now true []) v.items) }
     ensures back { IfErr result (λ e. e.1.items ≡ stores.items) }
 {
     let blanks = Blanks {

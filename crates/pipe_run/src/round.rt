@@ -7,7 +7,7 @@ ghost use Rattle.pipe_workers.specs.Rounds.{IsRoundOf};
 ghost use Rattle.pipe_workers.specs.Workers.{TakesTurns};
 ghost use Rattle.pipe_run.specs.Stops.{error_of};
 ghost use Rattle.pipe_run.specs.Fed.{AllStand, AreCounted, AreWholePartitions, HaveEnded, RoseAt};
-ghost use Rattle.pipe_run.specs.Rounds.{AreWholeShares, has_gone_on, jobs_of, rest_of, shares_of, StandReady};
+ghost use Rattle.pipe_run.specs.Rounds.{AreWholeShares, has_gone_on, jobs_of, paused_of, shares_of, StandReady};
 ghost use Rattle.pipe_run.specs.declared.round.RoundStop.TheVariants as stop;
 
 use crate::error::PipeError;
@@ -139,7 +139,7 @@ fn gather<'a, S: SpillStore + Drop, R: Naming, G: Gate>(
     requires shares { (vec_len rooms.shares ≡ 0) × (vec_len jobs ≤ vec_capacity rooms.shares) }
     requires rested { (vec_len rooms.rested ≡ 0) × (vec_len jobs ≤ vec_capacity rooms.rested) }
     ensures shares { result.shares.items ≡ map shares_of jobs.entry.items }
-    ensures rested { result.rested.items ≡ map rest_of jobs.entry.items }
+    ensures rested { result.rested.items ≡ map paused_of jobs.entry.items }
     ensures all { result.all ≡ list_all has_gone_on jobs.entry.items }
     ensures events { All (λ s. length s.events ≡ R.run.limits.partitions) result.shares.items }
 {

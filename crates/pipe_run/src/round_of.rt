@@ -5,7 +5,7 @@ ghost use Rattle.pipe_aggs.specs.QueryTrees.{query_tree};
 ghost use Rattle.pipe_model.specs.Rows.{AreChunksOf};
 ghost use Rattle.pipe_plan.specs.Run.{is_generic};
 ghost use Rattle.pipe_run.specs.Fed.{AllStand, AreCounted, AreWholePartitions, CountOn, HaveEnded, IsFed, RoseAt, RoseFrom};
-ghost use Rattle.pipe_run.specs.Setting.{counted_from, run_of};
+ghost use Rattle.pipe_run.specs.Setting.{counted_from, run_over};
 ghost use Rattle.pipe_run.specs.declared.round.RoundStop.TheVariants as stop;
 
 use crate::begun::Begun;
@@ -40,7 +40,7 @@ fn round_named<
     rested: Vec<PausedWorker>,
 ) -> Result<Ended<S>, (RoundStop, Vec<ClosedPartition<S>>)>
     requires run { R.run ≡ counted_from
-        (run_of begun.now is_open (map (λ s. s.value) taken.now ++ chunks.now))
+        (run_over begun.now is_open (map (λ s. s.value) taken.now ++ chunks.now))
         (map (λ c. c.store.faults) closed.items) }
     requires partitions { (blanks.partitions.name ≡ R.partition_ledger)
         × (blanks.partitions.parts ≡ begun.now.limits.partitions) }
@@ -51,7 +51,7 @@ fn round_named<
     requires faults { (blanks.faults.name ≡ R.fault_ledger)
         × (blanks.faults.parts ≡ begun.now.limits.workers) }
     requires generic { is_generic begun.now.limits.sink ≡ true }
-    requires fed { IsFed (run_of begun.now true (map (λ s. s.value) taken.now))
+    requires fed { IsFed (run_over begun.now true (map (λ s. s.value) taken.now))
         closed.items rested.items }
     requires chunks { AreChunksOf (query_tree begun.now.query)
         (map (λ s. s.value) taken.now ++ chunks.now) }
@@ -100,19 +100,19 @@ pub(crate) fn round<S: SpillStore + Drop + Send, G: Gate + Sync, H: Threads + Wa
     rested: Vec<PausedWorker>,
 ) -> Result<Ended<S>, (RoundStop, Vec<ClosedPartition<S>>)>
     requires generic { is_generic begun.now.limits.sink ≡ true }
-    requires fed { IsFed (run_of begun.now true (map (λ s. s.value) taken.now))
+    requires fed { IsFed (run_over begun.now true (map (λ s. s.value) taken.now))
         closed.items rested.items }
     requires chunks { AreChunksOf (query_tree begun.now.query)
         (map (λ s. s.value) taken.now ++ chunks.now) }
     ensures back { IfErr result (λ e. AllStand
-        (run_of begun.now is_open (map (λ s. s.value) taken.now ++ chunks.now)) e.1.items) }
+        (run_over begun.now is_open (map (λ s. s.value) taken.now ++ chunks.now)) e.1.items) }
     ensures store { IfErr result (λ e. (p : ℕ) → e.0 ≡ stop.Store p
         → RoseFrom closed.items p e.1.items) }
     ensures whole { IfOk result (λ e. AreWholePartitions
-        (run_of begun.now is_open (map (λ s. s.value) taken.now ++ chunks.now)) e.closed.items) }
+        (run_over begun.now is_open (map (λ s. s.value) taken.now ++ chunks.now)) e.closed.items) }
     ensures counted { IfOk result (λ e. CountOn closed.items e.closed.items) }
     ensures ended { IfOk result (λ e. HaveEnded
-        (run_of begun.now is_open (map (λ s. s.value) taken.now ++ chunks.now)) e.rested.items) }
+        (run_over begun.now is_open (map (λ s. s.value) taken.now ++ chunks.now)) e.rested.items) }
 {
     let blanks = Blanks {
         partitions: Blank::new(begun.limits.partitions as u64),

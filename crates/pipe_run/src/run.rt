@@ -7,7 +7,7 @@ ghost use Rattle.pipe_run.specs.Answered.{HaveReplayedFrames, HaveWholeFrames};
 ghost use Rattle.pipe_run.specs.Fed.{IsFedRun};
 ghost use Rattle.pipe_run.specs.Feeding.{chunks_reached, IsBadChunks, IsFeedCause, NoneFell};
 ghost use Rattle.pipe_run.specs.Refusals.{CanFeed};
-ghost use Rattle.pipe_run.specs.Setting.{run_of};
+ghost use Rattle.pipe_run.specs.Setting.{run_over};
 
 use crate::begun::Begun;
 use crate::chunk_check::checked_rows;
@@ -92,7 +92,7 @@ fn fed_round<S: SpillStore + Drop + Send, G: Gate + Sync, H: Threads + Wait + Sy
     ensures untouched { IfErr result (λ e. IsBadChunks e.0
         → map (λ c. c.store) e.1.items ≡ map (λ c. c.store) closed.items) }
     ensures back { IfErr result (λ e. HaveWholeFrames
-        (run_of begun.now true (chunks_reached (record {
+        (run_over begun.now true (chunks_reached (record {
           setting = begun.now;
           chunks = map (λ c. c.value) taken.now;
           journals = map (λ c. c.journal) closed.items;
@@ -136,7 +136,7 @@ impl<'a, S: SpillStore + Drop + Send> GenericRun<'a, S> {
         ensures untouched { IfErr result (λ e. IsBadChunks e.0 →
             stores_seen S.held S.told S.faults S.sure e.1.items ≡ self.entry.stores) }
         ensures back { IfErr result (λ e. HaveWholeFrames
-            (run_of self.entry.setting true (chunks_reached self.entry chunks.items e.0))
+            (run_over self.entry.setting true (chunks_reached self.entry chunks.items e.0))
             (stores_seen S.held S.told S.faults S.sure e.1.items)) }
     {
         let GenericRun {
@@ -192,7 +192,7 @@ impl<'a, S: SpillStore + Drop + Send> GenericRun<'a, S> {
         ensures untouched { IfErr result (λ e. IsBadChunks e.0 →
             stores_seen S.held S.told S.faults S.sure e.1.items ≡ self.entry.stores) }
         ensures back { IfErr result (λ e. HaveWholeFrames
-            (run_of self.entry.setting true (chunks_reached self.entry chunks.items e.0))
+            (run_over self.entry.setting true (chunks_reached self.entry chunks.items e.0))
             (stores_seen S.held S.told S.faults S.sure e.1.items)) }
     {
         match self.feed_lent(rt, alloc, gate, chunks) {
@@ -208,16 +208,16 @@ impl<'a, S: SpillStore + Drop + Send> GenericRun<'a, S> {
     pub fn journal(&self, partition: usize) -> &Journal
         requires { partition < self.now.setting.limits.partitions }
         ensures is { result.now ≡ journal_of self.now.journals partition }
-        ensures whole { IsWhole (run_of self.now.setting true self.now.chunks) partition result.now }
+        ensures whole { IsWhole (run_over self.now.setting true self.now.chunks) partition result.now }
     {
         self.closed[partition].journal()
     }
 
     /// Gives the run up, and hands the stores back, in order. It takes no memory.
     pub fn into_stores(self) -> Vec<S>
-        ensures frames { HaveReplayedFrames (run_of self.entry.setting true self.entry.chunks)
+        ensures frames { HaveReplayedFrames (run_over self.entry.setting true self.entry.chunks)
             self.entry.journals (stores_seen S.held S.told S.faults S.sure result.items) }
-        ensures back { HaveWholeFrames (run_of self.entry.setting true self.entry.chunks)
+        ensures back { HaveWholeFrames (run_over self.entry.setting true self.entry.chunks)
             (stores_seen S.held S.told S.faults S.sure result.items) }
     {
         let GenericRun {

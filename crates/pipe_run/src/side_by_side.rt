@@ -7,7 +7,7 @@ ghost use Rattle.pipe_model.specs.Answer.{answer_of};
 ghost use Rattle.pipe_model.specs.Output.{output_schema};
 ghost use Rattle.pipe_model.specs.Rows.{HaveDistinctPlaces};
 ghost use Rattle.pipe_inputs.specs.RowTypes.{IsRowOf};
-ghost use Rattle.pipe_run.specs.Ending.{AreKept};
+ghost use Rattle.pipe_run.specs.Ending.{AreSamePartitions};
 ghost use Rattle.pipe_run.specs.Given.{HasRows, IsSource};
 ghost use Rattle.pipe_run.specs.Sources.{ArePlacedParts, IsGiveCause, IsPlacedFrame, unasked};
 ghost use Rattle.pipe_run.specs.Stacking.{all_frames};
@@ -47,7 +47,7 @@ fn finish_all<S: SpillStore + Drop + Send, H: Threads + Sync>(
     ensures placed { IfOk result.0 (λ v. (rs : List Row)
         → HasRows rs (unasked query.now closed.items local None)
         → ArePlacedParts (query_tree query.now) rs (length closed.items) v.items) }
-    ensures kept { AreKept closed.items result.1.items }
+    ensures kept { AreSamePartitions closed.items result.1.items }
     ensures cause { IfErr result.0 (λ e. IsGiveCause (unasked query.now closed.items local None)
         (unasked query.now result.1.items local None) e) }
 {
@@ -122,7 +122,7 @@ pub(crate) fn answer_side_by_side<S: SpillStore + Drop + Send, H: Threads + Sync
     ensures frame { IfOk result.0 (λ f. (rs : List Row)
         → HasRows rs (unasked query.now closed.items local None)
         → f ≡ answer_of rs (query_tree query.now) (length closed.items)) }
-    ensures kept { AreKept closed.items result.1.items }
+    ensures kept { AreSamePartitions closed.items result.1.items }
     ensures cause { IfErr result.0 (λ e. IsGiveCause (unasked query.now closed.items local None)
         (unasked query.now result.1.items local None) e) }
 {

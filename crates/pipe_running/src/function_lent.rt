@@ -139,32 +139,4 @@ impl AggregateFunction {
             AggregateFunction::MinMaxI64(state) => lend_run(state, chunk, first_row, values),
         }
     }
-
-    /// Takes the values of rows that follow one another, which are lent. A text that it keeps is
-    /// copied first; nothing else takes memory.
-    pub fn pre_agg_ordered_copied(
-        &mut self,
-        alloc: Global,
-        chunk: u32,
-        first_row: u32,
-        values: &[AnyValue],
-    ) -> Result<(), AllocError>
-        requires taken { list_all (λ v. takes self.old v) values.now ≡ true }
-        requires few { seen self.old + length values.now < 2 ^ 32 }
-        requires rows { first_row + length values.now ≤ 2 ^ 32 }
-        ensures ok { OnOk result (self.new
-            ≡ after_run after_value chunk first_row values.now self.old) }
-        ensures err { OnErr result (self.new ≡ self.old) }
-        ensures plain { text_of_run chunk first_row values.now self.old ≡ None → IsOk result }
-    {
-        match self.text_of_run(chunk, first_row, values) {
-            Some(index) => {
-                let copy = values[index].try_clone(alloc)?;
-                let row = first_row + index as u32;
-                self.pre_agg(Place { chunk, row }, copy);
-            }
-            None => self.pre_agg_ordered_lent(chunk, first_row, values),
-        }
-        Ok(())
-    }
 }

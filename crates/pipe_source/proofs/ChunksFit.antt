@@ -9,7 +9,7 @@ use Rattle.pipe_columns.specs.Frame.{FitsSchema}
 use Rattle.pipe_io.specs.Files.{Files, file_of}
 use Rattle.pipe_source.specs.declared.read_options.CsvReadOptions.{CsvReadOptions}
 use Rattle.pipe_source.specs.declared.source_place.SourcePlace.{SourcePlace}
-use Rattle.pipe_source.specs.CsvChunks.{behind, chunks_from, chunks_then, CsvChunks, csv_chunks, csv_chunks_from, file_chunks, file_rows, first_place, go_on, is_any_wanted, no_more, source_fields, Stop, wanted_after}
+use Rattle.pipe_source.specs.CsvChunks.{behind, chunks_of_pieces, chunks_then, CsvChunks, csv_chunks, csv_chunks_from, file_chunks, file_rows, first_place, go_on, is_any_wanted, no_more, source_fields, Stop, wanted_after}
 use Rattle.pipe_source.proofs.ReaderFacts.{source-fits}
 
 module _ (options : CsvReadOptions) (schema : List Field) where
@@ -18,9 +18,9 @@ module _ (options : CsvReadOptions) (schema : List Field) where
   Fits c = FitsSchema (source_fields options schema) c.frame
 
   -- the chunks of pieces of rows
-  pieces-fit : (file : List ℕ) (i given : ℕ) (ps : List (List (List AnyValue))) → All Fits (chunks_from options schema file i given ps)
+  pieces-fit : (file : List ℕ) (i given : ℕ) (ps : List (List (List AnyValue))) → All Fits (chunks_of_pieces options schema file i given ps)
   pieces-fit file i given [] = All-nil Fits
-  pieces-fit file i given (p ∷ ps) = All-cons Fits _ (chunks_from options schema file (i + 1) (given + length p) ps) (source-fits options schema file given p) (pieces-fit file (i + 1) (given + length p) ps)
+  pieces-fit file i given (p ∷ ps) = All-cons Fits _ (chunks_of_pieces options schema file (i + 1) (given + length p) ps) (source-fits options schema file given p) (pieces-fit file (i + 1) (given + length p) ps)
 
   -- chunks that come only where more rows are wanted
   wanted-fit : (b : Bool) (some : CsvChunks) → All Fits some.chunks → All Fits (if b then some else no_more).chunks

@@ -10,11 +10,11 @@ use Rattle.pipe_csv.specs.CsvError.{StopsBy}
 use Rattle.pipe_csv.specs.declared.csv_error.CsvError.{CsvError}
 use Rattle.pipe_csv.specs.declared.csv_error.CsvError.TheVariants as ce
 use Rattle.pipe_csv.proofs.PieceFacts.{enough_turns}
-use Rattle.pipe_io.specs.Files.{Files, HasNone, IsLarger, IsWhole, file_of}
+use Rattle.pipe_io.specs.Files.{Files, HasNoFile, IsLarger, IsWhole, file_of}
 use Rattle.pipe_io.specs.declared.whole_file.TheConstants.{MOST_FILE_BYTES}
 use Rattle.pipe_source.specs.declared.read_options.CsvReadOptions.{CsvReadOptions}
 use Rattle.pipe_source.specs.declared.source_place.SourcePlace.{SourcePlace}
-use Rattle.pipe_source.specs.CsvChunks.{CsvChunks, Stop, behind, chunks_from, chunks_then, csv_chunks_from, file_chunks, file_rows, go_on, is_any_wanted, is_numbered, misfit, no_more, numbered_rows, source_frame, text_rows, too_large, wanted_after}
+use Rattle.pipe_source.specs.CsvChunks.{CsvChunks, Stop, behind, chunks_of_pieces, chunks_then, csv_chunks_from, file_chunks, file_rows, go_on, is_any_wanted, is_numbered, misfit, no_more, numbered_rows, source_frame, text_rows, too_large, wanted_after}
 use Rattle.pipe_source.specs.Reader.{StopsAt, stopped}
 use Rattle.pipe_source.specs.Rows.{StopsFile, StopsTold}
 use Rattle.std.specs.Prelude.{◌%◌}
@@ -22,7 +22,7 @@ use Rattle.std.specs.Prelude.{◌%◌}
 -- ---- a file
 
 -- a file that isn't there
-pub told-missing : (told : Option Files) (name : List ℕ) (options : CsvReadOptions) (schema : List Field) (at : SourcePlace) → HasNone told name → StopsTold (ce.Missing at.file) options schema at told name
+pub told-missing : (told : Option Files) (name : List ℕ) (options : CsvReadOptions) (schema : List Field) (at : SourcePlace) → HasNoFile told name → StopsTold (ce.Missing at.file) options schema at told name
 told-missing None name options schema at h = tt
 told-missing (Some files) name options schema at h = rw h refl
 
@@ -152,7 +152,7 @@ first-piece n (r ∷ rs) p h =
 pub first-chunk : (options : CsvReadOptions) (schema : List Field) (name : List ℕ) (at : SourcePlace) (rows : List (List AnyValue)) → 0 < options.chunk_size → 0 < length rows
     → file_chunks options schema name at rows ≡ record { chunk_index = at.chunks % 2 ^ 32; frame = source_frame options schema name at.rows (take options.chunk_size rows) }
     ∷ file_chunks options schema name (record { file = at.file; chunks = at.chunks + 1; rows = at.rows + length (take options.chunk_size rows) }) (drop options.chunk_size rows)
-first-chunk options schema name at rows p h = ap (chunks_from options schema name at.chunks at.rows) (first-piece options.chunk_size rows p h)
+first-chunk options schema name at rows p h = ap (chunks_of_pieces options schema name at.chunks at.rows) (first-piece options.chunk_size rows p h)
 
 -- the place behind all rows is that behind the rest
 pub behind-rest : (options : CsvReadOptions) (at : SourcePlace) (rows : List (List AnyValue)) → 0 < options.chunk_size → 0 < length rows

@@ -15,10 +15,10 @@ use Rattle.pipe_io.specs.declared.whole_file.TheConstants.{MOST_FILE_BYTES}
 use Rattle.pipe_scan.specs.Records.{Records, records_at}
 use Rattle.pipe_source.specs.CsvChunks.{CsvChunks, chunks_then, file_rows, is_any_wanted, is_numbered, numbered_rows, wanted_after}
 use Rattle.pipe_source.specs.Found.{IsFound, file_at}
-use Rattle.pipe_source.specs.Next.{IsNext}
+use Rattle.pipe_source.specs.Next.{IsTextOfNext}
 use Rattle.pipe_source.specs.declared.file_text.FileText.{FileText}
-use Rattle.pipe_source.specs.Kept.{AreNumbered, AreStartsFrom, IsAdvanced, IsKept, IsPlace, IsReading, chunks_at, cursor_of, given_chunk, name_kept, piece_at, place_at, rows_kept, state_of}
-use Rattle.pipe_source.specs.Reader.{ReaderState, left_of}
+use Rattle.pipe_source.specs.Kept.{AreNumbered, AreStartsFrom, IsAdvanced, HasRowsLeft, IsSourcePlace, IsFitReading, chunks_at, cursor_of, given_chunk, name_kept, piece_at, place_behind, rows_kept, kept_state}
+use Rattle.pipe_source.specs.Reader.{ReaderState, chunks_left}
 use Rattle.pipe_source.specs.Rows.{AreRowsAt, AreStarts, IsStart}
 use Rattle.pipe_source.specs.declared.kept_text.KeptText.{KeptText}
 use Rattle.pipe_source.specs.declared.read_options.CsvReadOptions.{CsvReadOptions}
@@ -117,8 +117,8 @@ piece-numbered index given left before count h e = numbered-fewer index (given +
 -- ---- the next file
 
 -- a text that was found is what is kept of it
-pub text-next : (what : Reading) (told : Option Files) (last : SourcePlace) (i : ℕ) (f : FileText) → IsReading what → IsPlace what last → IsFound what.options what.schema told what.names.items last i f
-    → is_any_wanted (wanted_after what.options.n_rows last.rows) ≡ true → IsNext what told last (record { at = file_at last i; text = f.text; starts = f.starts; chunk = 0; left = f.count })
+pub text-next : (what : Reading) (told : Option Files) (last : SourcePlace) (i : ℕ) (f : FileText) → IsFitReading what → IsSourcePlace what last → IsFound what.options what.schema told what.names.items last i f
+    → is_any_wanted (wanted_after what.options.n_rows last.rows) ≡ true → IsTextOfNext what told last (record { at = file_at last i; text = f.text; starts = f.starts; chunk = 0; left = f.count })
 text-next what told last i f reading place h wanted =
     let placed : AreRowsAt what.schema f.text.items (get_or f.starts.items 0 0) f.count h.loaded.rows = rows-first what.schema f.text.items f.begin what.options.chunk_size f.count f.starts.items h.loaded.rows h.some h.loaded.starts h.loaded.placed in
     record {
@@ -201,27 +201,27 @@ few-chunks size left (suc n) text starts chunk false e p s h =
     omega (arith, at_least)
 
 -- few rows and chunks stand before it
-pub rows-below : (what : Reading) (k : KeptText) → IsKept what k → k.at.rows ≤ 2 ^ 100
+pub rows-below : (what : Reading) (k : KeptText) → HasRowsLeft what k → k.at.rows ≤ 2 ^ 100
 rows-below what k kept = omega (arith, kept.files, kept.few_rows, what.names.ok.0, what.names.ok.1, what.names.small)
 
-pub chunks-below : (what : Reading) (k : KeptText) → IsKept what k → k.at.chunks ≤ 2 ^ 100
+pub chunks-below : (what : Reading) (k : KeptText) → HasRowsLeft what k → k.at.chunks ≤ 2 ^ 100
 chunks-below what k kept = omega (arith, kept.files, kept.few_chunks, what.names.ok.0, what.names.ok.1, what.names.small)
 
 -- the rows that are left of it are as many as it says
 pub no-rows : (what : Reading) (k : KeptText) → k.left ≡ 0 → rows_kept what k ≡ []
 no-rows what k e = rw e refl
 
-pub some-rows : (what : Reading) (k : KeptText) → IsKept what k → 0 < k.left → 0 < length (rows_kept what k)
+pub some-rows : (what : Reading) (k : KeptText) → HasRowsLeft what k → 0 < k.left → 0 < length (rows_kept what k)
 some-rows what k kept h =
     let seen = rows-seen what.schema k.text.items (cursor_of k) k.left kept.rows kept.placed in
     subst (λ (rows : List (List AnyValue)). 0 < length rows) (sym seen) (omega (arith, h, kept.placed.size))
 
 -- its rows behind some chunks
-placed-behind : (what : Reading) (n : ℕ) (old new : KeptText) → (k : IsKept what old) → IsAdvanced what.options.chunk_size n old new → AreRowsAt what.schema new.text.items (cursor_of new) new.left (drop (n * what.options.chunk_size) k.rows)
+placed-behind : (what : Reading) (n : ℕ) (old new : KeptText) → (k : HasRowsLeft what old) → IsAdvanced what.options.chunk_size n old new → AreRowsAt what.schema new.text.items (cursor_of new) new.left (drop (n * what.options.chunk_size) k.rows)
 placed-behind what n old new k a = rw (a.text, a.starts, a.chunk, a.left) (rows-behind what.schema old.text.items what.options.chunk_size old.left n old.starts.items old.chunk k.rows _ refl k.starts k.placed)
 
 -- what is kept behind some chunks
-pub kept-behind : (what : Reading) (n : ℕ) (old new : KeptText) → IsReading what → IsKept what old → IsAdvanced what.options.chunk_size n old new → old.chunk + n ≤ length old.starts.items → IsKept what new
+pub kept-behind : (what : Reading) (n : ℕ) (old new : KeptText) → IsFitReading what → HasRowsLeft what old → IsAdvanced what.options.chunk_size n old new → old.chunk + n ≤ length old.starts.items → HasRowsLeft what new
 kept-behind what n old new reading k a h =
     let size : ℕ = what.options.chunk_size in
     let few = few-chunks size old.left n old.text.items old.starts.items old.chunk _ refl reading.size k.starts h in
@@ -252,12 +252,12 @@ place_after at size n rows = record { file = at.file; chunks = at.chunks + n; ro
 
 -- a chunk of some rows that are left
 abbrev part_at : Reading → SourcePlace → List ℕ → List (List AnyValue) → ℕ → DataChunk
-part_at what at file rows n = given_chunk what.options what.wanted.items what.schema file (place_at at what.options.chunk_size n) (piece_at what.options.chunk_size n rows)
+part_at what at file rows n = given_chunk what.options what.wanted.items what.schema file (place_behind at what.options.chunk_size n) (piece_at what.options.chunk_size n rows)
 
 -- one more chunk goes
 one-goes : (files : Files) (what : Reading) (at : SourcePlace) (file : List ℕ) (rows : List (List AnyValue)) (n : ℕ) → 0 < what.options.chunk_size → n * what.options.chunk_size < length rows
-    → left_of files (state_at what (place_after at what.options.chunk_size n rows) file (drop (n * what.options.chunk_size) rows))
-    ≡ chunks_then (part_at what at file rows n ∷ []) (left_of files (state_at what (place_after at what.options.chunk_size (n + 1) rows) file (drop ((n + 1) * what.options.chunk_size) rows)))
+    → chunks_left files (state_at what (place_after at what.options.chunk_size n rows) file (drop (n * what.options.chunk_size) rows))
+    ≡ chunks_then (part_at what at file rows n ∷ []) (chunks_left files (state_at what (place_after at what.options.chunk_size (n + 1) rows) file (drop ((n + 1) * what.options.chunk_size) rows)))
 one-goes files what at file rows n p h =
     let size : ℕ = what.options.chunk_size in
     let rest : List (List AnyValue) = drop (n * size) rows in
@@ -269,40 +269,40 @@ one-goes files what at file rows n p h =
     let count : at.rows + length (take (n * size) rows) + length (take size rest) ≡ at.rows + length (take ((n + 1) * size) rows) = omega (arith, length-take (n * size) rows, length-take size rest, length-drop (n * size) rows, length-take ((n + 1) * size) rows, more) in
     let chunks : at.chunks + n + 1 ≡ at.chunks + (n + 1) = omega arith in
     first
-    ∙ ap (λ (r : ℕ). let q : SourcePlace = record { file = at.file; chunks = at.chunks + n; rows = at.rows + r } in chunks_then (given_chunk what.options what.wanted.items what.schema file q (take size rest) ∷ []) (left_of files (state_at what (chunk_later here (length (take size rest))) file (drop size rest)))) many
-    ∙ (λ i. chunks_then (part_at what at file rows n ∷ []) (left_of files (state_at what (record { file = at.file; chunks = chunks i; rows = count i }) file (behind i))))
+    ∙ ap (λ (r : ℕ). let q : SourcePlace = record { file = at.file; chunks = at.chunks + n; rows = at.rows + r } in chunks_then (given_chunk what.options what.wanted.items what.schema file q (take size rest) ∷ []) (chunks_left files (state_at what (chunk_later here (length (take size rest))) file (drop size rest)))) many
+    ∙ (λ i. chunks_then (part_at what at file rows n ∷ []) (chunks_left files (state_at what (record { file = at.file; chunks = chunks i; rows = count i }) file (behind i))))
 
 -- the first chunks of rows that are left go
 pub chunks-go : (files : Files) (what : Reading) (at : SourcePlace) (file : List ℕ) (rows : List (List AnyValue)) (n : ℕ) → 0 < what.options.chunk_size → ((k : ℕ) → k < n → k * what.options.chunk_size < length rows)
-    → left_of files (state_at what at file rows)
-    ≡ chunks_then (map (part_at what at file rows) (range_with_len 0 n)) (left_of files (state_at what (place_after at what.options.chunk_size n rows) file (drop (n * what.options.chunk_size) rows)))
+    → chunks_left files (state_at what at file rows)
+    ≡ chunks_then (map (part_at what at file rows) (range_with_len 0 n)) (chunks_left files (state_at what (place_after at what.options.chunk_size n rows) file (drop (n * what.options.chunk_size) rows)))
 chunks-go files what at file rows zero p h =
     let size : ℕ = what.options.chunk_size in
     let none : 0 * size ≡ 0 = zero-mul size in
     let a : at.chunks ≡ at.chunks + 0 = omega arith in
     let b : at.rows ≡ at.rows + length (take (0 * size) rows) = omega (arith, ap (λ k. length (take k rows)) none) in
     let c : rows ≡ drop (0 * size) rows = ap (λ k. drop k rows) (sym none) in
-    λ i. left_of files (state_at what (record { file = at.file; chunks = a i; rows = b i }) file (c i))
+    λ i. chunks_left files (state_at what (record { file = at.file; chunks = a i; rows = b i }) file (c i))
 chunks-go files what at file rows (suc n) p h =
     let size : ℕ = what.options.chunk_size in
     let parts : ℕ → DataChunk = part_at what at file rows in
     let fewer = chunks-go files what at file rows n p (λ k l. h k (omega arith)) in
     let one = one-goes files what at file rows n p (h n (omega arith)) in
     let all : map parts (range_with_len 0 (n + 1)) ≡ map parts (range_with_len 0 n) ++ (parts n ∷ []) = map-range_with_len_more parts 0 n n (omega arith) in
-    let rest : CsvChunks = left_of files (state_at what (place_after at size (n + 1) rows) file (drop ((n + 1) * size) rows)) in
+    let rest : CsvChunks = chunks_left files (state_at what (place_after at size (n + 1) rows) file (drop ((n + 1) * size) rows)) in
     let next : suc n ≡ n + 1 = omega arith in
     fewer ∙ ap (chunks_then (map parts (range_with_len 0 n))) one
     ∙ ap (λ (cs : List DataChunk). record { chunks = cs; stop = rest.stop }) (sym (append_assoc (map parts (range_with_len 0 n)) (parts n ∷ []) rest.chunks))
     ∙ ap (λ (cs : List DataChunk). chunks_then cs rest) (sym all)
-    ∙ ap (λ (k : ℕ). chunks_then (map parts (range_with_len 0 k)) (left_of files (state_at what (place_after at size k rows) file (drop (k * size) rows)))) (sym next)
+    ∙ ap (λ (k : ℕ). chunks_then (map parts (range_with_len 0 k)) (chunks_left files (state_at what (place_after at size k rows) file (drop (k * size) rows)))) (sym next)
 
 -- so many chunks that have starts have rows
 pub starts-some : (text : List ℕ) (size left n : ℕ) (starts : List ℕ) (chunk : ℕ) → AreStartsFrom text size left starts chunk → chunk + n ≤ length starts → (k : ℕ) → k < n → k * size < left
 starts-some text size left n starts chunk s h k l = (s.each k (omega arith)).0
 
 -- what is left of a text goes on behind the chunks that are given
-pub chunks-given : (files : Files) (what : Reading) (n : ℕ) (old new : KeptText) → IsReading what → IsKept what old → IsAdvanced what.options.chunk_size n old new → old.chunk + n ≤ length old.starts.items
-    → left_of files (state_of what old) ≡ chunks_then (chunks_at what old n) (left_of files (state_of what new))
+pub chunks-given : (files : Files) (what : Reading) (n : ℕ) (old new : KeptText) → IsFitReading what → HasRowsLeft what old → IsAdvanced what.options.chunk_size n old new → old.chunk + n ≤ length old.starts.items
+    → chunks_left files (kept_state what old) ≡ chunks_then (chunks_at what old n) (chunks_left files (kept_state what new))
 chunks-given files what n old new reading k a h =
     let size : ℕ = what.options.chunk_size in
     let file : List ℕ = name_kept what old in
@@ -314,10 +314,10 @@ chunks-given files what n old new reading k a h =
     let count : old.at.rows + length (take (n * size) (rows_kept what old)) ≡ new.at.rows = omega (arith, ap length before, k.placed.size, length-take (n * size) (rows_kept what old), a.rows, a.left) in
     let place : place_after old.at size n (rows_kept what old) ≡ new.at = λ i. record { file = sym a.file i; chunks = sym a.chunks i; rows = count i } in
     let name : file ≡ name_kept what new = ap (λ i. get_or what.names.items (i - 1) []) (sym a.file) in
-    go ∙ (λ i. chunks_then (chunks_at what old n) (left_of files (state_at what (place i) (name i) (rows i))))
+    go ∙ (λ i. chunks_then (chunks_at what old n) (chunks_left files (state_at what (place i) (name i) (rows i))))
 
 -- where rows are left there is a chunk more
-pub chunk-more : (what : Reading) (k : KeptText) → IsKept what k → 0 < length (rows_kept what k) → k.chunk + 1 ≤ length k.starts.items
+pub chunk-more : (what : Reading) (k : KeptText) → HasRowsLeft what k → 0 < length (rows_kept what k) → k.chunk + 1 ≤ length k.starts.items
 chunk-more what k kept some =
     let size : ℕ = what.options.chunk_size in
     let left : 0 < k.left = omega (arith, kept.placed.size, ap length (rows-seen what.schema k.text.items (cursor_of k) k.left kept.rows kept.placed), some) in
@@ -337,9 +337,9 @@ more-at f (x ∷ xs) first each =
     ∙ ap (λ t. t ++ xs) (sym front) ∙ rest ∙ ap (λ k. map f (range_with_len 0 k)) (omega arith)
 
 -- nothing is left of no text
-pub kept-none : (what : Reading) (k : KeptText) → IsPlace what k.at → k.text.items ≡ [] → k.starts.items ≡ [] → k.chunk ≡ 0 → k.left ≡ 0 → IsKept what k
+pub kept-none : (what : Reading) (k : KeptText) → IsSourcePlace what k.at → k.text.items ≡ [] → k.starts.items ≡ [] → k.chunk ≡ 0 → k.left ≡ 0 → HasRowsLeft what k
 kept-none what k at t s c l = search rules
 
 -- nor before any file
-pub kept-start : (what : Reading) (k : KeptText) → k.at ≡ record { file = 0; chunks = 0; rows = 0 } → k.text.items ≡ [] → k.starts.items ≡ [] → k.chunk ≡ 0 → k.left ≡ 0 → IsKept what k
-kept-start what k a t s c l = kept-none what k (subst (IsPlace what) (sym a) (record { files = omega arith; rows = omega arith; chunks = omega arith })) t s c l
+pub kept-start : (what : Reading) (k : KeptText) → k.at ≡ record { file = 0; chunks = 0; rows = 0 } → k.text.items ≡ [] → k.starts.items ≡ [] → k.chunk ≡ 0 → k.left ≡ 0 → HasRowsLeft what k
+kept-start what k a t s c l = kept-none what k (subst (IsSourcePlace what) (sym a) (record { files = omega arith; rows = omega arith; chunks = omega arith })) t s c l

@@ -18,7 +18,7 @@ use Rattle.pipe_csv.proofs.RowFacts.{row-same}
 use Rattle.pipe_scan.specs.Numbers.{number_of, read_digits, read_few_digits, read_short_number, signed}
 use Rattle.pipe_scan.specs.Plain.{AreAsKnown, IsAsKnown, IsPlainRow}
 use Rattle.pipe_scan.specs.Records.{between, cut}
-use Rattle.pipe_source.specs.Known.{AreKnown, IsKnown}
+use Rattle.pipe_source.specs.Known.{AreKnown, IsKnownField}
 use Rattle.pipe_source.specs.Rows.{ChecksRow}
 use Rattle.pipe_source.proofs.FieldsAt.{short-value}
 use Rattle.pipe_source.proofs.FieldsLeft.{length-cut, value-of}
@@ -69,7 +69,7 @@ short-fits [] n e = absurd (none-some n e)
 short-fits (c ∷ cs) n e = let ds : List ℕ = if c == 45 then cs else c ∷ cs in sign_by (c == 45) ds n (read_few_digits ds) refl e
 
 -- a field that is as known has a value
-known-value : (is_ascii number : Bool) (f : Field) (text : List ℕ) (low high : ℕ) → (is_ascii ≡ true → IsAscii text) → IsKnown is_ascii number f → IsAsKnown number (between text low high)
+known-value : (is_ascii number : Bool) (f : Field) (text : List ℕ) (low high : ℕ) → (is_ascii ≡ true → IsAscii text) → IsKnownField is_ascii number f → IsAsKnown number (between text low high)
     → (v : AnyValue) × (read_field f.dtype (between text low high) ≡ Some v)
 known-value is_ascii true f text low high a k h = (av.Int h.0, rw k (short-value dt.Int64 (between text low high) h.0 h.1 (short-fits (between text low high) h.0 h.1)))
 known-value is_ascii false f text low high a k h = rw k.0 (value-of (read_field dt.String (between text low high)) true (sym (ascii-reads text low high (a k.1))) refl)
@@ -103,7 +103,7 @@ length-known is_ascii (n ∷ ns) [] k = absurd k
 length-known is_ascii (n ∷ ns) (f ∷ fs) k = ap (λ (i : ℕ). suc i) (length-known is_ascii ns fs k.1)
 
 -- one more field is known
-pub knows-more : (is_ascii n : Bool) (ns : List Bool) (fs : List Field) (i : ℕ) (f : Field) → i < length fs → f ≡ get_or fs i f → AreKnown is_ascii ns (take i fs) → IsKnown is_ascii n f → AreKnown is_ascii (ns ++ (n ∷ [])) (take (i + 1) fs)
+pub knows-more : (is_ascii n : Bool) (ns : List Bool) (fs : List Field) (i : ℕ) (f : Field) → i < length fs → f ≡ get_or fs i f → AreKnown is_ascii ns (take i fs) → IsKnownField is_ascii n f → AreKnown is_ascii (ns ++ (n ∷ [])) (take (i + 1) fs)
 knows-more is_ascii n ns fs i f h e a k =
     let more : take (i + 1) fs ≡ take i fs ++ (f ∷ []) = take_more fs i f h ∙ ap (λ (x : Field). take i fs ++ (x ∷ [])) (sym e) in
     rw more (knows-push ns (take i fs) a) where

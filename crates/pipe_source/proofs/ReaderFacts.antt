@@ -18,11 +18,11 @@ use Rattle.pipe_scan.specs.Records.{records_at}
 use Rattle.pipe_source.specs.declared.file_text.FileText.{FileText}
 use Rattle.pipe_source.specs.declared.read_options.CsvReadOptions.{CsvReadOptions}
 use Rattle.pipe_source.specs.declared.source_place.SourcePlace.{SourcePlace}
-use Rattle.pipe_source.specs.CsvChunks.{CsvChunks, csv_chunks, narrowed, source_wanted, wanted_fields, behind, chunks_then, csv_chunks_from, file_chunks, file_rows, index_column, index_field, is_any_wanted, is_numbered, no_more, path_column, path_field, source_fields, source_frame, wanted_after, with_first, with_last}
+use Rattle.pipe_source.specs.CsvChunks.{CsvChunks, csv_chunks, wanted_chunks, source_wanted, wanted_fields, behind, chunks_then, csv_chunks_from, file_chunks, file_rows, index_column, index_field, is_any_wanted, is_numbered, no_more, path_column, path_field, source_fields, source_frame, wanted_after, with_first, with_last}
 use Rattle.pipe_source.specs.Found.{IsFound, file_at}
 use Rattle.pipe_source.specs.Kept.{chunk_of_rows, given_chunk}
-use Rattle.pipe_source.specs.Reader.{ReaderState, left_of, whole_left}
-use Rattle.pipe_source.specs.Rows.{AreRowsAt, rows_in}
+use Rattle.pipe_source.specs.Reader.{ReaderState, chunks_left, whole_left}
+use Rattle.pipe_source.specs.Rows.{AreRowsAt, record_rows}
 use Rattle.pipe_source.proofs.FileRows.{behind-none, behind-rest, first-chunk, next-rows, none-wanted}
 
 -- what holds of anything holds of what there is
@@ -31,11 +31,11 @@ of-any None f = tt
 of-any (Some a) f = f a
 
 -- the rows that a reader has are those that stand in its text
-pub rows-seen : (schema : List Field) (text : List ℕ) (cursor left : ℕ) (rows : List (List AnyValue)) → AreRowsAt schema text cursor left rows → rows_in schema (take left (records_at text cursor)) ≡ rows
+pub rows-seen : (schema : List Field) (text : List ℕ) (cursor left : ℕ) (rows : List (List AnyValue)) → AreRowsAt schema text cursor left rows → record_rows schema (take left (records_at text cursor)) ≡ rows
 rows-seen schema text cursor left rows a = rw a.read refl
 
 -- there are some where it has some
-pub some-left : (schema : List Field) (text : List ℕ) (cursor left : ℕ) (rows seen : List (List AnyValue)) → AreRowsAt schema text cursor left rows → rows_in schema (take left (records_at text cursor)) ≡ seen → 0 < length seen → 0 < left
+pub some-left : (schema : List Field) (text : List ℕ) (cursor left : ℕ) (rows seen : List (List AnyValue)) → AreRowsAt schema text cursor left rows → record_rows schema (take left (records_at text cursor)) ≡ seen → 0 < length seen → 0 < left
 some-left schema text cursor left rows seen a e h = omega (arith, a.size, ap length (sym (rows-seen schema text cursor left rows a) ∙ e), h)
 
 -- ---- reading on
@@ -51,15 +51,15 @@ zero-wanted : (o : Option ℕ) → o ≡ Some 0 → is_any_wanted o ≡ false
 zero-wanted o e = rw e refl
 
 -- without rows, and where none is wanted, nothing is left
-pub nothing-wanted : (files : Files) (s : ReaderState) → s.rows ≡ [] → wanted_after s.options.n_rows s.at.rows ≡ Some 0 → left_of files s ≡ no_more
-nothing-wanted files s e h = ap (narrowed s.options s.wanted) (without-rows files s e ∙ none-wanted s.options s.schema files (file_at s.at s.at.file) s.names (zero-wanted (wanted_after s.options.n_rows s.at.rows) h))
+pub nothing-wanted : (files : Files) (s : ReaderState) → s.rows ≡ [] → wanted_after s.options.n_rows s.at.rows ≡ Some 0 → chunks_left files s ≡ no_more
+nothing-wanted files s e h = ap (wanted_chunks s.options s.wanted) (without-rows files s e ∙ none-wanted s.options s.schema files (file_at s.at s.at.file) s.names (zero-wanted (wanted_after s.options.n_rows s.at.rows) h))
 
 -- a file that was found has what was left
 pub found-left : (told : Option Files) (options : CsvReadOptions) (schema : List Field) (wanted : List Bool) (names : List (List ℕ)) (last : SourcePlace) (i : ℕ) (f : FileText) (rows : List (List AnyValue))
     → (h : IsFound options schema told names last i f) → rows ≡ h.loaded.rows → is_any_wanted (wanted_after options.n_rows last.rows) ≡ true
     → IfSome told (λ files.
-    left_of files (record { schema = schema; wanted = wanted; options = options; at = file_at last i; file = get_or names (i + 1 - 1) []; rows = rows; names = drop (i + 1) names })
-    ≡ left_of files (record { schema = schema; wanted = wanted; options = options; at = last; file = []; rows = []; names = drop last.file names }))
+    chunks_left files (record { schema = schema; wanted = wanted; options = options; at = file_at last i; file = get_or names (i + 1 - 1) []; rows = rows; names = drop (i + 1) names })
+    ≡ chunks_left files (record { schema = schema; wanted = wanted; options = options; at = last; file = []; rows = []; names = drop last.file names }))
 found-left None options schema wanted names last i f rows h e w = tt
 found-left (Some files) options schema wanted names last i f rows h e w =
     let name : List ℕ = get_or names i [] in
@@ -67,13 +67,13 @@ found-left (Some files) options schema wanted names last i f rows h e w =
     let read : file_rows options schema (file_at last i) (file_of files name) ≡ Ok own = ap (file_rows options schema (file_at last i)) h.loaded.whole ∙ h.loaded.wanted in
     let next = next-rows options schema files (file_at last i) (drop i names) (drop (i + 1) names) name own (drop_more names i [] h.within) w read in
     let same : i + 1 - 1 ≡ i = omega arith in
-    ap (narrowed options wanted) (ap (λ (k : ℕ). whole_left files (record { schema = schema; wanted = wanted; options = options; at = file_at last i; file = get_or names k []; rows = rows; names = drop (i + 1) names })) same
+    ap (wanted_chunks options wanted) (ap (λ (k : ℕ). whole_left files (record { schema = schema; wanted = wanted; options = options; at = file_at last i; file = get_or names k []; rows = rows; names = drop (i + 1) names })) same
     ∙ ap (λ (t : List (List AnyValue)). whole_left files (record { schema = schema; wanted = wanted; options = options; at = file_at last i; file = name; rows = t; names = drop (i + 1) names })) e
     ∙ sym (without-rows files (record { schema = schema; wanted = wanted; options = options; at = last; file = []; rows = []; names = drop last.file names }) refl ∙ h.passed ∙ next))
 
 -- without rows it doesn't matter whose they are not
-pub behind-rows : (files : Files) (s : ReaderState) → s.rows ≡ [] → left_of files s ≡ left_of files (record { schema = s.schema; wanted = s.wanted; options = s.options; at = s.at; file = []; rows = []; names = s.names })
-behind-rows files s e = ap (narrowed s.options s.wanted) (without-rows files s e ∙ sym (without-rows files (record { schema = s.schema; wanted = s.wanted; options = s.options; at = s.at; file = []; rows = []; names = s.names }) refl))
+pub behind-rows : (files : Files) (s : ReaderState) → s.rows ≡ [] → chunks_left files s ≡ chunks_left files (record { schema = s.schema; wanted = s.wanted; options = s.options; at = s.at; file = []; rows = []; names = s.names })
+behind-rows files s e = ap (wanted_chunks s.options s.wanted) (without-rows files s e ∙ sym (without-rows files (record { schema = s.schema; wanted = s.wanted; options = s.options; at = s.at; file = []; rows = []; names = s.names }) refl))
 
 -- ---- giving a chunk
 
@@ -103,11 +103,11 @@ chunk_later at count = record { file = at.file; chunks = at.chunks + 1; rows = a
 
 -- the first chunk goes, and the rest is left
 pub first-goes : (files : Files) (options : CsvReadOptions) (schema : List Field) (wanted : List Bool) (at : SourcePlace) (file : List ℕ) (names : List (List ℕ)) (rows : List (List AnyValue)) → 0 < options.chunk_size → 0 < length rows
-    → left_of files (record { schema = schema; wanted = wanted; options = options; at = at; file = file; rows = rows; names = names })
-    ≡ chunks_then (given_chunk options wanted schema file at (take options.chunk_size rows) ∷ []) (left_of files (record { schema = schema; wanted = wanted; options = options; at = chunk_later at (length (take options.chunk_size rows)); file = file; rows = drop options.chunk_size rows; names = names }))
+    → chunks_left files (record { schema = schema; wanted = wanted; options = options; at = at; file = file; rows = rows; names = names })
+    ≡ chunks_then (given_chunk options wanted schema file at (take options.chunk_size rows) ∷ []) (chunks_left files (record { schema = schema; wanted = wanted; options = options; at = chunk_later at (length (take options.chunk_size rows)); file = file; rows = drop options.chunk_size rows; names = names }))
 first-goes files options schema wanted at file names rows p h =
     let n : ℕ = options.chunk_size in
-    ap (narrowed options wanted) (ap (λ (t : List DataChunk). chunks_then t (csv_chunks_from options schema files (behind options at rows) names)) (first-chunk options schema file at rows p h)
+    ap (wanted_chunks options wanted) (ap (λ (t : List DataChunk). chunks_then t (csv_chunks_from options schema files (behind options at rows) names)) (first-chunk options schema file at rows p h)
     ∙ ap (λ (q : SourcePlace). chunks_then (chunk_of_rows options schema file at (take n rows) ∷ file_chunks options schema file (chunk_later at (length (take n rows))) (drop n rows)) (csv_chunks_from options schema files q names)) (behind-rest options at rows p h))
 
 -- the numbers of the rows behind a chunk
@@ -186,7 +186,7 @@ all-chunks options (c ∷ cs) =
     let rest = all-chunks options cs in
     λ i. record { chunk_index = c.chunk_index; frame = record { height = c.frame.height; columns = one i } } ∷ rest i
 
-pub all-given : (options : CsvReadOptions) (given : CsvChunks) → narrowed options [] given ≡ given
+pub all-given : (options : CsvReadOptions) (given : CsvChunks) → wanted_chunks options [] given ≡ given
 all-given options given = ap (λ (t : List DataChunk). record { chunks = t; stop = given.stop }) (all-chunks options given.chunks)
 
 -- before any file is read, all of them are left

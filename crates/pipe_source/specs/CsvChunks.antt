@@ -148,18 +148,18 @@ source_frame options schema file given rows = record {
 }
 
 -- the chunks of pieces of a file's rows, from so many chunks and rows on
-abbrev pub chunks_from :
+abbrev pub chunks_of_pieces :
     CsvReadOptions → List Field → List ℕ → ℕ → ℕ → List (List (List AnyValue)) → List DataChunk
-chunks_from options schema file i given [] = []
-chunks_from options schema file i given (p ∷ ps) =
+chunks_of_pieces options schema file i given [] = []
+chunks_of_pieces options schema file i given (p ∷ ps) =
     record { chunk_index = i % 2 ^ 32; frame = source_frame options schema file given p }
-    ∷ chunks_from options schema file (i + 1) (given + length p) ps
+    ∷ chunks_of_pieces options schema file (i + 1) (given + length p) ps
 
 -- the chunks of a file's rows at a place
 abbrev pub file_chunks :
     CsvReadOptions → List Field → List ℕ → SourcePlace → List (List AnyValue) → List DataChunk
 file_chunks options schema file at rows =
-    chunks_from options schema file at.chunks at.rows (pieces options.chunk_size rows)
+    chunks_of_pieces options schema file at.chunks at.rows (pieces options.chunk_size rows)
 
 -- the place of the next file, behind some rows of one
 abbrev pub behind : CsvReadOptions → SourcePlace → List (List AnyValue) → SourcePlace
@@ -181,8 +181,8 @@ wanted_fields options schema wanted =
     chosen (source_wanted options wanted) (source_fields options schema)
 
 -- what a source gives of its wanted columns
-abbrev pub narrowed : CsvReadOptions → List Bool → CsvChunks → CsvChunks
-narrowed options wanted given = record {
+abbrev pub wanted_chunks : CsvReadOptions → List Bool → CsvChunks → CsvChunks
+wanted_chunks options wanted given = record {
   chunks = narrowed_chunks (source_wanted options wanted) given.chunks;
   stop = given.stop;
 }

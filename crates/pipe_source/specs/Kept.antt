@@ -9,7 +9,7 @@ use Rattle.pipe_io.specs.declared.whole_file.TheConstants.{MOST_FILE_BYTES}
 use Rattle.pipe_scan.specs.Records.{records_at}
 use Rattle.pipe_source.specs.CsvChunks.{is_numbered, source_frame, source_wanted}
 use Rattle.pipe_source.specs.Reader.{ReaderState}
-use Rattle.pipe_source.specs.Rows.{AreRowsAt, IsStart, rows_in}
+use Rattle.pipe_source.specs.Rows.{AreRowsAt, IsStart, record_rows}
 use Rattle.pipe_source.specs.declared.kept_text.KeptText.{KeptText}
 use Rattle.pipe_source.specs.declared.read_options.CsvReadOptions.{CsvReadOptions}
 use Rattle.pipe_source.specs.declared.reading.Reading.{Reading}
@@ -27,13 +27,13 @@ IsKeptSchema schema wanted None = wanted ≡ []
 IsKeptSchema schema wanted (Some kept) = kept ≡ chosen wanted schema
 
 -- what is read has chunks of some rows, and wants no column past its schema
-pub record IsReading (what : Reading) : Type 0 where
+pub record IsFitReading (what : Reading) : Type 0 where
   pub size : 0 < what.options.chunk_size
   pub kept : IsKeptSchema what.schema what.wanted.items what.kept
   pub few : length what.wanted.items ≤ length what.schema
 
 -- a place in files that have few rows and few chunks
-pub record IsPlace (what : Reading) (at : SourcePlace) : Type 0 where
+pub record IsSourcePlace (what : Reading) (at : SourcePlace) : Type 0 where
   pub files : at.file ≤ length what.names.items
   pub rows : at.rows ≤ at.file * MOST_FILE_BYTES
   pub chunks : at.chunks ≤ at.file * MOST_FILE_BYTES
@@ -58,15 +58,15 @@ cursor_of k = get_or k.starts.items k.chunk 0
 
 -- the rows that are left of a text
 abbrev pub rows_kept : Reading → KeptText → List (List AnyValue)
-rows_kept what k = rows_in what.schema (take k.left (records_at k.text.items (cursor_of k)))
+rows_kept what k = record_rows what.schema (take k.left (records_at k.text.items (cursor_of k)))
 
 -- the name of its file
 abbrev pub name_kept : Reading → KeptText → List ℕ
 name_kept what k = get_or what.names.items (k.at.file - 1) []
 
 -- what a reader has still to give
-abbrev pub state_of : Reading → KeptText → ReaderState
-state_of what k = record {
+abbrev pub kept_state : Reading → KeptText → ReaderState
+kept_state what k = record {
   schema = what.schema;
   wanted = what.wanted.items;
   options = what.options;
@@ -85,7 +85,7 @@ pub record AreStartsFrom
   pub all : left ≤ (length starts - chunk) * size
 
 -- so many rows are left of a text, at a place behind which there are few
-pub record IsKept (what : Reading) (k : KeptText) : Type 0 where
+pub record HasRowsLeft (what : Reading) (k : KeptText) : Type 0 where
   pub files : k.at.file ≤ length what.names.items
   pub rows : List (List AnyValue)
   pub placed : AreRowsAt what.schema k.text.items (cursor_of k) k.left rows
@@ -113,8 +113,8 @@ given_chunk options wanted schema file at rows =
     narrowed_chunk (source_wanted options wanted) (chunk_of_rows options schema file at rows)
 
 -- the place behind n chunks of a size
-abbrev pub place_at : SourcePlace → ℕ → ℕ → SourcePlace
-place_at at size n =
+abbrev pub place_behind : SourcePlace → ℕ → ℕ → SourcePlace
+place_behind at size n =
     record { file = at.file; chunks = at.chunks + n; rows = at.rows + n * size }
 
 -- the rows of chunk n of a size, counted from 0
@@ -122,15 +122,15 @@ abbrev pub piece_at : ℕ → ℕ → List (List AnyValue) → List (List AnyVal
 piece_at size n rows = take size (drop (n * size) rows)
 
 -- chunk n of the rows that are left of a text, of its wanted columns
-abbrev pub chunk_at : Reading → KeptText → ℕ → DataChunk
-chunk_at what k n =
+abbrev pub kept_chunk : Reading → KeptText → ℕ → DataChunk
+kept_chunk what k n =
     given_chunk what.options what.wanted.items what.schema (name_kept what k)
-    (place_at k.at what.options.chunk_size n)
+    (place_behind k.at what.options.chunk_size n)
     (piece_at what.options.chunk_size n (rows_kept what k))
 
 -- its first n chunks
 abbrev pub chunks_at : Reading → KeptText → ℕ → List DataChunk
-chunks_at what k n = map (chunk_at what k) (range_with_len 0 n)
+chunks_at what k n = map (kept_chunk what k) (range_with_len 0 n)
 
 -- what is left of a text behind so many chunks of it
 pub record IsAdvanced (size n : ℕ) (old new : KeptText) : Type 0 where

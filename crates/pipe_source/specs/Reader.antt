@@ -8,7 +8,7 @@ use Rattle.pipe_csv.specs.declared.csv_error.CsvError.{CsvError}
 use Rattle.pipe_csv.specs.declared.csv_error.CsvError.TheVariants as csv_error
 use Rattle.pipe_io.specs.Files.{Files}
 use Rattle.pipe_io.specs.declared.whole_file.TheConstants.{MOST_FILE_BYTES}
-use Rattle.pipe_source.specs.CsvChunks.{CsvChunks, Stop, behind, chunks_then, csv_chunks_from, file_chunks, misfit, narrowed, no_more, too_large, wanted_fields}
+use Rattle.pipe_source.specs.CsvChunks.{CsvChunks, Stop, behind, chunks_then, csv_chunks_from, file_chunks, misfit, wanted_chunks, no_more, too_large, wanted_fields}
 use Rattle.pipe_source.specs.declared.read_options.CsvReadOptions.{CsvReadOptions}
 use Rattle.pipe_source.specs.declared.source_place.SourcePlace.{SourcePlace}
 
@@ -35,8 +35,8 @@ whole_left files r =
     (csv_chunks_from r.options r.schema files (behind r.options r.at r.rows) r.names)
 
 -- the chunks that are left of files, of their wanted columns, and where they stop
-abbrev pub left_of : Files → ReaderState → CsvChunks
-left_of files r = narrowed r.options r.wanted (whole_left files r)
+abbrev pub chunks_left : Files → ReaderState → CsvChunks
+chunks_left files r = wanted_chunks r.options r.wanted (whole_left files r)
 
 -- nothing but a stop
 abbrev pub stopped : Stop → CsvChunks

@@ -17,8 +17,8 @@ use Rattle.pipe_source.specs.declared.source_place.SourcePlace.{SourcePlace}
 use Rattle.pipe_source.specs.declared.file_text.FileText.{FileText}
 
 -- the rows of records of which each reads
-abbrev pub rows_in : List Field → List (List (List ℕ)) → List (List AnyValue)
-rows_in schema records = those (read_rows 1 1 schema records) where
+abbrev pub record_rows : List Field → List (List (List ℕ)) → List (List AnyValue)
+record_rows schema records = those (read_rows 1 1 schema records) where
   those : Result (List (List AnyValue)) Misfit → List (List AnyValue)
   those (Ok rows) = rows
   those (Err m) = []

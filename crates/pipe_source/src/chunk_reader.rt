@@ -5,10 +5,10 @@ ghost use Rattle.pipe_columns.specs.Causes.{HasCause};
 ghost use Rattle.pipe_columns.specs.Frame.{FitsSchema};
 ghost use Rattle.pipe_io.specs.Files.{Files};
 ghost use Rattle.pipe_io.specs.Tried.{AreTried, TriedFront};
-ghost use Rattle.pipe_source.specs.CsvChunks.{chunks_then, csv_chunks, narrowed, no_more, source_fields};
+ghost use Rattle.pipe_source.specs.CsvChunks.{chunks_then, csv_chunks, wanted_chunks, no_more, source_fields};
 ghost use Rattle.pipe_source.specs.Next.{IsLoadedNext};
 ghost use Rattle.pipe_source.specs.Rounds.{StopsWithin};
-ghost use Rattle.pipe_source.specs.Reader.{AreFew, Gives, StopsAt, given_fields, left_of};
+ghost use Rattle.pipe_source.specs.Reader.{AreFew, Gives, StopsAt, given_fields, chunks_left};
 ghost use Rattle.pipe_csv.specs.declared.csv_error.CsvError.TheVariants as csv_error;
 
 use crate::kept_text::KeptText;
@@ -35,14 +35,14 @@ pub struct ChunkReader {
 }
 
 impl Model for ChunkReader {
-    ghost use Rattle.pipe_source.specs.Kept.{IsKept, IsReading, state_of};
+    ghost use Rattle.pipe_source.specs.Kept.{HasRowsLeft, IsFitReading, kept_state};
     ghost use Rattle.pipe_source.specs.Reader.{ReaderState};
 
     ghost Value = { ReaderState };
 
-    ghost view = { λ r. state_of r.what r.text };
+    ghost view = { λ r. kept_state r.what r.text };
 
-    ghost invariant = { λ r. IsReading r.what × IsKept r.what r.text };
+    ghost invariant = { λ r. IsFitReading r.what × HasRowsLeft r.what r.text };
 }
 
 /// Before any file.
@@ -62,7 +62,7 @@ impl ChunkReader {
     ) -> ChunkReader
         requires size { 0 < options.chunk_size }
         ensures left { (files : Files)
-            → left_of files result ≡ csv_chunks files names.items schema options }
+            → chunks_left files result ≡ csv_chunks files names.items schema options }
         ensures names { result.names ≡ names.items }
         ensures schema { result.schema ≡ schema }
         ensures options { result.options ≡ options }
@@ -94,8 +94,8 @@ impl ChunkReader {
         requires size { 0 < options.chunk_size }
         requires wanted { vec_len wanted ≤ length schema }
         ensures left { IfOk result (λ r. (files : Files)
-            → left_of files r
-            ≡ narrowed options wanted.items (csv_chunks files names.items schema options)) }
+            → chunks_left files r
+            ≡ wanted_chunks options wanted.items (csv_chunks files names.items schema options)) }
         ensures names { IfOk result (λ r. r.names ≡ names.items) }
         ensures schema { IfOk result (λ r. r.schema ≡ schema) }
         ensures wanted { IfOk result (λ r. r.wanted ≡ wanted.items) }
@@ -122,11 +122,11 @@ impl ChunkReader {
         requires { self.old.rows ≡ [] }
         ensures told { I.told input.new ≡ I.told input.old }
         ensures same { IfSome (I.told input.old)
-            (λ files. left_of files self.new ≡ left_of files self.old) }
+            (λ files. chunks_left files self.new ≡ chunks_left files self.old) }
         ensures found { IfOk result
             (λ b. IsLoadedNext b (I.told input.old) self.old self.new) }
         ensures stopped { IfErr result (λ e. IfSome (I.told input.old)
-            (λ files. StopsAt e (left_of files self.old))) }
+            (λ files. StopsAt e (chunks_left files self.old))) }
         ensures tried { TriedFront (I.tried input.old) (I.tried input.new) self.old.names }
         ensures gone { IfOk result (λ b. b ≡ true
             → AreTried (I.tried input.old) (I.tried input.new) self.old.names self.new.names) }
@@ -153,7 +153,7 @@ impl ChunkReader {
     fn take_chunk(&mut self, alloc: Global) -> Result<DataChunk, CsvError>
         requires { 0 < length self.old.rows }
         ensures given { IfOk result (λ c. (files : Files)
-            → Gives (Some c) (left_of files self.old) (left_of files self.new)) }
+            → Gives (Some c) (chunks_left files self.old) (chunks_left files self.new)) }
         ensures as_before { OnErr result (self.new ≡ self.old) }
         ensures memory { IfErr result (λ e. e ≡ csv_error.Memory) }
         ensures names { self.new.names ≡ self.old.names }
@@ -186,11 +186,11 @@ impl ChunkReader {
     ) -> Result<Option<DataChunk>, CsvError>
         ensures told { I.told input.new ≡ I.told input.old }
         ensures given { IfOk result (λ o. IfSome (I.told input.old)
-            (λ files. Gives o (left_of files self.old) (left_of files self.new))) }
+            (λ files. Gives o (chunks_left files self.old) (chunks_left files self.new))) }
         ensures stopped { IfErr result (λ e. IfSome (I.told input.old)
-            (λ files. StopsAt e (left_of files self.old))) }
+            (λ files. StopsAt e (chunks_left files self.old))) }
         ensures refused { OnErr result (IfSome (I.told input.old)
-            (λ files. left_of files self.new ≡ left_of files self.old)) }
+            (λ files. chunks_left files self.new ≡ chunks_left files self.old)) }
         ensures as_before { IfErr result (λ e. (e ≡ csv_error.Memory) ⊎ (self.new ≡ self.old)) }
         ensures tried { TriedFront (I.tried input.old) (I.tried input.new) self.old.names }
         ensures gone { IfOk result (λ o. IfSome o (λ _.
@@ -249,12 +249,12 @@ impl ChunkReader {
         requires { 0 < threads }
         ensures told { I.told input.new ≡ I.told input.old }
         ensures given { IfOk result (λ v. IfSome (I.told input.old) (λ files.
-            left_of files self.old ≡ chunks_then v.items (left_of files self.new))) }
+            chunks_left files self.old ≡ chunks_then v.items (chunks_left files self.new))) }
         ensures few { IfOk result (λ v. length v.items ≤ count) }
         ensures over { IfOk result (λ v. length v.items < count
-            → IfSome (I.told input.old) (λ files. left_of files self.new ≡ no_more)) }
+            → IfSome (I.told input.old) (λ files. chunks_left files self.new ≡ no_more)) }
         ensures stopped { IfErr result (λ e. IfSome (I.told input.old)
-            (λ files. StopsWithin count e.0 e.1.items (left_of files self.old))) }
+            (λ files. StopsWithin count e.0 e.1.items (chunks_left files self.old))) }
         ensures tried { TriedFront (I.tried input.old) (I.tried input.new) self.old.names }
         ensures gone { IfOk result (λ v. count ≤ length v.items
             → AreTried (I.tried input.old) (I.tried input.new) self.old.names self.new.names) }

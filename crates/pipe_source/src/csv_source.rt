@@ -6,8 +6,8 @@ ghost use Rattle.pipe_columns.specs.Chunks.{GaveFirst};
 ghost use Rattle.pipe_columns.specs.declared.source.SourceResult.TheVariants as source;
 ghost use Rattle.pipe_io.specs.Tried.{AreTried, TriedFront};
 ghost use Rattle.pipe_csv.specs.declared.csv_error.CsvError.TheVariants as csv_error;
-ghost use Rattle.pipe_source.specs.CsvChunks.{chunks_then, csv_chunks, narrowed, no_more};
-ghost use Rattle.pipe_source.specs.Reader.{StopsAt, left_of};
+ghost use Rattle.pipe_source.specs.CsvChunks.{chunks_then, csv_chunks, wanted_chunks, no_more};
+ghost use Rattle.pipe_source.specs.Reader.{StopsAt, chunks_left};
 ghost use Rattle.pipe_source.specs.Rounds.{StopsWithin};
 ghost use Rattle.pipe_source.specs.Source.{AreLeft, GivesOne};
 
@@ -43,7 +43,7 @@ impl<'a, I: InputFiles> CsvSource<'a, I> {
         ensures tried { I.tried result.input.now ≡ I.tried input.old }
         ensures names { result.reader.names ≡ names.items }
         ensures left { IfSome (I.told input.old) (λ files.
-            left_of files result.reader ≡ csv_chunks files names.items schema options) }
+            chunks_left files result.reader ≡ csv_chunks files names.items schema options) }
     {
         let reader = ChunkReader::new(alloc, names, schema, options);
         CsvSource {
@@ -72,8 +72,8 @@ impl<'a, I: InputFiles> CsvSource<'a, I> {
         ensures tried { IfOk result (λ s. I.tried s.input.now ≡ I.tried input.old) }
         ensures names { IfOk result (λ s. s.reader.names ≡ names.items) }
         ensures left { IfOk result (λ s. IfSome (I.told input.old) (λ files.
-            left_of files s.reader
-            ≡ narrowed options wanted.items (csv_chunks files names.items schema options))) }
+            chunks_left files s.reader
+            ≡ wanted_chunks options wanted.items (csv_chunks files names.items schema options))) }
     {
         let reader = ChunkReader::of_columns(alloc, names, schema, options, wanted)?;
         Ok(CsvSource {
@@ -95,14 +95,14 @@ impl<'a, I: InputFiles> CsvSource<'a, I> {
     ) -> Result<Vec<DataChunk>, (CsvError, Vec<DataChunk>)>
         requires { 0 < threads }
         ensures given { IfOk result (λ v. IfSome (I.told self.old.input.now) (λ files.
-            left_of files self.old.reader
-            ≡ chunks_then v.items (left_of files self.new.reader))) }
+            chunks_left files self.old.reader
+            ≡ chunks_then v.items (chunks_left files self.new.reader))) }
         ensures few { IfOk result (λ v. length v.items ≤ count) }
         ensures over { IfOk result (λ v. length v.items < count
             → IfSome (I.told self.old.input.now)
-            (λ files. left_of files self.new.reader ≡ no_more)) }
+            (λ files. chunks_left files self.new.reader ≡ no_more)) }
         ensures stopped { IfErr result (λ e. IfSome (I.told self.old.input.now)
-            (λ files. StopsWithin count e.0 e.1.items (left_of files self.old.reader))) }
+            (λ files. StopsWithin count e.0 e.1.items (chunks_left files self.old.reader))) }
         ensures tried { TriedFront (I.tried self.old.input.now) (I.tried self.new.input.now)
             self.old.reader.names }
         ensures gone { IfOk result (λ v. count ≤ length v.items
@@ -131,11 +131,11 @@ impl<I: InputFiles> Source for CsvSource<'_, I> {
             (AreLeft (I.told self.old.input.now) self.old.reader)
             (AreLeft (I.told self.new.input.now) self.new.reader)) }
         ensures one { IfOk result (λ r. IfSome (I.told self.old.input.now) (λ files.
-            GivesOne r (left_of files self.old.reader) (left_of files self.new.reader))) }
+            GivesOne r (chunks_left files self.old.reader) (chunks_left files self.new.reader))) }
         ensures stopped { IfErr result (λ e. IfSome (I.told self.old.input.now)
-            (λ files. StopsAt e (left_of files self.old.reader))) }
+            (λ files. StopsAt e (chunks_left files self.old.reader))) }
         ensures refused { OnErr result (IfSome (I.told self.old.input.now)
-            (λ files. left_of files self.new.reader ≡ left_of files self.old.reader)) }
+            (λ files. chunks_left files self.new.reader ≡ chunks_left files self.old.reader)) }
         ensures as_before { IfErr result (λ e.
             (e ≡ csv_error.Memory) ⊎ (self.new.reader ≡ self.old.reader)) }
         ensures tried { TriedFront (I.tried self.old.input.now) (I.tried self.new.input.now)

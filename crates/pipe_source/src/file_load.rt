@@ -3,7 +3,7 @@
 ghost use Rattle.std.specs.Prelude.{◌≡◌, ◌≤◌, ◌<◌, ◌^◌, ◌↔◌, ◌+◌, ◌++◌, ◌∷◌, [], drop, IfErr, IfOk, IfSome, IsErrOf, length, true};
 ghost use Rattle.pipe_columns.specs.Causes.{HasCause};
 ghost use Rattle.pipe_csv.specs.declared.csv_error.CsvError.TheVariants as csv_error;
-ghost use Rattle.pipe_io.specs.Files.{HasNone, IsLarger, IsWhole};
+ghost use Rattle.pipe_io.specs.Files.{HasNoFile, IsLarger, IsWhole};
 ghost use Rattle.pipe_io.specs.Tried.{AreTried, TriedFront};
 ghost use Rattle.pipe_io.specs.declared.whole_file.FileEnd.TheVariants as file_end;
 ghost use Rattle.pipe_source.specs.CsvChunks.{is_any_wanted, is_numbered, wanted_after};
@@ -53,7 +53,7 @@ pub(crate) fn read_text<I: InputFiles, L: Looks>(
     ensures told { I.told input.new ≡ I.told input.old }
     ensures bytes { IfOk result (λ v. IsWhole (I.told input.old) name.now v.items) }
     ensures small { IfOk result (λ v. length v.items ≤ MOST_FILE_BYTES) }
-    ensures missing { IsErrOf result file_end.Missing → HasNone (I.told input.old) name.now }
+    ensures missing { IsErrOf result file_end.Missing → HasNoFile (I.told input.old) name.now }
     ensures large { IsErrOf result file_end.TooLarge
         → IsLarger (I.told input.old) name.now MOST_FILE_BYTES }
     ensures tried { I.tried input.new ≡ I.tried input.old ++ name.now ∷ [] }

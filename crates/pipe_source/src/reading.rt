@@ -4,9 +4,9 @@ ghost use Rattle.std.specs.Prelude.{◌≡◌, ◌<◌, ◌*◌, IfErr, IfOk, If
 ghost use Rattle.pipe_columns.specs.Causes.{HasCause};
 ghost use Rattle.pipe_csv.specs.declared.csv_error.CsvError.TheVariants as csv_error;
 ghost use Rattle.pipe_io.specs.Tried.{AreTried, TriedFront};
-ghost use Rattle.pipe_source.specs.Kept.{IsKept, IsPlace, IsReading, chunk_at, state_behind};
+ghost use Rattle.pipe_source.specs.Kept.{HasRowsLeft, IsSourcePlace, IsFitReading, kept_chunk, state_behind};
 ghost use Rattle.pipe_source.specs.Next.{IsNextText};
-ghost use Rattle.pipe_source.specs.Reader.{StopsAt, left_of};
+ghost use Rattle.pipe_source.specs.Reader.{StopsAt, chunks_left};
 ghost use Rattle.narrow_columns.specs.Wanted.{chosen};
 
 use crate::column_fill::{column_fills, values_of};
@@ -40,7 +40,7 @@ pub(crate) struct Reading {
 impl Reading {
     /// The fields that are wanted.
     fn kept_fields(&self) -> &[Field]
-        requires { IsReading self.now }
+        requires { IsFitReading self.now }
         ensures { result.now ≡ chosen self.now.wanted.items self.now.schema }
     {
         match &self.kept {
@@ -58,12 +58,12 @@ impl Reading {
         last: SourcePlace,
     ) -> Result<Option<KeptText>, CsvError>
         requires ready { L.ready }
-        requires reading { IsReading self.now }
-        requires place { IsPlace self.now last }
+        requires reading { IsFitReading self.now }
+        requires place { IsSourcePlace self.now last }
         ensures told { I.told input.new ≡ I.told input.old }
         ensures found { IfOk result (λ o. IsNextText self.now (I.told input.old) last o) }
         ensures stopped { IfErr result (λ e. IfSome (I.told input.old)
-            (λ files. StopsAt e (left_of files (state_behind self.now last)))) }
+            (λ files. StopsAt e (chunks_left files (state_behind self.now last)))) }
         ensures tried { TriedFront (I.tried input.old) (I.tried input.new)
             (state_behind self.now last).names }
         ensures gone { IfOk result (λ o. IfSome o (λ k. AreTried (I.tried input.old)
@@ -110,10 +110,10 @@ impl Reading {
         n: usize,
         spent: Option<DataChunk>,
     ) -> Result<DataChunk, CsvError>
-        requires reading { IsReading self.now }
-        requires kept { IsKept self.now text.now }
+        requires reading { IsFitReading self.now }
+        requires kept { HasRowsLeft self.now text.now }
         requires some { n * self.now.options.chunk_size < text.now.left }
-        ensures chunk { IfOk result (λ c. c ≡ chunk_at self.now text.now n) }
+        ensures chunk { IfOk result (λ c. c ≡ kept_chunk self.now text.now n) }
         ensures memory { IfErr result (λ e. e ≡ csv_error.Memory) }
     {
         let left = text.left;

@@ -7,8 +7,8 @@ ghost use Rattle.pipe_columns.specs.Frame.{FitsSchema};
 ghost use Rattle.pipe_csv.specs.declared.csv_error.CsvError.TheVariants as csv_error;
 ghost use Rattle.pipe_io.specs.Tried.{AreTried, TriedFront};
 ghost use Rattle.pipe_source.specs.CsvChunks.{chunks_then, no_more};
-ghost use Rattle.pipe_source.specs.Kept.{IsKept, IsPlace, IsReading, chunk_at, chunks_at, state_behind};
-ghost use Rattle.pipe_source.specs.Reader.{StopsAt, left_of};
+ghost use Rattle.pipe_source.specs.Kept.{HasRowsLeft, IsSourcePlace, IsFitReading, kept_chunk, chunks_at, state_behind};
+ghost use Rattle.pipe_source.specs.Reader.{StopsAt, chunks_left};
 ghost use Rattle.pipe_source.specs.ReadOn.{HasReadNextText, HasReadOn, state_ahead};
 ghost use Rattle.pipe_source.specs.Rounds.{StopsWithin};
 
@@ -93,10 +93,10 @@ fn places_for(
 impl Reading {
     /// Reads a chunk of the rows that are left of a text into its place.
     fn read_one(&self, alloc: Global, text: &KeptText, n: usize, place: &mut ChunkPlace)
-        requires reading { IsReading self.now }
-        requires kept { IsKept self.now text.now }
+        requires reading { IsFitReading self.now }
+        requires kept { HasRowsLeft self.now text.now }
         requires some { n * self.now.options.chunk_size < text.now.left }
-        ensures { IfOk place.new.made (λ c. c ≡ chunk_at self.now text.now n) }
+        ensures { IfOk place.new.made (λ c. c ≡ kept_chunk self.now text.now n) }
     {
         let spent = place.spent.take();
         place.made = self.chunk_of(alloc, text, n, spent);
@@ -112,14 +112,14 @@ impl Reading {
         threads: usize,
         places: &mut [ChunkPlace],
     )
-        requires reading { IsReading self.now }
-        requires kept { IsKept self.now text.now }
+        requires reading { IsFitReading self.now }
+        requires kept { HasRowsLeft self.now text.now }
         requires some { (n : ℕ) → n < length places.old
             → n * self.now.options.chunk_size < text.now.left }
         requires threads { 0 < threads }
         ensures count { length places.new ≡ length places.old }
         ensures each { (n : ℕ) (d : _) → n < length places.old
-            → IfOk (slice_index_or places.new n d).made (λ c. c ≡ chunk_at self.now text.now n) }
+            → IfOk (slice_index_or places.new n d).made (λ c. c ≡ kept_chunk self.now text.now n) }
     {
         for_each_beside(
             rt,
@@ -140,8 +140,8 @@ impl Reading {
         threads: usize,
         spent: &mut Vec<DataChunk>,
     ) -> Result<Vec<DataChunk>, AllocError>
-        requires reading { IsReading self.now }
-        requires kept { IsKept self.now text.now }
+        requires reading { IsFitReading self.now }
+        requires kept { HasRowsLeft self.now text.now }
         requires some { text.now.chunk + count ≤ length text.now.starts.items }
         requires threads { 0 < threads }
         ensures { IfOk result (λ v. v.items ≡ chunks_at self.now text.now count) }
@@ -166,15 +166,15 @@ impl Reading {
         threads: usize,
         spent: &mut Vec<DataChunk>,
     ) -> Result<Option<KeptText>, CsvError>
-        requires reading { IsReading self.now }
-        requires place { IsPlace self.now last }
+        requires reading { IsFitReading self.now }
+        requires place { IsSourcePlace self.now last }
         requires some { length chunks.old.items < count }
         requires threads { 0 < threads }
         ensures told { I.told input.new ≡ I.told input.old }
         ensures read { IfOk result (λ o. HasReadNextText self.now (I.told input.old) last
             chunks.old.items chunks.new.items count o) }
         ensures stopped { IfErr result (λ e. IfSome (I.told input.old)
-            (λ files. StopsAt e (left_of files (state_behind self.now last)))) }
+            (λ files. StopsAt e (chunks_left files (state_behind self.now last)))) }
         ensures kept { IfErr result (λ e. (e ≡ csv_error.Memory)
             ⊎ (chunks.new.items ≡ chunks.old.items)) }
         ensures tried { TriedFront (I.tried input.old) (I.tried input.new)
@@ -220,8 +220,8 @@ impl Reading {
         threads: usize,
         spent: &mut Vec<DataChunk>,
     ) -> Result<Option<KeptText>, CsvError>
-        requires reading { IsReading self.now }
-        requires place { IsPlace self.now first }
+        requires reading { IsFitReading self.now }
+        requires place { IsSourcePlace self.now first }
         requires few { length chunks.old.items ≤ count }
         requires threads { 0 < threads }
         ensures told { I.told input.new ≡ I.told input.old }
@@ -230,10 +230,10 @@ impl Reading {
         ensures few { IfOk result (λ _. length chunks.new.items ≤ count) }
         ensures over { IfOk result (λ o. length chunks.new.items < count
             → IfSome (I.told input.old)
-            (λ files. left_of files (state_ahead self.now first o) ≡ no_more)) }
+            (λ files. chunks_left files (state_ahead self.now first o) ≡ no_more)) }
         ensures stopped { IfErr result (λ e. IfSome (I.told input.old)
             (λ files. StopsWithin count e chunks.new.items
-            (chunks_then chunks.old.items (left_of files (state_behind self.now first))))) }
+            (chunks_then chunks.old.items (chunks_left files (state_behind self.now first))))) }
         ensures tried { TriedFront (I.tried input.old) (I.tried input.new)
             (state_behind self.now first).names }
         ensures gone { IfOk result (λ o. count ≤ length chunks.new.items

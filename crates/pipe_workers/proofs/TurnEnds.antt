@@ -21,11 +21,11 @@ use Rattle.pipe_plan.specs.Run.{is_turn_of, Run}
 use Rattle.pipe_plan.proofs.AtEnd.{made-begun, made-turn, pick-next}
 use Rattle.pipe_plan.proofs.Planning.{picks-yes}
 use Rattle.pipe_tables.specs.LocalTable.{Local}
-use Rattle.pipe_global.specs.Shares.{next_pick, picked, raised, share_of, SharesSeen}
+use Rattle.pipe_global.specs.Shares.{next_pick, one_more_pick, raised, share_of, SharesSeen}
 use Rattle.pipe_workers.specs.declared.stop.WorkerStop.{WorkerStop}
 use Rattle.pipe_workers.specs.declared.stop.WorkerStop.TheVariants as stop
 use Rattle.pipe_workers.specs.Steps.{after_action, AreRowsOfTurn, IsAtTurn, IsInTurn, IsNextPick, taken_with}
-use Rattle.pipe_workers.specs.Turns.{AreSharesAtStop, AreSharesBefore, faults_after, IsAfterTurns, IsPartition}
+use Rattle.pipe_workers.specs.Turns.{AreSharesAtStop, AreSharesBefore, refused_after, IsAfterTurns, IsPartition}
 use Rattle.pipe_workers.specs.Workers.{TakesTurns}
 use Rattle.pipe_workers.proofs.AtRows.{raised-other, raised-own}
 use Rattle.pipe_workers.proofs.Standing.{before-fronts, made-few, turn-rows}
@@ -100,7 +100,7 @@ pick-is-next r w i c t s takes at turn some here e one =
 
 -- shares with a pick, or without
 abbrev pub with_pick : ℕ → Bool → SharesSeen → SharesSeen
-with_pick partitions b s = if b then picked (raised s (next_pick partitions s)) else s
+with_pick partitions b s = if b then one_more_pick (raised s (next_pick partitions s)) else s
 
 module _ (r : Run) (w i : ℕ) (t : Local) (s : SharesSeen) (takes : TakesTurns r) (lt : i < length r.chunks) (turn : is_turn_of r w i ≡ true)
     (here : IsInTurn r w i (rows_before r w (i + 1)) t s) (count : length s.events ≡ r.limits.partitions) where
@@ -183,7 +183,7 @@ turn-unbegun r w i c t s takes at = record {
 
 -- a worker that stops at the pick
 pub pick-stopped : (r : Run) (w i : ℕ) (end : WorkerStop) (t : Local) (s h : SharesSeen) → TakesTurns r → i < length r.chunks → is_turn_of r w i ≡ true → IsInTurn r w i (rows_before r w (i + 1)) t s
-    → h.worker ≡ s.worker → h.events ≡ s.events → h.faults ≡ faults_after end s.faults → IsPartition r end → AreSharesAtStop r w end h
+    → h.worker ≡ s.worker → h.events ≡ s.events → h.faults ≡ refused_after end s.faults → IsPartition r end → AreSharesAtStop r w end h
 pick-stopped r w i end t s h takes lt turn here worker events faults there = record {
   fronts = record {
     worker = worker ∙ here.worker;
@@ -191,13 +191,13 @@ pick-stopped r w i end t s h takes lt turn here worker events faults there = rec
         let same : share_of h p ≡ share_of s p = ap (λ (l : List ℕ). slice_index_or l p 0) events in
         omega (arith, same, here.events p inside, made-few r w p i (rows_before r w (i + 1)) [] takes lt turn (sym (append-nil (rows_before r w (i + 1)))));
   };
-  faults = faults ∙ ap (faults_after end) here.faults;
+  faults = faults ∙ ap (refused_after end) here.faults;
   partition = there;
 }
 
 -- and as the pick tells it
 pub pick-ends : (r : Run) (w i : ℕ) (t : Local) (s h : SharesSeen) → TakesTurns r → i < length r.chunks → is_turn_of r w i ≡ true → IsInTurn r w i (rows_before r w (i + 1)) t s
-    → h.worker ≡ s.worker → {A : Type 0} (x : Result A WorkerStop) → IfErr x (λ _. h.events ≡ s.events) → IfErr x (λ end. h.faults ≡ faults_after end s.faults) → IfErr x (λ end. IsPartition r end)
+    → h.worker ≡ s.worker → {A : Type 0} (x : Result A WorkerStop) → IfErr x (λ _. h.events ≡ s.events) → IfErr x (λ end. h.faults ≡ refused_after end s.faults) → IfErr x (λ end. IsPartition r end)
     → IfErr x (λ end. AreSharesAtStop r w end h)
 pick-ends r w i t s h takes lt turn here worker (Ok a) events faults there = tt
 pick-ends r w i t s h takes lt turn here worker (Err end) events faults there = pick-stopped r w i end t s h takes lt turn here worker events faults there

@@ -16,7 +16,7 @@ use Rattle.pipe_tables.specs.Buffers.{waiting_in}
 use Rattle.pipe_tables.specs.LocalTable.{Local}
 use Rattle.pipe_global.specs.Partition.{spilled_all}
 use Rattle.pipe_global.specs.Next.{next_event}
-use Rattle.pipe_global.specs.Shares.{next_pick, picked, raised, share_of, SharesSeen}
+use Rattle.pipe_global.specs.Shares.{next_pick, one_more_pick, raised, share_of, SharesSeen}
 use Rattle.pipe_workers.specs.Turns.{IsAfterTurns, no_faults}
 
 -- these are the rows of the chunk at position i, which is a turn of worker w
@@ -63,7 +63,7 @@ IsNextPick r a s =
 -- a worker's shares, out of so many partitions, with the event that an action asks for, if any
 abbrev pub after_action : ℕ → SpillAction → SharesSeen → SharesSeen
 after_action partitions a s =
-    if asks a then picked (raised s (next_pick partitions s)) else s
+    if asks a then one_more_pick (raised s (next_pick partitions s)) else s
 
 -- worker w comes to its turn at the position of a chunk
 pub record IsAtTurn (r : Run) (w i : ℕ) (chunk : DataChunk) (t : Local) (s : SharesSeen)

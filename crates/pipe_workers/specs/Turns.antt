@@ -62,9 +62,9 @@ pub record AreFronts (r : Run) (w : ℕ) (s : SharesSeen) : Type 0 where
   pub events : (p : ℕ) → p < r.limits.partitions → share_of s p ≤ length (plan r w p)
 
 -- the refused puts once a worker has stopped: one more where a store refused it
-abbrev pub faults_after : WorkerStop → List ℕ → List ℕ
-faults_after (stop.Store p) faults = one_more_at faults p
-faults_after stop.Memory faults = faults
+abbrev pub refused_after : WorkerStop → List ℕ → List ℕ
+refused_after (stop.Store p) faults = one_more_at faults p
+refused_after stop.Memory faults = faults
 
 -- a partition that a worker stopped at is one of the run
 abbrev pub IsPartition : Run → WorkerStop → Type 0
@@ -75,7 +75,7 @@ IsPartition r stop.Memory = 0 < r.limits.partitions
 -- or none
 pub record AreSharesAtStop (r : Run) (w : ℕ) (end : WorkerStop) (s : SharesSeen) : Type 0 where
   pub fronts : AreFronts r w s
-  pub faults : s.faults ≡ faults_after end (no_faults r.limits.partitions)
+  pub faults : s.faults ≡ refused_after end (no_faults r.limits.partitions)
   pub partition : IsPartition r end
 
 -- worker w has stopped

@@ -3,7 +3,7 @@
 ghost use Rattle.std.specs.Prelude.{◌≡◌, ◌<◌, IfErr, OnOk};
 ghost use Rattle.pipe_global.specs.Shares.{next_pick};
 ghost use Rattle.pipe_workers.specs.Steps.{after_action, IsNextPick};
-ghost use Rattle.pipe_workers.specs.Turns.{faults_after, IsPartition, no_faults};
+ghost use Rattle.pipe_workers.specs.Turns.{refused_after, IsPartition, no_faults};
 
 use crate::shared::Shared;
 use crate::stop::WorkerStop;
@@ -36,7 +36,7 @@ pub(crate) fn pick<S: SpillStore + Drop, R: Naming, G: Gate, H: Wait>(
     ensures worker { shares.new.worker ≡ shares.old.worker }
     ensures events { IfErr result (λ _. shares.new.events ≡ shares.old.events) }
     ensures faults { IfErr result
-        (λ end. shares.new.faults ≡ faults_after end shares.old.faults) }
+        (λ end. shares.new.faults ≡ refused_after end shares.old.faults) }
     ensures partition { IfErr result (λ end. IsPartition R.run end) }
 {
     let global = shared.global;

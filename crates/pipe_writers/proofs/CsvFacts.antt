@@ -6,7 +6,7 @@ use Rattle.pipe_columns.specs.Frame.{FrameData, row_at}
 use Rattle.pipe_csv.specs.Written.{HasWritten, TextWriter}
 use Rattle.pipe_writers.specs.CsvLines.{csv_line}
 use Rattle.pipe_writers.specs.CsvWritten.{WroteLines}
-use Rattle.pipe_writers.specs.Rows.{rows_of}
+use Rattle.pipe_writers.specs.Rows.{frame_rows}
 use Rattle.pipe_writers.proofs.LineFacts.{goes_on}
 
 -- a writer as it begins behind a text
@@ -31,8 +31,8 @@ taken_out (Some a) (Some b) text items is keeps same =
     sym e ∙ keeps ∙ f ∙ append-nil text
 
 -- a record more
-pub one_line_more : (f : FrameData) (from to : ℕ) (old : List ℕ) (before after : TextWriter) → to < f.height → WroteLines (rows_of f) from to old before
-    → ((text : List ℕ) → HasWritten before text [] → HasWritten after (text ++ csv_line (row_at f.columns to)) []) → WroteLines (rows_of f) from (to + 1) old after
+pub one_line_more : (f : FrameData) (from to : ℕ) (old : List ℕ) (before after : TextWriter) → to < f.height → WroteLines (frame_rows f) from to old before
+    → ((text : List ℕ) → HasWritten before text [] → HasWritten after (text ++ csv_line (row_at f.columns to)) []) → WroteLines (frame_rows f) from (to + 1) old after
 one_line_more f from to old before after within wrote adds =
     (wrote.0 ++ csv_line (row_at f.columns to), adds wrote.0 wrote.1, goes_on csv_line f from to old wrote.0 within wrote.2)
 

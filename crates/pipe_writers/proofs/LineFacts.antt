@@ -11,7 +11,7 @@ use Rattle.std.proofs.lemmas.List.{length-map}
 use Rattle.std.proofs.lemmas.List.{take_more}
 use Rattle.std.proofs.lemmas.List.FromFn.{get_or-map-range_with_len, length-range_with_len}
 use Rattle.pipe_columns.specs.Frame.{FrameData, row_at}
-use Rattle.pipe_writers.specs.Rows.{Row, rows_of}
+use Rattle.pipe_writers.specs.Rows.{Row, frame_rows}
 use Rattle.pipe_writers.specs.LinesAdded.{GoesOn}
 
 -- what is sent whole is a front of all, with something more behind it
@@ -70,7 +70,7 @@ on_err (Ok a) P p = tt
 on_err (Err e) P p = p
 
 -- a frame has a row for each of its height
-pub length-rows : (f : FrameData) → length (rows_of f) ≡ f.height
+pub length-rows : (f : FrameData) → length (frame_rows f) ≡ f.height
 length-rows f = length-map (range_with_len 0 f.height) (row_at f.columns) ∙ length-range_with_len 0 f.height
 
 module _ (line : Row → List ℕ) where
@@ -79,10 +79,10 @@ module _ (line : Row → List ℕ) where
   goes_nowhere rows from old sent head e = e
 
   -- one line more
-  pub goes_on : (f : FrameData) (from to : ℕ) (old now : List ℕ) → to < f.height → GoesOn line (rows_of f) from to old now
-      → GoesOn line (rows_of f) from (to + 1) old (now ++ line (row_at f.columns to))
+  pub goes_on : (f : FrameData) (from to : ℕ) (old now : List ℕ) → to < f.height → GoesOn line (frame_rows f) from to old now
+      → GoesOn line (frame_rows f) from (to + 1) old (now ++ line (row_at f.columns to))
   goes_on f from to old now within g sent head e =
-      let rows = rows_of f in
+      let rows = frame_rows f in
       let row = row_at f.columns to in
       let long = length-rows f in
       let at : get_or rows to row ≡ row = get_or-map-range_with_len (row_at f.columns) 0 f.height to to row within (omega arith) in

@@ -6,8 +6,8 @@ use Rattle.std.proofs.lemmas.List.FromFn.{map-range_with_len_more}
 use Rattle.pipe_columns.specs.declared.any_value.AnyValue.{AnyValue}
 use Rattle.pipe_columns.specs.Frame.{ColumnData, FrameData, all_have_height, appended_all, fields_of, row_at, stacked, unsorted, value_at}
 use Rattle.pipe_writers.specs.Waiting.{waiting_rows}
-use Rattle.pipe_writers.specs.Kept.{StacksOn, with_frame}
-use Rattle.pipe_writers.specs.Rows.{Row, rows_of}
+use Rattle.pipe_writers.specs.Kept.{StacksOn, with_frame_below}
+use Rattle.pipe_writers.specs.Rows.{Row, frame_rows}
 
 -- ---- values of lists that are joined
 
@@ -55,25 +55,25 @@ module _ (f g : FrameData) (same : fields_of g.columns ≡ fields_of f.columns) 
       ∙ ap₂ (λ (rs : List Row) (r : Row). rs ++ r ∷ []) (rows-before n (omega arith)) (row-before f.height g.columns f.columns n tall (omega arith))
       ∙ sym (ap (λ k. map (row_at f.columns) (range_with_len 0 k)) one ∙ map-range_with_len_more (row_at f.columns) 0 n n (omega arith))
 
-  rows-behind : (n : ℕ) → map at (range_with_len 0 (f.height + n)) ≡ rows_of f ++ map (row_at g.columns) (range_with_len 0 n)
+  rows-behind : (n : ℕ) → map at (range_with_len 0 (f.height + n)) ≡ frame_rows f ++ map (row_at g.columns) (range_with_len 0 n)
   rows-behind zero =
       let none : f.height + 0 ≡ f.height = omega arith in
-      ap (λ k. map at (range_with_len 0 k)) none ∙ rows-before f.height (omega arith) ∙ sym (append-nil (rows_of f))
+      ap (λ k. map at (range_with_len 0 k)) none ∙ rows-before f.height (omega arith) ∙ sym (append-nil (frame_rows f))
   rows-behind (suc n) =
       let one : suc n ≡ n + 1 = omega arith in
       let more : f.height + suc n ≡ (f.height + n) + 1 = omega arith in
       ap (λ k. map at (range_with_len 0 k)) more ∙ map-range_with_len_more at 0 (f.height + n) (f.height + n) (omega arith)
       ∙ ap₂ (λ (rs : List Row) (r : Row). rs ++ r ∷ []) (rows-behind n) (row-behind f.height g.columns f.columns (f.height + n) n same tall refl)
-      ∙ append_assoc (rows_of f) (map (row_at g.columns) (range_with_len 0 n)) (row_at g.columns n ∷ [])
-      ∙ ap (λ (rs : List Row). rows_of f ++ rs) (sym (ap (λ k. map (row_at g.columns) (range_with_len 0 k)) one ∙ map-range_with_len_more (row_at g.columns) 0 n n (omega arith)))
+      ∙ append_assoc (frame_rows f) (map (row_at g.columns) (range_with_len 0 n)) (row_at g.columns n ∷ [])
+      ∙ ap (λ (rs : List Row). frame_rows f ++ rs) (sym (ap (λ k. map (row_at g.columns) (range_with_len 0 k)) one ∙ map-range_with_len_more (row_at g.columns) 0 n n (omega arith)))
 
   -- the rows of a frame below another stand behind its rows
-  pub rows_stacked : rows_of (stacked f g) ≡ rows_of f ++ rows_of g
+  pub rows_stacked : frame_rows (stacked f g) ≡ frame_rows f ++ frame_rows g
   rows_stacked = rows-behind g.height
 
 -- the rows of a frame below what was gathered
 pub rows_below : (o : Option FrameData) (first frame : FrameData) → o ≡ Some first → StacksOn o frame → all_have_height first.height first.columns ≡ true
-    → rows_of (with_frame o frame) ≡ waiting_rows o ++ rows_of frame
+    → frame_rows (with_frame_below o frame) ≡ waiting_rows o ++ frame_rows frame
 rows_below None first frame e s tall = cc e
 rows_below (Some f) first frame e s tall =
     let same : first ≡ f = cc in

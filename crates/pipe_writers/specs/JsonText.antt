@@ -6,7 +6,7 @@ use Rattle.serde_json.specs.Written.{compact_text}
 use Rattle.pipe_columns.specs.declared.any_value.AnyValue.{AnyValue}
 use Rattle.pipe_columns.specs.declared.any_value.AnyValue.TheVariants as av
 use Rattle.pipe_columns.specs.Frame.{FrameData}
-use Rattle.pipe_writers.specs.Rows.{Row, rows_of}
+use Rattle.pipe_writers.specs.Rows.{Row, frame_rows}
 
 -- a text as a JSON string, with the escapes of `serde_json`
 abbrev pub json_string : List ℕ → List ℕ
@@ -40,4 +40,4 @@ json_lines names rows = flat_map (json_line names) rows
 
 -- a line for each row of a frame
 abbrev pub json_text : FrameData → List ℕ
-json_text frame = json_lines (map (λ c. c.name) frame.columns) (rows_of frame)
+json_text frame = json_lines (map (λ c. c.name) frame.columns) (frame_rows frame)

@@ -3,29 +3,29 @@ use Rattle.std.specs.Prelude.{◌≡◌, ◌==◌, ◌&&◌, ◌||◌, ◌+◌, 
 use Rattle.pipe_columns.specs.declared.data_chunk.DataChunk.{DataChunk}
 use Rattle.pipe_columns.specs.declared.schema.Field.{Field}
 use Rattle.pipe_columns.specs.Frame.{FitsSchema, FrameData, fields_of, frame_of, sliced_frame, stacked}
-use Rattle.pipe_writers.specs.WriteOrder.{by_number, has_rows, with_rows}
+use Rattle.pipe_writers.specs.WriteOrder.{by_number, chunk_has_rows, chunks_with_rows}
 
 -- the chunks that are kept: the first, and of the others those that have rows
-abbrev pub kept : List DataChunk → List DataChunk
-kept [] = []
-kept (chunk ∷ rest) = chunk ∷ with_rows rest
+abbrev pub chunks_kept : List DataChunk → List DataChunk
+chunks_kept [] = []
+chunks_kept (chunk ∷ rest) = chunk ∷ chunks_with_rows rest
 
 -- a frame below what was gathered
-abbrev pub with_frame : Option FrameData → FrameData → FrameData
-with_frame None frame = frame
-with_frame (Some first) frame = stacked first frame
+abbrev pub with_frame_below : Option FrameData → FrameData → FrameData
+with_frame_below None frame = frame
+with_frame_below (Some first) frame = stacked first frame
 
 -- the frames of chunks joined, in their order; none where there is no chunk
 abbrev pub gathered : List DataChunk → Option FrameData
-gathered chunks = fold (λ before chunk. Some (with_frame before chunk.frame)) None chunks
+gathered chunks = fold (λ before chunk. Some (with_frame_below before chunk.frame)) None chunks
 
 -- the frames of chunks joined; the empty frame of the fields where there is no chunk
-abbrev pub joined : List Field → List DataChunk → FrameData
-joined fields chunks = unwrap_or (gathered chunks) (frame_of fields [])
+abbrev pub joined_frames : List Field → List DataChunk → FrameData
+joined_frames fields chunks = unwrap_or (gathered chunks) (frame_of fields [])
 
 -- the frames of the kept chunks, joined by their numbers
 abbrev pub ordered_frame : List Field → List DataChunk → FrameData
-ordered_frame fields chunks = joined fields (by_number (kept chunks))
+ordered_frame fields chunks = joined_frames fields (by_number (chunks_kept chunks))
 
 -- so many rows of it are dropped, and so many of the rest kept at most
 abbrev pub slice_of_ordered : ℕ → ℕ → List Field → List DataChunk → FrameData
@@ -45,8 +45,8 @@ abbrev pub emptied : KeptData → KeptData
 emptied k = record k { chunks = [] }
 
 -- whether one more chunk is kept: where it has rows, or none is kept
-abbrev pub is_kept : List DataChunk → DataChunk → Bool
-is_kept chunks chunk = (length chunks == 0) || has_rows chunk
+abbrev pub keeps_chunk : List DataChunk → DataChunk → Bool
+keeps_chunk chunks chunk = (length chunks == 0) || chunk_has_rows chunk
 
 -- one more chunk is taken: it fits, and all rows have a number
 pub record TakesChunk (k : KeptData) (chunk : DataChunk) : Type 0 where
@@ -73,4 +73,4 @@ is_past offset len chunks = nat_lt (offset + len) (row_count chunks)
 
 -- whether one more chunk is kept where a slice needed no more
 abbrev pub is_beyond : ℕ → ℕ → List DataChunk → DataChunk → Bool
-is_beyond offset len chunks chunk = is_kept chunks chunk && is_past offset len chunks
+is_beyond offset len chunks chunk = keeps_chunk chunks chunk && is_past offset len chunks

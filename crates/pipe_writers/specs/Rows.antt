@@ -11,8 +11,8 @@ abbrev pub Row : Type 0
 Row = List AnyValue
 
 -- the rows of a frame, in order
-abbrev pub rows_of : FrameData → List Row
-rows_of frame = map (row_at frame.columns) (range_with_len 0 frame.height)
+abbrev pub frame_rows : FrameData → List Row
+frame_rows frame = map (row_at frame.columns) (range_with_len 0 frame.height)
 
 -- the names of fields
 abbrev pub names_of : List Field → List (List ℕ)

@@ -2,15 +2,15 @@
 use Rattle.std.specs.Prelude.{◌==◌, ℕ, List, [], ◌∷◌, Bool, not, filter, flat_map, nat_le, if◌then◌else◌}
 use Rattle.pipe_columns.specs.declared.data_chunk.DataChunk.{DataChunk}
 use Rattle.pipe_columns.specs.Pieces.{pieces}
-use Rattle.pipe_writers.specs.Rows.{Row, rows_of}
+use Rattle.pipe_writers.specs.Rows.{Row, frame_rows}
 
 -- whether a chunk has a row
-abbrev pub has_rows : DataChunk → Bool
-has_rows chunk = not (chunk.frame.height == 0)
+abbrev pub chunk_has_rows : DataChunk → Bool
+chunk_has_rows chunk = not (chunk.frame.height == 0)
 
 -- the chunks that have rows
-abbrev pub with_rows : List DataChunk → List DataChunk
-with_rows chunks = filter has_rows chunks
+abbrev pub chunks_with_rows : List DataChunk → List DataChunk
+chunks_with_rows chunks = filter chunk_has_rows chunks
 
 -- a chunk put in before the first one whose number isn't lower
 abbrev pub put_in : DataChunk → List DataChunk → List DataChunk
@@ -30,8 +30,8 @@ written_piece maintain piece = if maintain then by_number piece else piece
 
 -- the chunks that have rows, cut into pieces of m, each piece as it is written
 abbrev pub write_order : List DataChunk → ℕ → Bool → List DataChunk
-write_order chunks m maintain = flat_map (written_piece maintain) (pieces m (with_rows chunks))
+write_order chunks m maintain = flat_map (written_piece maintain) (pieces m (chunks_with_rows chunks))
 
 -- the rows of chunks, in their order
 abbrev pub rows_of_chunks : List DataChunk → List Row
-rows_of_chunks chunks = flat_map (λ chunk. rows_of chunk.frame) chunks
+rows_of_chunks chunks = flat_map (λ chunk. frame_rows chunk.frame) chunks

@@ -5,8 +5,8 @@ use Rattle.pipe_writers.specs.declared.sink_writer.WriterCalls.{WriterCalls}
 use Rattle.pipe_writers.specs.Rows.{Row}
 
 -- before any call
-abbrev pub no_calls : WriterCalls
-no_calls = record { begun = false; refused = false; finished = false }
+abbrev pub no_writer_calls : WriterCalls
+no_writer_calls = record { begun = false; refused = false; finished = false }
 
 -- after a batch, which may have been refused
 abbrev pub after_batch : Bool → WriterCalls → WriterCalls

@@ -7,7 +7,7 @@ ghost use Rattle.pipe_csv.specs.Written.{AddsRecord, HasWritten};
 ghost use Rattle.pipe_writers.specs.CsvLines.{csv_head, csv_line};
 ghost use Rattle.pipe_writers.specs.CsvWritten.{WroteLines};
 ghost use Rattle.pipe_writers.specs.LinesAdded.{GoesOn};
-ghost use Rattle.pipe_writers.specs.Rows.{names_of, rows_of};
+ghost use Rattle.pipe_writers.specs.Rows.{names_of, frame_rows};
 
 use crate::csv_record::{end_record, write_field, write_value};
 use crate::lines::{Lines, Piece};
@@ -77,7 +77,7 @@ fn write_rows(
 ) -> Result<usize, AllocError>
     requires { from ≤ frame.now.height }
     ensures wrote { (old : List ℕ) → HasWritten writer.old old []
-        → IfOk result (λ next. WroteLines (rows_of frame.now) from next old writer.new) }
+        → IfOk result (λ next. WroteLines (frame_rows frame.now) from next old writer.new) }
     ensures further { IfOk result (λ next. from < frame.now.height → from < next) }
     ensures within { IfOk result (λ next. next ≤ frame.now.height) }
     ensures long { (text : List ℕ) → HasWritten writer.new text []

@@ -3,7 +3,7 @@
 ghost use Rattle.std.specs.Prelude.{◌≡◌, ◌++◌, List, ℕ};
 ghost use Rattle.pipe_writers.specs.CsvLines.{csv_head, csv_line};
 ghost use Rattle.pipe_writers.specs.Rows.{names_of};
-ghost use Rattle.pipe_writers.specs.Writers.{no_calls};
+ghost use Rattle.pipe_writers.specs.Writers.{no_writer_calls};
 
 use crate::csv_lines::CsvLines;
 use crate::line_writer::LineWriter;
@@ -26,7 +26,7 @@ impl<O: Output> LineWriter<O, CsvLines> {
         ensures output { result.output ≡ output }
         ensures schema { result.lines.schema ≡ schema }
         ensures header { result.lines.include_header ≡ include_header }
-        ensures calls { result.calls ≡ no_calls }
+        ensures calls { result.calls ≡ no_writer_calls }
     {
         let lines = CsvLines {
             schema,

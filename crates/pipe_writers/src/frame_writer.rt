@@ -7,7 +7,7 @@ ghost use Rattle.pipe_columns.specs.Frame.{FitsSchema};
 ghost use Rattle.pipe_csv.specs.Texts.{csv_text};
 ghost use Rattle.pipe_io.specs.Output.{WroteFront};
 ghost use Rattle.pipe_writers.specs.JsonText.{json_text};
-ghost use Rattle.pipe_writers.specs.Rows.{rows_of};
+ghost use Rattle.pipe_writers.specs.Rows.{frame_rows};
 ghost use Rattle.pipe_writers.specs.Writers.{text_of_lines};
 ghost use Rattle.pipe_writers.specs.declared.write_error.WriteError.TheVariants as write_error;
 
@@ -42,9 +42,9 @@ fn send_lines<O: Output, L: Lines>(
 ) -> Result<(), WriteError>
     requires { FitsSchema (L.shape lines.now).fields frame.now }
     ensures all { OnOk result (Appends (O.told output.old) (O.told output.new)
-        (text_of_lines (L.shape lines.now) (rows_of frame.now))) }
+        (text_of_lines (L.shape lines.now) (frame_rows frame.now))) }
     ensures front { OnErr result (WroteFront (O.told output.old) (O.told output.new)
-        (text_of_lines (L.shape lines.now) (rows_of frame.now))) }
+        (text_of_lines (L.shape lines.now) (frame_rows frame.now))) }
     ensures tells { is_some (O.told output.new) ≡ is_some (O.told output.old) }
     ensures cause { HasCause (O.faults output.old) (O.faults output.new)
         (IsErrOf result write_error.Output) }

@@ -5,7 +5,7 @@ ghost use Rattle.pipe_columns.specs.Frame.{FitsSchema, row_at};
 ghost use Rattle.pipe_writers.specs.JsonHeads.{AreHeads};
 ghost use Rattle.pipe_writers.specs.JsonText.{json_line, json_members, member_head};
 ghost use Rattle.pipe_writers.specs.LinesAdded.{GoesOn};
-ghost use Rattle.pipe_writers.specs.Rows.{names_of, rows_of};
+ghost use Rattle.pipe_writers.specs.Rows.{names_of, frame_rows};
 
 use crate::json_value::{Scratch, append_string, append_value, empty_scratch};
 use crate::lines::{Lines, Piece};
@@ -97,7 +97,7 @@ fn append_lines(
     requires columns { length frame.now.columns ≡ length heads.now }
     requires within { from ≤ frame.now.height }
     ensures lines { (names : List (List ℕ)) → AreHeads names heads.now
-        → IfOk result (λ next. GoesOn (json_line names) (rows_of frame.now) from next
+        → IfOk result (λ next. GoesOn (json_line names) (frame_rows frame.now) from next
         text.old.items text.new.items) }
     ensures further { IfOk result (λ next. from < frame.now.height → from < next) }
     ensures within { IfOk result (λ next. next ≤ frame.now.height) }

@@ -1,7 +1,7 @@
 //! A writer of lines of JSON.
 
 ghost use Rattle.std.specs.Prelude.{◌≡◌};
-ghost use Rattle.pipe_writers.specs.Writers.{no_calls};
+ghost use Rattle.pipe_writers.specs.Writers.{no_writer_calls};
 
 use crate::json_lines::JsonLines;
 use crate::line_writer::LineWriter;
@@ -17,7 +17,7 @@ impl<O: Output> LineWriter<O, JsonLines> {
     pub fn new(alloc: Global, output: O, schema: Schema) -> JsonBatchedWriter<O>
         ensures output { result.output ≡ output }
         ensures schema { result.lines.schema ≡ schema }
-        ensures calls { result.calls ≡ no_calls }
+        ensures calls { result.calls ≡ no_writer_calls }
     {
         let lines = JsonLines { alloc, schema };
         LineWriter::of_lines(alloc, output, lines)

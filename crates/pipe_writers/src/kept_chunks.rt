@@ -2,7 +2,7 @@
 
 ghost use Rattle.std.specs.Prelude.{◌≡◌, ◌∷◌, ◌++◌, ◌+◌, ◌<◌, ◌^◌, ◌≤◌, [], IfOk, OnErr, OnOk, All};
 ghost use Rattle.pipe_columns.specs.Frame.{FitsSchema};
-ghost use Rattle.pipe_writers.specs.Kept.{TakesChunk, TakesOver, emptied, is_kept, joined, kept, row_count};
+ghost use Rattle.pipe_writers.specs.Kept.{TakesChunk, TakesOver, emptied, keeps_chunk, joined_frames, chunks_kept, row_count};
 ghost use Rattle.pipe_writers.specs.WriteOrder.{by_number};
 
 use crate::chunk_order::sort_by_number;
@@ -24,27 +24,27 @@ pub struct KeptChunks {
 
 impl Model for KeptChunks {
     ghost use Rattle.pipe_writers.specs.Kept.{KeptData};
-    ghost use Rattle.pipe_writers.specs.KeptFields.{AreKept};
+    ghost use Rattle.pipe_writers.specs.KeptFields.{AreKeptChunks};
 
     ghost Value = { KeptData };
 
     ghost view = { λ k. record { fields = k.schema; chunks = k.chunks.items } };
 
-    ghost invariant = { λ k. AreKept k.schema k.chunks.items k.rows };
+    ghost invariant = { λ k. AreKeptChunks k.schema k.chunks.items k.rows };
 }
 
 /// Whether one more chunk is kept.
 fn wants(chunks: &[DataChunk], chunk: &DataChunk) -> bool
-    ensures { result ≡ is_kept chunks.now chunk.now }
+    ensures { result ≡ keeps_chunk chunks.now chunk.now }
 {
     chunks.is_empty() || chunk.frame.height() != 0
 }
 
 /// Moves kept chunks behind others that are kept.
 fn append_kept(chunks: &mut Vec<DataChunk>, more: &mut Vec<DataChunk>) -> Result<(), AllocError>
-    requires kept { kept chunks.old.items ≡ chunks.old.items }
-    requires more { kept more.old.items ≡ more.old.items }
-    ensures ok { OnOk result (chunks.new.items ≡ kept (chunks.old.items ++ more.old.items)) }
+    requires kept { chunks_kept chunks.old.items ≡ chunks.old.items }
+    requires more { chunks_kept more.old.items ≡ more.old.items }
+    ensures ok { OnOk result (chunks.new.items ≡ chunks_kept (chunks.old.items ++ more.old.items)) }
     ensures taken { OnOk result (more.new.items ≡ []) }
     ensures err { OnErr result (chunks.new.items ≡ chunks.old.items) }
     ensures err_more { OnErr result (more.new.items ≡ more.old.items) }
@@ -72,7 +72,7 @@ fn join_frames(
 ) -> Result<DataFrame, AllocError>
     requires fit { All (λ c. FitsSchema schema.now c.frame) chunks.items }
     requires few { row_count chunks.items < 2 ^ 64 }
-    ensures { IfOk result (λ f. f ≡ joined schema.now chunks.items) }
+    ensures { IfOk result (λ f. f ≡ joined_frames schema.now chunks.items) }
 {
     let mut frames = None;
     for chunk in chunks {
@@ -107,9 +107,9 @@ impl KeptChunks {
     pub(crate) fn keep(&mut self, chunk: DataChunk) -> Result<bool, AllocError>
         requires { TakesChunk self.old chunk }
         ensures ok { OnOk result (self.new ≡ record self.old {
-          chunks = kept (self.old.chunks ++ (chunk ∷ []));
+          chunks = chunks_kept (self.old.chunks ++ (chunk ∷ []));
         }) }
-        ensures says { IfOk result (λ b. b ≡ is_kept self.old.chunks chunk) }
+        ensures says { IfOk result (λ b. b ≡ keeps_chunk self.old.chunks chunk) }
         ensures err { OnErr result (self.new ≡ self.old) }
     {
         let height = chunk.frame.height();
@@ -134,7 +134,7 @@ impl KeptChunks {
     pub(crate) fn take_over(&mut self, other: &mut KeptChunks) -> Result<(), AllocError>
         requires { TakesOver self.old other.old }
         ensures ok { OnOk result (self.new ≡ record self.old {
-          chunks = kept (self.old.chunks ++ other.old.chunks);
+          chunks = chunks_kept (self.old.chunks ++ other.old.chunks);
         }) }
         ensures taken { OnOk result (other.new ≡ emptied other.old) }
         ensures err { OnErr result (self.new ≡ self.old) }
@@ -148,7 +148,7 @@ impl KeptChunks {
 
     /// The frame of the kept chunks, by their numbers. None is kept then, whatever is answered.
     pub(crate) fn join(&mut self) -> Result<DataFrame, AllocError>
-        ensures ok { IfOk result (λ f. f ≡ joined self.old.fields (by_number self.old.chunks)) }
+        ensures ok { IfOk result (λ f. f ≡ joined_frames self.old.fields (by_number self.old.chunks)) }
         ensures emptied { self.new ≡ emptied self.old }
     {
         let mut chunks = mem::replace(&mut self.chunks, Vec::new(self.alloc));

@@ -5,9 +5,9 @@ ghost use Rattle.std.specs.Io.KnownBytes.{Appends};
 ghost use Rattle.pipe_columns.specs.Causes.{HasCause};
 ghost use Rattle.pipe_columns.specs.Frame.{FitsSchema};
 ghost use Rattle.pipe_io.specs.Output.{WroteFront};
-ghost use Rattle.pipe_writers.specs.Rows.{Row, rows_of};
+ghost use Rattle.pipe_writers.specs.Rows.{Row, frame_rows};
 ghost use Rattle.pipe_writers.specs.WriterLaws.{front_lines, grows_lines, starts_lines, whole_lines};
-ghost use Rattle.pipe_writers.specs.Writers.{HasPutOut, IsOpen, LineText, after_batch, after_finish, head_due, no_calls, text_of_lines};
+ghost use Rattle.pipe_writers.specs.Writers.{HasPutOut, IsOpen, LineText, after_batch, after_finish, head_due, no_writer_calls, text_of_lines};
 ghost use Rattle.pipe_writers.specs.declared.write_error.WriteError.TheVariants as write_error;
 
 use crate::lines::Lines;
@@ -40,9 +40,9 @@ pub(crate) fn put_out<O: Output, L: Lines>(
 ) -> Result<(), WriteError>
     requires { FitsSchema (L.shape lines.now).fields frame.now }
     ensures all { OnOk result (Appends (O.told output.old) (O.told output.new)
-        (text.items ++ flat_map (L.shape lines.now).line (rows_of frame.now))) }
+        (text.items ++ flat_map (L.shape lines.now).line (frame_rows frame.now))) }
     ensures front { OnErr result (WroteFront (O.told output.old) (O.told output.new)
-        (text.items ++ flat_map (L.shape lines.now).line (rows_of frame.now))) }
+        (text.items ++ flat_map (L.shape lines.now).line (frame_rows frame.now))) }
     ensures tells { is_some (O.told output.new) ≡ is_some (O.told output.old) }
     ensures cause { HasCause (O.faults output.old) (O.faults output.new)
         (IsErrOf result write_error.Output) }
@@ -78,7 +78,7 @@ impl<O: Output, L: Lines> LineWriter<O, L> {
     pub(crate) fn of_lines(alloc: Global, output: O, lines: L) -> LineWriter<O, L>
         ensures output { result.output ≡ output }
         ensures lines { result.lines ≡ lines }
-        ensures calls { result.calls ≡ no_calls }
+        ensures calls { result.calls ≡ no_writer_calls }
     {
         LineWriter {
             alloc,
@@ -108,10 +108,10 @@ impl<O: Output, L: Lines> LineWriter<O, L> {
         requires { FitsSchema (L.shape self.old.lines).fields frame.now }
         ensures all { OnOk result (Appends (O.told self.old.output) (O.told self.new.output)
             (head_due self.old.calls.begun (L.shape self.old.lines)
-            ++ flat_map (L.shape self.old.lines).line (rows_of frame.now))) }
+            ++ flat_map (L.shape self.old.lines).line (frame_rows frame.now))) }
         ensures front { OnErr result (WroteFront (O.told self.old.output) (O.told self.new.output)
             (head_due self.old.calls.begun (L.shape self.old.lines)
-            ++ flat_map (L.shape self.old.lines).line (rows_of frame.now))) }
+            ++ flat_map (L.shape self.old.lines).line (frame_rows frame.now))) }
         ensures tells { is_some (O.told self.new.output) ≡ is_some (O.told self.old.output) }
         ensures cause { HasCause (O.faults self.old.output) (O.faults self.new.output)
             (IsErrOf result write_error.Output) }

@@ -3,7 +3,7 @@
 ghost use Rattle.std.specs.Prelude.{◌≡◌, ◌++◌, ◌<◌, ◌≤◌, IfOk, length};
 ghost use Rattle.pipe_columns.specs.Frame.{FitsSchema};
 ghost use Rattle.pipe_writers.specs.LinesAdded.{GoesOn};
-ghost use Rattle.pipe_writers.specs.Rows.{rows_of};
+ghost use Rattle.pipe_writers.specs.Rows.{frame_rows};
 ghost use Rattle.pipe_writers.specs.Writers.{LineText};
 
 use pipe_columns::{DataFrame, Schema};
@@ -40,7 +40,7 @@ pub trait Lines {
     ) -> Result<Piece, AllocError>
         requires fits { FitsSchema (shape self.now).fields frame.now }
         requires within { from ≤ frame.now.height }
-        ensures lines { IfOk result (λ p. GoesOn (shape self.now).line (rows_of frame.now) from
+        ensures lines { IfOk result (λ p. GoesOn (shape self.now).line (frame_rows frame.now) from
             p.next text.items p.text.items) }
         ensures further { IfOk result (λ p. from < frame.now.height → from < p.next) }
         ensures within { IfOk result (λ p. p.next ≤ frame.now.height) }

@@ -5,7 +5,7 @@ ghost use Rattle.pipe_columns.specs.Chunks.{frame_given};
 ghost use Rattle.pipe_columns.specs.declared.data_chunk.DataChunk.{DataChunk};
 ghost use Rattle.pipe_columns.specs.declared.schema.Field.{Field};
 ghost use Rattle.pipe_columns.specs.declared.sink.SinkResult.TheVariants as sink_result;
-ghost use Rattle.pipe_writers.specs.Kept.{TakesChunk, TakesOver, emptied, kept, ordered_frame};
+ghost use Rattle.pipe_writers.specs.Kept.{TakesChunk, TakesOver, emptied, chunks_kept, ordered_frame};
 
 use crate::kept_chunks::KeptChunks;
 use pipe_columns::{DataChunk, FinalizedSink, Schema, Sink, SinkResult};
@@ -40,8 +40,8 @@ impl OrderedSink {
     pub fn combine(&mut self, other: &mut OrderedSink) -> Result<(), AllocError>
         requires { TakesOver self.old.kept other.old.kept }
         ensures stands { OnOk result ((chunks others : List DataChunk)
-            → self.old.kept.chunks ≡ kept chunks → other.old.kept.chunks ≡ kept others
-            → self.new.kept.chunks ≡ kept (chunks ++ others)) }
+            → self.old.kept.chunks ≡ chunks_kept chunks → other.old.kept.chunks ≡ chunks_kept others
+            → self.new.kept.chunks ≡ chunks_kept (chunks ++ others)) }
         ensures fields { self.new.kept.fields ≡ self.old.kept.fields }
         ensures taken { OnOk result (other.new.kept ≡ emptied other.old.kept) }
         ensures err { OnErr result (self.new ≡ self.old) }
@@ -59,7 +59,7 @@ impl Sink for OrderedSink {
 
     ghost takes = { λ s chunk. TakesChunk s.kept chunk };
 
-    ghost stands = { λ s chunks. s.kept.chunks ≡ kept chunks };
+    ghost stands = { λ s chunks. s.kept.chunks ≡ chunks_kept chunks };
 
     ghost Purpose = { List Field };
 
@@ -69,8 +69,8 @@ impl Sink for OrderedSink {
 
     fn sink(&mut self, chunk: DataChunk) -> Result<SinkResult, AllocError>
         requires { TakesChunk self.old.kept chunk }
-        ensures taken { OnOk result ((chunks : List DataChunk) → self.old.kept.chunks ≡ kept chunks
-            → self.new.kept.chunks ≡ kept (chunks ++ (chunk ∷ []))) }
+        ensures taken { OnOk result ((chunks : List DataChunk) → self.old.kept.chunks ≡ chunks_kept chunks
+            → self.new.kept.chunks ≡ chunks_kept (chunks ++ (chunk ∷ []))) }
         ensures purpose { self.new.kept.fields ≡ self.old.kept.fields }
         ensures answer { IfOk result (λ r. r ≡ sink_result.CanHaveMoreInput) }
         ensures err { OnErr result (self.new ≡ self.old) }
@@ -81,7 +81,7 @@ impl Sink for OrderedSink {
 
     fn finalize(&mut self) -> Result<FinalizedSink, AllocError>
         ensures given { IfOk result (λ r. (chunks : List DataChunk)
-            → self.old.kept.chunks ≡ kept chunks
+            → self.old.kept.chunks ≡ chunks_kept chunks
             → frame_given r ≡ ordered_frame self.old.kept.fields chunks) }
         ensures purpose { self.new.kept.fields ≡ self.old.kept.fields }
         ensures emptied { self.new.kept ≡ emptied self.old.kept }

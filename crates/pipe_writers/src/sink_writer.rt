@@ -4,7 +4,7 @@ ghost use Rattle.std.specs.Prelude.{◌≡◌, ◌++◌, ℕ, List, Option, Some
 ghost use Rattle.pipe_columns.specs.Causes.{HasCause};
 ghost use Rattle.pipe_columns.specs.Frame.{FitsSchema};
 ghost use Rattle.pipe_columns.specs.declared.schema.Field.{Field};
-ghost use Rattle.pipe_writers.specs.Rows.{Row, rows_of};
+ghost use Rattle.pipe_writers.specs.Rows.{Row, frame_rows};
 ghost use Rattle.pipe_writers.specs.Writers.{IsOpen, TellsAfter, TellsFront, after_batch, after_finish};
 ghost use Rattle.pipe_writers.specs.declared.sink_writer.WriterCalls.{WriterCalls};
 ghost use Rattle.pipe_writers.specs.declared.write_error.WriteError.TheVariants as write_error;
@@ -55,7 +55,7 @@ pub trait SinkWriter {
         requires open { IsOpen (calls self.old) }
         requires fits { FitsSchema (fields (format self.old)) df.now }
         ensures stands { (rows : List Row) → (since : List ℕ) → stands self.old rows since
-            → stands self.new (rows ++ rows_of df.now) since }
+            → stands self.new (rows ++ frame_rows df.now) since }
         ensures calls { calls self.new ≡ after_batch (is_err result) (calls self.old) }
         ensures format { format self.new ≡ format self.old }
         ensures tells { is_some (told self.new) ≡ is_some (told self.old) }

@@ -5,7 +5,7 @@ ghost use Rattle.pipe_columns.specs.Chunks.{frame_given};
 ghost use Rattle.pipe_columns.specs.declared.data_chunk.DataChunk.{DataChunk};
 ghost use Rattle.pipe_columns.specs.declared.schema.Field.{Field};
 ghost use Rattle.pipe_columns.specs.declared.sink.SinkResult.TheVariants as sink_result;
-ghost use Rattle.pipe_writers.specs.Kept.{TakesChunk, TakesOver, emptied, is_beyond, is_past, kept, slice_of_ordered};
+ghost use Rattle.pipe_writers.specs.Kept.{TakesChunk, TakesOver, emptied, is_beyond, is_past, chunks_kept, slice_of_ordered};
 
 use crate::kept_chunks::KeptChunks;
 use pipe_columns::{DataChunk, FinalizedSink, Schema, Sink, SinkResult};
@@ -52,8 +52,8 @@ impl SliceSink {
     pub fn combine(&mut self, other: &mut SliceSink) -> Result<(), AllocError>
         requires { TakesOver self.old.kept other.old.kept }
         ensures stands { OnOk result ((chunks others : List DataChunk)
-            → self.old.kept.chunks ≡ kept chunks → other.old.kept.chunks ≡ kept others
-            → self.new.kept.chunks ≡ kept (chunks ++ others)) }
+            → self.old.kept.chunks ≡ chunks_kept chunks → other.old.kept.chunks ≡ chunks_kept others
+            → self.new.kept.chunks ≡ chunks_kept (chunks ++ others)) }
         ensures purpose { (self.new.kept.fields ≡ self.old.kept.fields)
             × (self.new.offset ≡ self.old.offset) × (self.new.len ≡ self.old.len) }
         ensures taken { OnOk result (other.new.kept ≡ emptied other.old.kept) }
@@ -91,7 +91,7 @@ impl Sink for SliceSink {
 
     ghost takes = { λ s chunk. TakesChunk s.kept chunk };
 
-    ghost stands = { λ s chunks. s.kept.chunks ≡ kept chunks };
+    ghost stands = { λ s chunks. s.kept.chunks ≡ chunks_kept chunks };
 
     ghost Purpose = { ℕ × ℕ × List Field };
 
@@ -101,8 +101,8 @@ impl Sink for SliceSink {
 
     fn sink(&mut self, chunk: DataChunk) -> Result<SinkResult, AllocError>
         requires { TakesChunk self.old.kept chunk }
-        ensures taken { OnOk result ((chunks : List DataChunk) → self.old.kept.chunks ≡ kept chunks
-            → self.new.kept.chunks ≡ kept (chunks ++ (chunk ∷ []))) }
+        ensures taken { OnOk result ((chunks : List DataChunk) → self.old.kept.chunks ≡ chunks_kept chunks
+            → self.new.kept.chunks ≡ chunks_kept (chunks ++ (chunk ∷ []))) }
         ensures purpose { (self.new.offset ≡ self.old.offset)
             × (self.new.len ≡ self.old.len) × (self.new.kept.fields ≡ self.old.kept.fields) }
         ensures finished { IfOk result (λ r. (r ≡ sink_result.Finished)
@@ -116,7 +116,7 @@ impl Sink for SliceSink {
 
     fn finalize(&mut self) -> Result<FinalizedSink, AllocError>
         ensures given { IfOk result (λ r. (chunks : List DataChunk)
-            → self.old.kept.chunks ≡ kept chunks
+            → self.old.kept.chunks ≡ chunks_kept chunks
             → frame_given r
             ≡ slice_of_ordered self.old.offset self.old.len self.old.kept.fields chunks) }
         ensures purpose { (self.new.offset ≡ self.old.offset)

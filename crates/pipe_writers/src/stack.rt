@@ -3,8 +3,8 @@
 ghost use Rattle.std.specs.Prelude.{◌≡◌, ◌++◌, true, OnErr, OnOk};
 ghost use Rattle.pipe_columns.specs.Frame.{all_have_height};
 ghost use Rattle.pipe_writers.specs.Waiting.{waiting_rows};
-ghost use Rattle.pipe_writers.specs.Kept.{StacksOn, with_frame};
-ghost use Rattle.pipe_writers.specs.Rows.{rows_of};
+ghost use Rattle.pipe_writers.specs.Kept.{StacksOn, with_frame_below};
+ghost use Rattle.pipe_writers.specs.Rows.{frame_rows};
 
 use pipe_columns::DataFrame;
 use std::alloc::AllocError;
@@ -23,9 +23,9 @@ pub(crate) fn put_below(
     frame: DataFrame,
 ) -> Result<(), AllocError>
     requires { StacksOn gathered.old frame }
-    ensures ok { OnOk result (gathered.new ≡ Some (with_frame gathered.old frame)) }
-    ensures rows { rows_of (with_frame gathered.old frame)
-        ≡ waiting_rows gathered.old ++ rows_of frame }
+    ensures ok { OnOk result (gathered.new ≡ Some (with_frame_below gathered.old frame)) }
+    ensures rows { frame_rows (with_frame_below gathered.old frame)
+        ≡ waiting_rows gathered.old ++ frame_rows frame }
     ensures err { OnErr result (gathered.new ≡ gathered.old) }
 {
     match gathered {

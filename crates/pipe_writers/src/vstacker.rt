@@ -2,8 +2,8 @@
 
 ghost use Rattle.std.specs.Prelude.{◌≡◌, ◌++◌, IfOk, OnErr, OnOk, None};
 ghost use Rattle.pipe_writers.specs.Waiting.{waiting_rows};
-ghost use Rattle.pipe_writers.specs.Kept.{StacksOn, with_frame};
-ghost use Rattle.pipe_writers.specs.Rows.{rows_of};
+ghost use Rattle.pipe_writers.specs.Kept.{StacksOn, with_frame_below};
+ghost use Rattle.pipe_writers.specs.Rows.{frame_rows};
 ghost use Rattle.pipe_writers.specs.Vstacker.{completed, if_rows, left_waiting};
 
 use crate::stack::put_below;
@@ -43,8 +43,8 @@ impl StreamingVstacker {
     pub fn add(&mut self, frame: DataFrame) -> Result<Option<DataFrame>, AllocError>
         requires { StacksOn self.old.waiting frame }
         ensures given { IfOk result (λ given. given ≡ completed self.old frame) }
-        ensures rows { rows_of (with_frame self.old.waiting frame)
-            ≡ waiting_rows self.old.waiting ++ rows_of frame }
+        ensures rows { frame_rows (with_frame_below self.old.waiting frame)
+            ≡ waiting_rows self.old.waiting ++ frame_rows frame }
         ensures waiting { OnOk result (self.new ≡ record self.old {
           waiting = left_waiting self.old frame;
         }) }

@@ -22,7 +22,7 @@ use Rattle.pipe_global.specs.Finishing.{CanFinish}
 use Rattle.pipe_global.specs.Next.{next_event, next_payload}
 use Rattle.pipe_global.specs.Opening.{AreUnused, no_shares}
 use Rattle.pipe_global.specs.Partition.{IsRunnable, PartitionSeen}
-use Rattle.pipe_global.specs.Shares.{fault_of, next_pick, SharesSeen}
+use Rattle.pipe_global.specs.Shares.{refused_puts_in, next_pick, SharesSeen}
 use Rattle.pipe_global.proofs.ClosedFacts.{finish-replayed}
 use Rattle.pipe_global.proofs.RunFacts.{rows-few}
 use Rattle.test_partitions.specs.PlannedRuns.{HasEnded, payload_at, second_shares, second_spills}
@@ -83,8 +83,8 @@ module _ (r : Run) (stores : List StoreSeen) (s : SharesSeen) (run : r ≡ secon
   pub third-event : s ≡ second_shares 2 → next_event r s (next_pick r.limits.partitions s) ≡ Some (event.Dump s.worker)
   third-event at = (λ i. next_event (run i) (at i) (next_pick (run i).limits.partitions (at i))) ∙ sym (ap (λ (t : SharesSeen). Some (event.Dump t.worker)) at)
 
-  pub no-fault : s ≡ second_shares 2 → fault_of s (next_pick r.limits.partitions s) ≡ 0
-  no-fault at = λ i. fault_of (at i) (next_pick (run i).limits.partitions (at i))
+  pub no-fault : s ≡ second_shares 2 → refused_puts_in s (next_pick r.limits.partitions s) ≡ 0
+  no-fault at = λ i. refused_puts_in (at i) (next_pick (run i).limits.partitions (at i))
 
 -- ---- the end
 

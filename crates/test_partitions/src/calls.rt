@@ -4,7 +4,7 @@
 ghost use Rattle.std.specs.Prelude.{◌≡◌, ◌-◌, ◌<◌, ◌^◌, OnOk, Some};
 ghost use Rattle.pipe_plan.specs.declared.event.PartitionEvent.TheVariants as event;
 ghost use Rattle.pipe_global.specs.Next.{next_event, next_payload};
-ghost use Rattle.pipe_global.specs.Shares.{fault_of, next_pick, picked, raised};
+ghost use Rattle.pipe_global.specs.Shares.{refused_puts_in, next_pick, one_more_pick, raised};
 
 use pipe_global::{DumpError, GlobalTable, Naming, OpenGate, Shares};
 use pipe_spill::{SpillPayload, SpillStore};
@@ -44,10 +44,10 @@ pub(crate) fn dump<S: SpillStore + Drop, R: Naming, H: Wait>(
 ) -> Result<(), Fail>
     requires next { next_event R.run shares.old (next_pick R.run.limits.partitions shares.old)
         ≡ Some (event.Dump shares.old.worker) }
-    requires room { fault_of shares.old (next_pick R.run.limits.partitions shares.old)
+    requires room { refused_puts_in shares.old (next_pick R.run.limits.partitions shares.old)
         < 2 ^ 64 - 1 }
     ensures { OnOk result (shares.new
-        ≡ picked (raised shares.old (next_pick R.run.limits.partitions shares.old))) }
+        ≡ one_more_pick (raised shares.old (next_pick R.run.limits.partitions shares.old))) }
 {
     match table.dump(rt, alloc, &OpenGate, shares) {
         Ok(()) => return Ok(()),
@@ -70,7 +70,7 @@ pub(crate) fn dump_refused<S: SpillStore + Drop, R: Naming, H: Wait>(
 ) -> Result<(), Fail>
     requires next { next_event R.run shares.old (next_pick R.run.limits.partitions shares.old)
         ≡ Some (event.Dump shares.old.worker) }
-    requires none { fault_of shares.old (next_pick R.run.limits.partitions shares.old) ≡ 0 }
+    requires none { refused_puts_in shares.old (next_pick R.run.limits.partitions shares.old) ≡ 0 }
 {
     match table.dump(rt, alloc, &OpenGate, shares) {
         Ok(()) => return Ok(()),

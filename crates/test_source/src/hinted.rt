@@ -11,15 +11,15 @@ pub(crate) struct Hinted {
 }
 
 impl InputFiles for Hinted {
-    ghost use Rattle.pipe_io.specs.MemoryFiles.{begun_of, faults_of, left_of, told_of, tried_of};
+    ghost use Rattle.pipe_io.specs.MemoryFiles.{begun_of, held_faults, held_rest, held_files, tried_of};
 
-    ghost told = { λ h. told_of h.files };
+    ghost told = { λ h. held_files h.files };
 
-    ghost left = { λ h. left_of h.files };
+    ghost left = { λ h. held_rest h.files };
 
     ghost begun = { λ h. begun_of h.files };
 
-    ghost faults = { λ h. faults_of h.files };
+    ghost faults = { λ h. held_faults h.files };
 
     ghost tried = { λ h. tried_of h.files };
 

@@ -37,15 +37,15 @@ impl Recorded {
 }
 
 impl InputFiles for Recorded {
-    ghost use Rattle.pipe_io.specs.MemoryFiles.{begun_of, faults_of, left_of, told_of, tried_of};
+    ghost use Rattle.pipe_io.specs.MemoryFiles.{begun_of, held_faults, held_rest, held_files, tried_of};
 
-    ghost told = { λ r. told_of r.files };
+    ghost told = { λ r. held_files r.files };
 
-    ghost left = { λ r. left_of r.files };
+    ghost left = { λ r. held_rest r.files };
 
     ghost begun = { λ r. begun_of r.files };
 
-    ghost faults = { λ r. faults_of r.files };
+    ghost faults = { λ r. held_faults r.files };
 
     ghost tried = { λ r. tried_of r.files };
 

@@ -1,7 +1,7 @@
 //! Schemas, frames, chunks, writers and sinks of tests.
 
 ghost use Rattle.std.specs.Prelude.{◌≡◌, ◌<◌, ◌≤◌, IfOk};
-ghost use Rattle.pipe_writers.specs.Writers.{no_calls};
+ghost use Rattle.pipe_writers.specs.Writers.{no_writer_calls};
 
 use pipe_columns::{AnyValue, Column, DataChunk, DataFrame, DataType, Field, Schema, Text};
 use pipe_files_sink::{CsvSink, CsvWriterOptions, FilesSink, JsonSink, JsonWriterOptions};
@@ -76,7 +76,7 @@ pub(crate) fn csv_writer<O: Output + Drop>(
     schema: &Schema,
 ) -> Result<CsvBatchedWriter<O>, AllocError>
     ensures schema { IfOk result (λ w. w.lines.schema ≡ schema.now) }
-    ensures calls { IfOk result (λ w. w.calls ≡ no_calls) }
+    ensures calls { IfOk result (λ w. w.calls ≡ no_writer_calls) }
 {
     let schema = copy_schema(alloc, schema)?;
     Ok(CsvBatchedWriter::new(alloc, output, schema, true))
@@ -89,7 +89,7 @@ pub(crate) fn json_writer<O: Output + Drop>(
     schema: &Schema,
 ) -> Result<JsonBatchedWriter<O>, AllocError>
     ensures schema { IfOk result (λ w. w.lines.schema ≡ schema.now) }
-    ensures calls { IfOk result (λ w. w.calls ≡ no_calls) }
+    ensures calls { IfOk result (λ w. w.calls ≡ no_writer_calls) }
 {
     let schema = copy_schema(alloc, schema)?;
     Ok(JsonBatchedWriter::new(alloc, output, schema))

@@ -3,7 +3,7 @@
 ghost use Rattle.std.specs.Prelude.{◌≡◌, ◌<◌, ◌≤◌, is_some, length, IfOk, IsErrOf, None};
 ghost use Rattle.std.specs.Io.KnownBytes.{WriteAppends};
 ghost use Rattle.pipe_columns.specs.Causes.{HasCause};
-ghost use Rattle.pipe_io.specs.MemoryOutput.{faults_of, told_of};
+ghost use Rattle.pipe_io.specs.MemoryOutput.{held_faults, held_files};
 ghost use Rattle.pipe_io.specs.declared.output.OutputError.TheVariants as output_error;
 
 use pipe_io::{MemoryOutput, Output, OutputError};
@@ -18,17 +18,17 @@ use std::thread::yield_now;
 pub(crate) struct Bytewise(pub(crate) MemoryOutput);
 
 impl Output for Bytewise {
-    ghost told = { λ s. told_of s.0 };
+    ghost told = { λ s. held_files s.0 };
 
-    ghost faults = { λ s. faults_of s.0 };
+    ghost faults = { λ s. held_faults s.0 };
 
     fn write(&mut self, piece: &[u8]) -> Result<usize, OutputError>
         requires { 0 < length piece.now }
         ensures some { IfOk result (λ n. 0 < n) }
         ensures bound { IfOk result (λ n. n ≤ length piece.now) }
-        ensures tells { is_some (told_of self.new.0) ≡ is_some (told_of self.old.0) }
-        ensures bytes { WriteAppends (told_of self.old.0) (told_of self.new.0) result piece.now }
-        ensures cause { HasCause (faults_of self.old.0) (faults_of self.new.0)
+        ensures tells { is_some (held_files self.new.0) ≡ is_some (held_files self.old.0) }
+        ensures bytes { WriteAppends (held_files self.old.0) (held_files self.new.0) result piece.now }
+        ensures cause { HasCause (held_faults self.old.0) (held_faults self.new.0)
             (IsErrOf result output_error.Failed) }
     {
         self.0.write(&piece[..1])

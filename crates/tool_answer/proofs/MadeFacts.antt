@@ -14,7 +14,7 @@ use Rattle.pipe_plan.specs.Run.{StoreSeen}
 use Rattle.pipe_run.specs.Answered.{HaveWholeFrames, IsAnswered}
 use Rattle.pipe_run.specs.Fed.{FedSeen}
 use Rattle.pipe_run.specs.Finish.{IsFinishCause}
-use Rattle.pipe_run.specs.Setting.{run_of, Setting}
+use Rattle.pipe_run.specs.Setting.{run_over, Setting}
 use Rattle.pipe_run.specs.declared.error.PipeError.{PipeError}
 use Rattle.pipe_run.specs.declared.error.PipeError.TheVariants as pipe_error
 use Rattle.pipe_run.specs.declared.output.GroupByOutput.{GroupByOutput}
@@ -26,7 +26,7 @@ use Rattle.tool_run.specs.Answering as run
 use Rattle.tool_run.specs.MadeLines.{made_lines}
 use Rattle.tool_words.specs.Asked.{makes}
 use Rattle.tool_answer.specs.Asking.{asked_run}
-use Rattle.tool_answer.specs.Ended.{IsSound}
+use Rattle.tool_answer.specs.Ended.{IsSoundStore}
 use Rattle.tool_answer.specs.Faults.{IsCaused}
 use Rattle.tool_answer.specs.Headline.{HaveFront, IsBegun}
 use Rattle.tool_answer.specs.Inside.{IsOfBegun, IsOfStores, run_fault}
@@ -36,18 +36,18 @@ use Rattle.tool_answer.proofs.RunFacts.{all-sound, Began, frame-caused, HaveFram
 -- ---- a run that was answered
 
 pub has-made : (p : PlanSeen) (q : Query) (m : Made) (new stores : List StoreSeen) (s : FedSeen) (out : GroupByOutput)
-    → Began p q new s → query_tree q ≡ made_tree → IsAnswered (run_of s.setting false (made m)) out stores → HasMadeRun p m out stores
+    → Began p q new s → query_tree q ≡ made_tree → IsAnswered (run_over s.setting false (made m)) out stores → HasMadeRun p m out stores
 has-made p q m new stores s out began is answered = record {
   new = new;
   are_made = began.new;
   count = began.count;
   answered = subst (λ (t : QueryTree). IsAnswered (asked_run p t false (made m) new) out stores) is
-      (subst (λ (y : Setting). IsAnswered (run_of y false (made m)) out stores) began.setting answered);
+      (subst (λ (y : Setting). IsAnswered (run_over y false (made m)) out stores) began.setting answered);
 }
 
 -- without a folder its stores are sound
 pub has-made-sound : (p : PlanSeen) (m : Made) (out : GroupByOutput) (stores : List StoreSeen) → HasMadeRun p m out stores
-    → All (λ (x : StoreSeen). IsTrue x.sure → x.faults ≡ 0) stores → p.spill_dir ≡ None → All IsSound stores
+    → All (λ (x : StoreSeen). IsTrue x.sure → x.faults ≡ 0) stores → p.spill_dir ≡ None → All IsSoundStore stores
 has-made-sound p m out stores run never =
     all-sound p made_tree false (made m) run.new stores run.are_made run.count (replayed-are (asked_run p made_tree false (made m) run.new) out stores run.answered) never
 
@@ -66,7 +66,7 @@ lines-begun old new told p m files journals stores text has (inr front) = inr (t
 module _ (p : PlanSeen) (q : Query) (m : Made) (is : query_tree q ≡ made_tree) (new stores : List StoreSeen) (s : FedSeen) (began : Began p q new s) (back : run.HaveFront s.setting stores) where
   whole : HaveWholeFrames (asked_run p made_tree back.is_open back.chunks new) stores
   whole =
-      let begun : HaveWholeFrames (asked_run p (query_tree q) back.is_open back.chunks new) stores = subst (λ (x : Setting). HaveWholeFrames (run_of x back.is_open back.chunks) stores) began.setting back.frames in
+      let begun : HaveWholeFrames (asked_run p (query_tree q) back.is_open back.chunks new) stores = subst (λ (x : Setting). HaveWholeFrames (run_over x back.is_open back.chunks) stores) began.setting back.frames in
       subst (λ (t : QueryTree). HaveWholeFrames (asked_run p t back.is_open back.chunks new) stores) is begun
 
   have : HaveFrames (asked_run p made_tree back.is_open back.chunks new) stores
@@ -77,7 +77,7 @@ module _ (p : PlanSeen) (q : Query) (m : Made) (is : query_tree q ≡ made_tree)
   made-front = record { made = new; are_made = began.new; chunks = back.chunks; is_open = back.is_open; frames = whole }
 
   -- without a folder they are sound
-  pub made-sound : All (λ (x : StoreSeen). IsTrue x.sure → x.faults ≡ 0) stores → p.spill_dir ≡ None → All IsSound stores
+  pub made-sound : All (λ (x : StoreSeen). IsTrue x.sure → x.faults ≡ 0) stores → p.spill_dir ≡ None → All IsSoundStore stores
   made-sound never = all-sound p made_tree back.is_open back.chunks new stores began.new began.count have never
 
   -- it stopped for a store, or for want of memory

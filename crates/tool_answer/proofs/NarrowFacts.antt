@@ -17,10 +17,10 @@ use Rattle.narrow_query.proofs.AnswerFacts.{keys-same}
 use Rattle.pipe_plan.specs.declared.limits.SinkKind.{SinkKind}
 use Rattle.pipe_plan.specs.Run.{StoreSeen}
 use Rattle.pipe_run.specs.Answered.{HaveWholeFrames, IsAnswered}
-use Rattle.pipe_run.specs.Refusals.{AllFit}
+use Rattle.pipe_run.specs.Refusals.{AllHaveFields}
 use Rattle.pipe_run.specs.declared.output.GroupByOutput.{GroupByOutput}
-use Rattle.pipe_source.specs.CsvChunks.{CsvChunks, csv_chunks, narrowed, too_large}
-use Rattle.pipe_source.specs.Reader.{left_of, ReaderState}
+use Rattle.pipe_source.specs.CsvChunks.{CsvChunks, csv_chunks, wanted_chunks, too_large}
+use Rattle.pipe_source.specs.Reader.{chunks_left, ReaderState}
 use Rattle.pipe_source.proofs.ChunksFit.{chunks-fit}
 use Rattle.narrow_columns.specs.Wanted.{chosen, narrowed_chunks}
 use Rattle.narrow_runs.specs.Widened.{widened_chunks}
@@ -36,32 +36,32 @@ use Rattle.tool_answer.specs.Headline.{AreInput}
 
 -- a reader has the wanted columns of the files of a plan left
 pub record IsReader (p : PlanSeen) (q : QueryTree) (ws : List Bool) (first : ReaderState) : Type 0 where
-  pub left : (files : Files) → left_of files first ≡ narrowed (read_options p) ws (input_chunks files p q)
+  pub left : (files : Files) → chunks_left files first ≡ wanted_chunks (read_options p) ws (input_chunks files p q)
 
 -- the reader of these columns, by options that are told
 pub reader-is : (p : PlanSeen) (q : Query) (ws : List Bool) (first : ReaderState) (schema : List Field) → schema ≡ q.schema → first.options ≡ read_options p
-    → ((files : Files) → left_of files first ≡ narrowed first.options ws (csv_chunks files (files_named p.words) schema first.options)) → IsReader p (query_tree q) ws first
+    → ((files : Files) → chunks_left files first ≡ wanted_chunks first.options ws (csv_chunks files (files_named p.words) schema first.options)) → IsReader p (query_tree q) ws first
 reader-is p q ws first schema same options left = record { left = λ files. left files ∙ alike files } where
-  alike : (files : Files) → narrowed first.options ws (csv_chunks files (files_named p.words) schema first.options) ≡ narrowed (read_options p) ws (input_chunks files p (query_tree q))
-  alike files = λ i. narrowed (options i) ws (csv_chunks files (files_named p.words) (same i) (options i))
+  alike : (files : Files) → wanted_chunks first.options ws (csv_chunks files (files_named p.words) schema first.options) ≡ wanted_chunks (read_options p) ws (input_chunks files p (query_tree q))
+  alike files = λ i. wanted_chunks (options i) ws (csv_chunks files (files_named p.words) (same i) (options i))
 
 -- as few chunks with as few rows
 pub few-same : (ws : List Bool) (chunks : List DataChunk) → are_few (narrowed_chunks ws chunks) ≡ are_few chunks
 few-same ws chunks = λ i. nat_lt (rows-as-many ws chunks i) (2 ^ 32) && nat_lt (chunks-as-many ws chunks i) (2 ^ 32)
 
 -- so their reading ends alike
-pub end-same : (p : PlanSeen) (ws : List Bool) (given : CsvChunks) → end_of (narrowed (read_options p) ws given) ≡ end_of given
+pub end-same : (p : PlanSeen) (ws : List Bool) (given : CsvChunks) → end_of (wanted_chunks (read_options p) ws given) ≡ end_of given
 end-same p ws given = ap (λ (b : Bool). if b then given.stop else Some too_large) (few-same ws given.chunks)
 
 -- chunks of the wanted columns are what is wanted of whole ones: those of the files, where they are told
 pub record AreRead (p : PlanSeen) (q : QueryTree) (ws : List Bool) (told : Option Files) (chunks : List DataChunk) : Type 0 where
   pub whole : List DataChunk
   pub wanted : narrowed_chunks ws whole ≡ chunks
-  pub fit : AllFit q.schema whole
+  pub fit : AllHaveFields q.schema whole
   pub input : AreInput p q told whole
 
 pub whole-read : (p : PlanSeen) (q : QueryTree) (ws : List Bool) (told : Option Files) (first : ReaderState) (chunks : List DataChunk) → IsReader p q ws first
-    → AllFit (chosen ws q.schema) chunks → AreAll told first chunks → AreRead p q ws told chunks
+    → AllHaveFields (chosen ws q.schema) chunks → AreAll told first chunks → AreRead p q ws told chunks
 whole-read p q ws None first chunks reader fit all = record {
   whole = widened_chunks ws q.schema chunks;
   wanted = widened-wanted ws q.schema chunks fit;
@@ -70,7 +70,7 @@ whole-read p q ws None first chunks reader fit all = record {
 }
 whole-read p q ws (Some files) first chunks reader fit all =
     let given : CsvChunks = input_chunks files p q in
-    let is : narrowed (read_options p) ws given ≡ record { chunks = chunks; stop = None } = sym (reader.left files) ∙ all in
+    let is : wanted_chunks (read_options p) ws given ≡ record { chunks = chunks; stop = None } = sym (reader.left files) ∙ all in
     let ended : given.stop ≡ None = ap (λ (r : CsvChunks). r.stop) is in
     record {
       whole = given.chunks;
@@ -94,13 +94,13 @@ named-many exprs schema fields ws same is =
 
 module _ (p : PlanSeen) (q : Query) (ws : List Bool) (covered : covers ws (query_tree q) ≡ true) (made stores : List StoreSeen) where
   -- a run that was answered
-  pub whole-answered : (out : GroupByOutput) (whole : List DataChunk) → AllFit q.schema whole
+  pub whole-answered : (out : GroupByOutput) (whole : List DataChunk) → AllHaveFields q.schema whole
       → IsAnswered (asked_run p (query_tree (narrowed_query ws q)) false (narrowed_chunks ws whole) made) out stores
       → IsAnswered (asked_run p (query_tree q) false whole made) out stores
   whole-answered out whole fit is = fewer-answered ws (asked_run p (query_tree q) false whole made) out stores fit covered is
 
   -- what one left of its stores
-  pub whole-frames : (is_open : Bool) (chunks : List DataChunk) → AllFit (chosen ws q.schema) chunks
+  pub whole-frames : (is_open : Bool) (chunks : List DataChunk) → AllHaveFields (chosen ws q.schema) chunks
       → HaveWholeFrames (asked_run p (query_tree (narrowed_query ws q)) is_open chunks made) stores
       → HaveWholeFrames (asked_run p (query_tree q) is_open (widened_chunks ws q.schema chunks) made) stores
   whole-frames is_open chunks fit frames =

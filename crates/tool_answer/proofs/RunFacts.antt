@@ -27,22 +27,22 @@ use Rattle.pipe_run.specs.Fed.{FedSeen}
 use Rattle.pipe_run.specs.declared.error.PipeError.TheVariants as pipe_error
 use Rattle.pipe_run.specs.declared.output.GroupByOutput.{GroupByOutput}
 use Rattle.pipe_source.specs.CsvChunks.{misfit, Stop, too_large}
-use Rattle.pipe_source.specs.Reader.{left_of, ReaderState}
+use Rattle.pipe_source.specs.Reader.{chunks_left, ReaderState}
 use Rattle.tool_run.specs.Answering.{IsAnsweredFrom, IsRunEnd}
 use Rattle.tool_run.specs.Answering as run
 use Rattle.tool_run.specs.Reading.{are_few, end_of}
 use Rattle.tool_run.specs.declared.error.FileRunError.{FileRunError}
 use Rattle.tool_run.specs.declared.error.FileRunError.TheVariants as run_error
 use Rattle.tool_words.specs.Asked.{asks, does_keep}
-use Rattle.pipe_run.specs.Refusals.{AllFit, lies_between, limits_fit, suits_keys}
-use Rattle.pipe_run.specs.Setting.{run_of, Setting}
+use Rattle.pipe_run.specs.Refusals.{AllHaveFields, lies_between, limits_fit, suits_keys}
+use Rattle.pipe_run.specs.Setting.{run_over, Setting}
 use Rattle.pipe_run.specs.WholeRun.{setting_fits}
 use Rattle.pipe_run.proofs.RunEnds.{untouched-frames}
 use Rattle.pipe_words.specs.Plans.{CanRun, PlanSeen}
 use Rattle.tool_answer.specs.declared.fault.ToolFault.TheVariants as fault
 use Rattle.tool_answer.specs.Asking.{asked_run, has_folder, input_chunks}
 use Rattle.pipe_plan.specs.Stores.{stores_seen}
-use Rattle.tool_answer.specs.Ended.{HasFailed, HasUntold, IsMade, IsSound}
+use Rattle.tool_answer.specs.Ended.{HasFailed, HasUntold, IsMade, IsSoundStore}
 use Rattle.tool_answer.specs.Faults.{EndsFor, IsCaused}
 use Rattle.tool_answer.specs.Inside.{CanCome, file_fault, IsOfRun}
 use Rattle.tool_answer.specs.Headline.{HasRunTo, HaveFront}
@@ -129,11 +129,11 @@ fields-narrow p q now ws made s schema fields is setting same read =
     read ∙ ap (chosen ws) same ∙ sym (ap (λ (x : Setting). x.query.schema) setting ∙ ap (λ (k : Query). k.schema) is)
 
 -- a run that was fed nothing
-pub begun-front : (s : FedSeen) (stores : List StoreSeen) → s.chunks ≡ [] → HaveWholeFrames (run_of s.setting true s.chunks) stores → run.HaveFront s.setting stores
+pub begun-front : (s : FedSeen) (stores : List StoreSeen) → s.chunks ≡ [] → HaveWholeFrames (run_over s.setting true s.chunks) stores → run.HaveFront s.setting stores
 begun-front s stores none frames = record {
   chunks = s.chunks;
   is_open = true;
-  fit = subst (AllFit s.setting.query.schema) (sym none) (All-nil (λ (c : DataChunk). FitsSchema s.setting.query.schema c.frame));
+  fit = subst (AllHaveFields s.setting.query.schema) (sym none) (All-nil (λ (c : DataChunk). FitsSchema s.setting.query.schema c.frame));
   frames = frames;
 }
 
@@ -196,14 +196,14 @@ module _ (p : PlanSeen) (q : QueryTree) (is_open : Bool) (chunks : List DataChun
     (new : All (IsMade p.spill_dir) made) (count : length made ≡ p.limits.partitions)
     (frames : HaveFrames (asked_run p q is_open chunks made) stores) where
   -- where the stores tell now, they told as they were made
-  pub told-made : All IsSound stores → All (λ (s : StoreSeen). tells s ≡ true) made
+  pub told-made : All IsSoundStore stores → All (λ (s : StoreSeen). tells s ≡ true) made
   told-made sound = All-from_get_or (λ (s : StoreSeen). tells s ≡ true) made no_store (λ k lt.
       let here : k < p.limits.partitions = omega (arith, lt, count) in
       told-before _ _ _ (frames.each k here).1.told (sound k no_store (omega (arith, here, frames.count))).told)
 
   module _ (never : All (λ (s : StoreSeen). IsTrue s.sure → s.faults ≡ 0) stores) where
     -- without a folder they are sound, whatever a run left of them
-    pub sound-at : p.spill_dir ≡ None → (k : ℕ) → k < length stores → IsSound (slice_index_or stores k no_store)
+    pub sound-at : p.spill_dir ≡ None → (k : ℕ) → k < length stores → IsSoundStore (slice_index_or stores k no_store)
     sound-at none k lt =
         let here : k < p.limits.partitions = omega (arith, lt, frames.count) in
         let has = (frames.each k here).1 in
@@ -213,8 +213,8 @@ module _ (p : PlanSeen) (q : QueryTree) (is_open : Bool) (chunks : List DataChun
           sound = never k no_store lt (subst (λ (b : Bool). IsTrue b) (sym has.sure) (first.sure none));
         }
 
-    pub all-sound : p.spill_dir ≡ None → All IsSound stores
-    all-sound none = All-from_get_or IsSound stores no_store (λ k lt. sound-at none k lt)
+    pub all-sound : p.spill_dir ≡ None → All IsSoundStore stores
+    all-sound none = All-from_get_or IsSoundStore stores no_store (λ k lt. sound-at none k lt)
 
     -- a store that failed is one of a folder
     pub store-caused : (k : ℕ) → k < length stores → 0 < (slice_index_or stores k no_store).faults → (has_folder (asks p q) ≡ true) × HasFailed stores k
@@ -241,7 +241,7 @@ module _ (p : PlanSeen) (q : QueryTree) (is_open : Bool) (chunks : List DataChun
 
 -- why the reading of the wanted columns ends is why the files of the plan end
 ends-for : (told : Option Files) (first : ReaderState) (p : PlanSeen) (q : QueryTree) (ws : List Bool) (stop : Stop) → IsReader p q ws first
-    → IfSome told (λ files. end_of (left_of files first) ≡ Some stop) → EndsFor stop (asks p q) told
+    → IfSome told (λ files. end_of (chunks_left files first) ≡ Some stop) → EndsFor stop (asks p q) told
 ends-for None first p q ws stop reader ends = tt
 ends-for (Some files) first p q ws stop reader ends = sym (ap end_of (reader.left files) ∙ end-same p ws (input_chunks files p q)) ∙ ends
 
@@ -253,12 +253,12 @@ module _ (p : PlanSeen) (q : Query) (ws : List Bool) (covered : covers ws (query
   abbrev wide : List DataChunk
   wide = widened_chunks ws q.schema back.chunks
 
-  fit : AllFit (chosen ws q.schema) back.chunks
-  fit = subst (λ (x : Setting). AllFit x.query.schema back.chunks) began.setting back.fit
+  fit : AllHaveFields (chosen ws q.schema) back.chunks
+  fit = subst (λ (x : Setting). AllHaveFields x.query.schema back.chunks) began.setting back.fit
 
   -- what a run over the wanted columns leaves is what one over all leaves
   whole : HaveWholeFrames (asked_run p (query_tree q) back.is_open wide made) stores
-  whole = whole-frames p q ws covered made stores back.is_open back.chunks fit (subst (λ (x : Setting). HaveWholeFrames (run_of x back.is_open back.chunks) stores) began.setting back.frames)
+  whole = whole-frames p q ws covered made stores back.is_open back.chunks fit (subst (λ (x : Setting). HaveWholeFrames (run_over x back.is_open back.chunks) stores) began.setting back.frames)
 
   have : HaveFrames (asked_run p (query_tree q) back.is_open wide made) stores
   have = whole-are (asked_run p (query_tree q) back.is_open wide made) stores whole
@@ -266,7 +266,7 @@ module _ (p : PlanSeen) (q : Query) (ws : List Bool) (covered : covers ws (query
   pub run-front : HaveFront p (query_tree q) stores
   run-front = record { made = made; are_made = began.new; chunks = wide; is_open = back.is_open; frames = whole }
 
-  pub run-sound : All (λ (x : StoreSeen). IsTrue x.sure → x.faults ≡ 0) stores → p.spill_dir ≡ None → All IsSound stores
+  pub run-sound : All (λ (x : StoreSeen). IsTrue x.sure → x.faults ≡ 0) stores → p.spill_dir ≡ None → All IsSoundStore stores
   run-sound never = all-sound p (query_tree q) back.is_open wide made stores began.new began.count have never
 
   pub run-caused : (told : Option Files) (first : ReaderState) (never : All (λ (x : StoreSeen). IsTrue x.sure → x.faults ≡ 0) stores) (reader : IsReader p (query_tree q) ws first)
@@ -330,9 +330,9 @@ pub has-run : (p : PlanSeen) (q : Query) (ws : List Bool) → covers ws (query_t
     → Began p (narrowed_query ws q) made s → IsReader p (query_tree q) ws first
     → IsAnsweredFrom s.setting told first out stores → HasRunTo p (query_tree q) told out stores
 has-run p q ws covered made stores s told first out began reader from =
-    let fit : AllFit (chosen ws q.schema) from.chunks = subst (λ (x : Setting). AllFit x.query.schema from.chunks) began.setting from.fit in
+    let fit : AllHaveFields (chosen ws q.schema) from.chunks = subst (λ (x : Setting). AllHaveFields x.query.schema from.chunks) began.setting from.fit in
     let whole : AreRead p (query_tree q) ws told from.chunks = whole-read p (query_tree q) ws told first from.chunks reader fit from.all in
-    let narrow : IsAnswered (asked_run p (query_tree (narrowed_query ws q)) false from.chunks made) out stores = subst (λ (x : Setting). IsAnswered (run_of x false from.chunks) out stores) began.setting from.answered in
+    let narrow : IsAnswered (asked_run p (query_tree (narrowed_query ws q)) false from.chunks made) out stores = subst (λ (x : Setting). IsAnswered (run_over x false from.chunks) out stores) began.setting from.answered in
     record {
       made = made;
       are_made = began.new;
@@ -345,7 +345,7 @@ has-run p q ws covered made stores s told first out began reader from =
 
 -- without a folder its stores are sound
 pub has-run-sound : (p : PlanSeen) (q : QueryTree) (told : Option Files) (out : GroupByOutput) (stores : List StoreSeen) → HasRunTo p q told out stores
-    → All (λ (x : StoreSeen). IsTrue x.sure → x.faults ≡ 0) stores → p.spill_dir ≡ None → All IsSound stores
+    → All (λ (x : StoreSeen). IsTrue x.sure → x.faults ≡ 0) stores → p.spill_dir ≡ None → All IsSoundStore stores
 has-run-sound p q told out stores run never =
     all-sound p q false run.chunks run.made stores run.are_made run.count (replayed-are (asked_run p q false run.chunks run.made) out stores run.answered) never
 

@@ -27,7 +27,7 @@ use Rattle.tool_answer.specs.declared.fault.ToolFault.TheVariants as fault
 use Rattle.tool_answer.specs.declared.status.TheConstants.{DAMAGED, DONE, INPUT_REFUSED, NO_MEMORY, QUERY_REFUSED, STORE_FAILED, WORDS_REFUSED}
 use Rattle.tool_answer.specs.Asking.{asked_run, stop_due}
 use Rattle.tool_answer.specs.Formats.{text_in}
-use Rattle.tool_answer.specs.Ended.{HasFailed, HasUntold, IsSound}
+use Rattle.tool_answer.specs.Ended.{HasFailed, HasUntold, IsSoundStore}
 use Rattle.tool_answer.specs.Faults.{IsCaused, refusal_status, status_of}
 use Rattle.tool_answer.specs.Inside.{EndsMade, EndsRefused, IsLeft, IsUnread}
 use Rattle.tool_answer.specs.Headline.{answer_text, HasAnswer, HasNoRun, HasRun, HasRunTo, HasStopped, IsAnswerWritten, IsBegun, IsWritten}
@@ -62,7 +62,7 @@ memory-begun old new told p q files journals stores text has (inr front) = inr (
 
 -- where the stores tell, its text is that of the answer over the files
 answer-of : (p : PlanSeen) (q : QueryTree) (told : Option Files) (old new : Option (List ℕ)) (journals : List (List PartitionEvent)) (stores : List StoreSeen) (text : List ℕ)
-    → HasAnswer p q told journals stores text → All IsSound stores → Appends old new text → IfSome told (λ files. Appends old new (answer_text files p q))
+    → HasAnswer p q told journals stores text → All IsSoundStore stores → Appends old new text → IfSome told (λ files. Appends old new (answer_text files p q))
 answer-of p q None old new journals stores text has sound appends = tt
 answer-of p q (Some files) old new journals stores text has sound appends =
     let run = has.run in
@@ -73,7 +73,7 @@ answer-of p q (Some files) old new journals stores text has sound appends =
     subst (Appends old new) is appends
 
 -- and its lines tell of the answer over generated rows
-tells-answer : (p : PlanSeen) (m : Made) (journals : List (List PartitionEvent)) (stores : List StoreSeen) (text : List ℕ) → HasMadeLines p m journals stores text → All IsSound stores → TellAnswer p m text
+tells-answer : (p : PlanSeen) (m : Made) (journals : List (List PartitionEvent)) (stores : List StoreSeen) (text : List ℕ) → HasMadeLines p m journals stores text → All IsSoundStore stores → TellAnswer p m text
 tells-answer p m journals stores text has sound =
     let run = has.run in
     let r = asked_run p made_tree false (made m) run.new in
@@ -81,7 +81,7 @@ tells-answer p m journals stores text has sound =
     record { out = has.out; frame_is = run.answered.answer told; text_is = has.text_is }
 
 pub written-answered : (a : Asked) (told : Option Files) (old new : Option (List ℕ)) (journals : List (List PartitionEvent)) (stores : List StoreSeen)
-    → IsWritten a told old new journals stores → All IsSound stores → IsAnswerWritten a told old new
+    → IsWritten a told old new journals stores → All IsSoundStore stores → IsAnswerWritten a told old new
 written-answered (refused r) told old new journals stores written sound = absurd written
 written-answered (asks p q) told old new journals stores written sound = answer-of p q told old new journals stores written.0 written.1 sound written.2
 written-answered (makes p m) told old new journals stores written sound = (written.0, tells-answer p m journals stores written.0 written.1 sound, written.2)
@@ -305,19 +305,19 @@ told-otherwise o f status has told other is = other (told other ∙ ap status_of
 -- ---- where nothing fails
 
 -- no sound store has failed
-none-failed : (stores : List StoreSeen) (p : ℕ) → All IsSound stores → HasFailed stores p → ⊥
+none-failed : (stores : List StoreSeen) (p : ℕ) → All IsSoundStore stores → HasFailed stores p → ⊥
 none-failed stores p sound failed =
-    let at : IsSound (slice_index_or stores p no_store) = All-get_or IsSound stores p no_store failed.within sound in
+    let at : IsSoundStore (slice_index_or stores p no_store) = All-get_or IsSoundStore stores p no_store failed.within sound in
     omega (arith, at.sound, failed.failed)
 
 -- each sound store tells
-none-untold : (stores : List StoreSeen) (p n : ℕ) → All IsSound stores → HasUntold stores p n → ⊥
+none-untold : (stores : List StoreSeen) (p n : ℕ) → All IsSoundStore stores → HasUntold stores p n → ⊥
 none-untold stores p n sound untold =
-    let at : IsSound (slice_index_or stores p no_store) = All-get_or IsSound stores p no_store untold.within sound in
+    let at : IsSoundStore (slice_index_or stores p no_store) = All-get_or IsSoundStore stores p no_store untold.within sound in
     false≢true (sym (ap (λ (o : Option (List (List ℕ))). is_some o) untold.untold) ∙ at.told)
 
 -- where 0 is due and nothing failed, a fault is want of memory
-calm-fault : (f : ToolFault) (a : Asked) (files : Files) (stores : List StoreSeen) → IsCaused f a (Some files) stores → due_status a files ≡ DONE → All IsSound stores
+calm-fault : (f : ToolFault) (a : Asked) (files : Files) (stores : List StoreSeen) → IsCaused f a (Some files) stores → due_status a files ≡ DONE → All IsSoundStore stores
     → (f ≡ fault.InputFailed → ⊥) → (f ≡ fault.OutputFailed → ⊥) → status_of f ≡ NO_MEMORY
 calm-fault (fault.Refused r) a files stores cause due sound input output = absurd (refusal-not-done r (subst (λ (b : Asked). due_status b files ≡ DONE) cause due))
 calm-fault (fault.Missing file) a files stores cause due sound input output = absurd (omega (arith, due, stop-due a files _ cause))
@@ -333,7 +333,7 @@ calm-fault fault.Memory a files stores cause due sound input output = refl
 
 -- and so it is told
 pub told-complete : (f : ToolFault) (a : Asked) (told : Option Files) (stores : List StoreSeen) (status : ℕ) → IsCaused f a told stores → (status ≡ status_of f) ⊎ (status ≡ NO_MEMORY)
-    → IsSome told → IsDue DONE a told → All IsSound stores → (f ≡ fault.InputFailed → ⊥) → (f ≡ fault.OutputFailed → ⊥) → status ≡ NO_MEMORY
+    → IsSome told → IsDue DONE a told → All IsSoundStore stores → (f ≡ fault.InputFailed → ⊥) → (f ≡ fault.OutputFailed → ⊥) → status ≡ NO_MEMORY
 told-complete f a told stores status cause (inr is) known due sound input output = is
 told-complete f a None stores status cause (inl is) known due sound input output = absurd (false≢true known)
 told-complete f a (Some files) stores status cause (inl is) known due sound input output = is ∙ calm-fault f a files stores cause due sound input output

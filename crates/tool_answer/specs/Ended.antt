@@ -18,7 +18,7 @@ pub record IsMade (folder : Option (List ℕ)) (s : StoreSeen) : Type 0 where
   pub sure : folder ≡ None → IsTrue s.sure
 
 -- a store tells, and never failed
-pub record IsSound (s : StoreSeen) : Type 0 where
+pub record IsSoundStore (s : StoreSeen) : Type 0 where
   pub told : tells s ≡ true
   pub sound : s.faults ≡ 0
 

@@ -53,8 +53,8 @@ abbrev pub is_refusal : ℕ → Bool
 is_refusal status = list_any (λ s. s == status) (WORDS_REFUSED ∷ QUERY_REFUSED ∷ [])
 
 -- the statuses of a run that stopped
-abbrev pub is_stop : ℕ → Bool
-is_stop status =
+abbrev pub is_stopped : ℕ → Bool
+is_stopped status =
     list_any (λ s. s == status)
     (INPUT_REFUSED ∷ INPUT_FAILED ∷ TOO_LARGE ∷ STORE_FAILED ∷ DAMAGED ∷ [])
 

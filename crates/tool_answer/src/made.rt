@@ -13,7 +13,7 @@ ghost use Rattle.tool_made.specs.MadeQuery.{made_tree};
 ghost use Rattle.tool_run.specs.MadeLines.{made_lines};
 ghost use Rattle.tool_words.specs.Asked.{does_keep, makes};
 ghost use Rattle.tool_answer.specs.Asking.{due_paths};
-ghost use Rattle.tool_answer.specs.Ended.{IsSound};
+ghost use Rattle.tool_answer.specs.Ended.{IsSoundStore};
 ghost use Rattle.tool_answer.specs.Faults.{IsCaused};
 ghost use Rattle.tool_answer.specs.Headline.{HasNoRun, IsBegun, IsWritten};
 ghost use Rattle.tool_answer.specs.Inside.{IsBefore, IsLeft, IsUnread};
@@ -94,7 +94,7 @@ pub fn answer_made<O: Output, M: StoreMaker, G: Gate + Sync, H: Threads + Wait +
         ⊎ IsBegun (makes (plan_seen question.plan) question.rows) None
         (O.told output.old) (O.told output.new) result.journals result.stores }
     ensures unread { IfSome result.fault (λ f. IsUnread f) }
-    ensures in_memory { question.plan.spill_dir ≡ None → All IsSound result.stores }
+    ensures in_memory { question.plan.spill_dir ≡ None → All IsSoundStore result.stores }
     ensures stores_made { result.fault ≢ Some fault.Memory → M.made maker.new ≡ M.made maker.old
         ++ due_paths (makes (plan_seen question.plan) question.rows) }
     ensures memory_made { HasNoRun result.journals result.stores ⊎ (M.made maker.new

@@ -9,7 +9,7 @@ ghost use Rattle.pipe_words.specs.Plans.{CanRun, plan_seen};
 ghost use Rattle.tool_made.specs.MadeQuery.{made_tree};
 ghost use Rattle.tool_words.specs.Asked.{does_keep, makes};
 ghost use Rattle.pipe_plan.specs.Stores.{stores_seen};
-ghost use Rattle.tool_answer.specs.Ended.{IsMade, IsSound};
+ghost use Rattle.tool_answer.specs.Ended.{IsMade, IsSoundStore};
 ghost use Rattle.tool_answer.specs.Faults.{IsCaused};
 ghost use Rattle.tool_answer.specs.Headline.{HaveFront};
 ghost use Rattle.tool_answer.specs.Inside.{IsOfStores};
@@ -54,7 +54,7 @@ pub fn run_rows<S: SpillStore + Drop + Send, G: Gate + Sync, H: Threads + Wait +
     ensures stopped { IfErr result.0 (λ _. HaveFront (plan_seen question.plan) made_tree
         (stores_seen S.held S.told S.faults S.sure result.1.items)) }
     ensures in_memory { question.plan.spill_dir ≡ None
-        → All IsSound (stores_seen S.held S.told S.faults S.sure result.1.items) }
+        → All IsSoundStore (stores_seen S.held S.told S.faults S.sure result.1.items) }
 {
     let MadeQuestion { plan, query, rows } = question;
     let Plan {

@@ -2,8 +2,8 @@
 
 ghost use Rattle.std.specs.Prelude.{◌≡◌, ◌<◌, ◌≤◌, IfOk, length, vec_len};
 ghost use Rattle.pipe_io.specs.Files.{Files};
-ghost use Rattle.pipe_source.specs.CsvChunks.{csv_chunks, narrowed};
-ghost use Rattle.pipe_source.specs.Reader.{given_fields, left_of};
+ghost use Rattle.pipe_source.specs.CsvChunks.{csv_chunks, wanted_chunks};
+ghost use Rattle.pipe_source.specs.Reader.{given_fields, chunks_left};
 ghost use Rattle.narrow_columns.specs.Wanted.{chosen};
 ghost use Rattle.tool_words.specs.Asked.{files_named};
 
@@ -37,8 +37,8 @@ pub fn reader_of(
 ) -> Result<ChunkReader, AllocError>
     requires size { 0 < chunk }
     requires wanted { vec_len wanted ≤ length schema }
-    ensures left { IfOk result (λ r. (files : Files) → left_of files r
-        ≡ narrowed r.options wanted.items
+    ensures left { IfOk result (λ r. (files : Files) → chunks_left files r
+        ≡ wanted_chunks r.options wanted.items
         (csv_chunks files (files_named words.items) schema r.options)) }
     ensures names { IfOk result (λ r. r.names ≡ files_named words.items) }
     ensures schema { IfOk result (λ r. r.schema ≡ schema) }

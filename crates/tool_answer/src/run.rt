@@ -11,7 +11,7 @@ ghost use Rattle.pipe_words.specs.Plans.{CanRun, plan_seen};
 ghost use Rattle.tool_words.specs.Asked.{asks, does_keep};
 ghost use Rattle.pipe_plan.specs.Stores.{stores_seen};
 ghost use Rattle.tool_answer.specs.Asking.{files_asked};
-ghost use Rattle.tool_answer.specs.Ended.{IsMade, IsSound};
+ghost use Rattle.tool_answer.specs.Ended.{IsMade, IsSoundStore};
 ghost use Rattle.tool_answer.specs.Faults.{IsCaused};
 ghost use Rattle.tool_answer.specs.Inside.{IsOfRun};
 ghost use Rattle.tool_answer.specs.Headline.{HasRunTo, HaveFront};
@@ -103,7 +103,7 @@ pub fn run_question<
     ensures stopped { IfErr result.0 (λ _. HaveFront (plan_seen question.plan)
         (query_tree question.query) (stores_seen S.held S.told S.faults S.sure result.1.items)) }
     ensures in_memory { question.plan.spill_dir ≡ None
-        → All IsSound (stores_seen S.held S.told S.faults S.sure result.1.items) }
+        → All IsSoundStore (stores_seen S.held S.told S.faults S.sure result.1.items) }
 {
     let Question { plan, query } = question;
     let Plan {

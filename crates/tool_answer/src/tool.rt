@@ -11,12 +11,12 @@ ghost use Rattle.pipe_model.specs.Output.{key_types};
 ghost use Rattle.pipe_words.specs.Plans.{CanRun, plan_seen};
 ghost use Rattle.tool_words.specs.Asked.{asked, asks, does_keep, is_refused, reads_none};
 ghost use Rattle.tool_answer.specs.Asking.{due_paths, files_asked, has_folder};
-ghost use Rattle.tool_answer.specs.Ended.{IsSound};
+ghost use Rattle.tool_answer.specs.Ended.{IsSoundStore};
 ghost use Rattle.tool_answer.specs.Formats.{text_in};
 ghost use Rattle.tool_answer.specs.Faults.{IsCaused};
 ghost use Rattle.tool_answer.specs.Inside.{EndsMade, EndsRefused, IsBefore, IsLeft};
 ghost use Rattle.tool_answer.specs.Headline.{HasNoRun, HasRun, HasStopped, IsAnswerWritten, IsBegun, IsWritten};
-ghost use Rattle.tool_answer.specs.Status.{EndsAsDue, EndsUnread, FrameDamaged, IsDue, IsRefusal, ReportsFault, ReportsFront, StoreFailed, is_answer, is_refusal, is_status, is_stop};
+ghost use Rattle.tool_answer.specs.Status.{EndsAsDue, EndsUnread, FrameDamaged, IsDue, IsRefusal, ReportsFault, ReportsFront, StoreFailed, is_answer, is_refusal, is_status, is_stopped};
 ghost use Rattle.pipe_writers.specs.declared.write_error.WriteError.TheVariants as write_error;
 ghost use Rattle.tool_answer.specs.declared.fault.ToolFault.TheVariants as fault;
 
@@ -127,7 +127,7 @@ fn answer_question<
     ensures memory { result.fault ≡ Some fault.Memory → (output.new ≡ output.old)
         ⊎ IsBegun (asks (plan_seen question.plan) (query_tree question.query)) (I.told input.old)
         (O.told output.old) (O.told output.new) result.journals result.stores }
-    ensures in_memory { question.plan.spill_dir ≡ None → All IsSound result.stores }
+    ensures in_memory { question.plan.spill_dir ≡ None → All IsSoundStore result.stores }
     ensures stores_made { result.fault ≢ Some fault.Memory → M.made maker.new ≡ M.made maker.old
         ++ due_paths (asks (plan_seen question.plan) (query_tree question.query)) }
     ensures memory_made { HasNoRun result.journals result.stores ⊎ (M.made maker.new
@@ -197,7 +197,7 @@ fn run<I: InputFiles, O: Output, M: StoreMaker, G: Gate + Sync, H: Threads + Wai
         → HasNoRun result.journals result.stores }
     ensures unread { IsTrue (reads_none (asked words.now)) → input.new ≡ input.old }
     ensures unmade { IsTrue (is_refused (asked words.now)) → maker.new ≡ maker.old }
-    ensures in_memory { has_folder (asked words.now) ≡ false → All IsSound result.stores }
+    ensures in_memory { has_folder (asked words.now) ≡ false → All IsSoundStore result.stores }
     ensures stores_made { result.fault ≢ Some fault.Memory
         → M.made maker.new ≡ M.made maker.old ++ due_paths (asked words.now) }
     ensures memory_made { HasNoRun result.journals result.stores
@@ -240,7 +240,7 @@ pub fn run_tool<
         (O.told output.old) (O.told output.new) result.journals result.stores }
 
     // Where the stores tell too, that is the text of the answer over the files.
-    ensures answered { result.status ≡ DONE → All IsSound result.stores
+    ensures answered { result.status ≡ DONE → All IsSoundStore result.stores
         → IsAnswerWritten (asked words.now) (I.told input.old) (O.told output.old) (O.told output.new) }
 
     // Where the input tells, each status comes exactly where it is due.
@@ -271,7 +271,7 @@ pub fn run_tool<
     ensures store_failed { result.status ≡ STORE_FAILED
         → StoreFailed (asked words.now) result.stores }
     ensures damaged { result.status ≡ DAMAGED → FrameDamaged (asked words.now) result.stores }
-    ensures in_memory { has_folder (asked words.now) ≡ false → All IsSound result.stores }
+    ensures in_memory { has_folder (asked words.now) ≡ false → All IsSoundStore result.stores }
 
     // Unless memory runs out, exactly the stores of the folder that the words name are made, one a
     // partition, in order; where it runs out before all are made, none is left.
@@ -290,7 +290,7 @@ pub fn run_tool<
 
     // A question over good files that nothing disturbs is answered, or memory ran out.
     ensures complete { IsSome (I.told input.old) → IsDue DONE (asked words.now) (I.told input.old)
-        → All IsSound result.stores
+        → All IsSoundStore result.stores
         → (Rose (I.faults input.old) (I.faults input.new) → ⊥)
         → (Rose (O.faults output.old) (O.faults output.new) → ⊥)
         → (result.status ≡ DONE) ⊎ (result.status ≡ NO_MEMORY) }
@@ -299,7 +299,7 @@ pub fn run_tool<
     // are whole.
     ensures not_run { IsTrue (is_refused (asked words.now))
         → HasNoRun result.journals result.stores }
-    ensures stopped { IsTrue (is_stop result.status)
+    ensures stopped { IsTrue (is_stopped result.status)
         → HasStopped (asked words.now) result.journals result.stores }
     ensures ran { IsTrue (is_answer result.status)
         → HasRun (asked words.now) (I.told input.old) result.journals result.stores }
@@ -309,7 +309,7 @@ pub fn run_tool<
 
     // What is written where the output isn't due, and what is reported.
     ensures untouched { IsTrue (is_refusal result.status) → output.new ≡ output.old }
-    ensures stopped_untouched { IsTrue (is_stop result.status) → output.new ≡ output.old }
+    ensures stopped_untouched { IsTrue (is_stopped result.status) → output.new ≡ output.old }
     ensures memory_begun { result.status ≡ NO_MEMORY → (output.new ≡ output.old)
         ⊎ IsBegun (asked words.now) (I.told input.old) (O.told output.old) (O.told output.new)
         result.journals result.stores }

@@ -23,29 +23,29 @@ use Rattle.pipe_run.specs.Fed.{FedSeen}
 use Rattle.pipe_run.specs.Answered.{HaveWholeFrames}
 use Rattle.pipe_run.specs.Feeding.{chunks_reached, IsFeedCause, NoneFell}
 use Rattle.pipe_run.specs.Finish.{IsFinishCause}
-use Rattle.pipe_run.specs.Refusals.{AllFit, AreMany, IsFirstMisfit}
-use Rattle.pipe_run.specs.Setting.{run_of, Setting}
+use Rattle.pipe_run.specs.Refusals.{AllHaveFields, AreMany, IsFirstMisfit}
+use Rattle.pipe_run.specs.Setting.{run_over, Setting}
 use Rattle.pipe_run.proofs.Feeding.{height-append}
 use Rattle.pipe_source.specs.CsvChunks.{chunks_then, CsvChunks, Stop, too_large}
-use Rattle.pipe_source.specs.Reader.{left_of, ReaderState}
+use Rattle.pipe_source.specs.Reader.{chunks_left, ReaderState}
 use Rattle.pipe_source.specs.Rounds.{StopsWithin}
 use Rattle.tool_run.specs.declared.counted.Counted.{Counted}
 use Rattle.tool_run.specs.Answering.{HaveFront}
 use Rattle.tool_run.specs.Reading.{AreAll, are_few, EndsBy, end_of, stop_of}
-use Rattle.tool_run.specs.Rounds.{AreTaken, are_few_behind, EndsBehind, EndsWith, end_behind, HasNone}
+use Rattle.tool_run.specs.Rounds.{WereTaken, are_few_behind, EndsBehind, EndsWith, end_behind, HasNoneLeft}
 
 -- ---- what was read
 
 -- chunks read behind others
 pub taken-then : (told : Option Files) (first old new : ReaderState) (taken more now : List DataChunk) → now ≡ taken ++ more
-    → AreTaken told first taken old → AreTaken told old more new → AreTaken told first now new
+    → WereTaken told first taken old → WereTaken told old more new → WereTaken told first now new
 taken-then None first old new taken more now is h g = tt
 taken-then (Some files) first old new taken more now is h g =
-    subst (λ (cs : List DataChunk). left_of files first ≡ chunks_then cs (left_of files new)) (sym is)
-    (h ∙ ap (chunks_then taken) g ∙ ap (λ (cs : List DataChunk). record { chunks = cs; stop = (left_of files new).stop }) (sym (append_assoc taken more (left_of files new).chunks)))
+    subst (λ (cs : List DataChunk). chunks_left files first ≡ chunks_then cs (chunks_left files new)) (sym is)
+    (h ∙ ap (chunks_then taken) g ∙ ap (λ (cs : List DataChunk). record { chunks = cs; stop = (chunks_left files new).stop }) (sym (append_assoc taken more (chunks_left files new).chunks)))
 
 -- once none is left, all were read
-pub taken-all : (told : Option Files) (first now : ReaderState) (taken : List DataChunk) → AreTaken told first taken now → HasNone told now → AreAll told first taken
+pub taken-all : (told : Option Files) (first now : ReaderState) (taken : List DataChunk) → WereTaken told first taken now → HasNoneLeft told now → AreAll told first taken
 taken-all None first now taken h none = tt
 taken-all (Some files) first now taken h none = h ∙ ap (chunks_then taken) none ∙ ap (λ (cs : List DataChunk). record { chunks = cs; stop = None }) (append-nil taken)
 
@@ -68,16 +68,16 @@ told-alike (Some s) one other is h = is ∙ h
 
 -- an error that says why the reading of the rest ends says why that of all ends
 pub ends-behind : (before : Counted) (told : Option Files) (first old : ReaderState) (taken : List DataChunk) (err : CsvError) → before.chunks ≡ length taken → before.rows ≡ total_height taken
-    → AreTaken told first taken old → EndsBehind before told old err → EndsBy told first err
+    → WereTaken told first taken old → EndsBehind before told old err → EndsBy told first err
 ends-behind before None first old taken err chunks rows h ends = tt
 ends-behind before (Some files) first old taken err chunks rows h ends =
-    told-alike (stop_of err) (end_of (left_of files first)) (end_behind before (left_of files old)) (ap end_of h ∙ ends-then before taken (left_of files old) chunks rows) ends
+    told-alike (stop_of err) (end_of (chunks_left files first)) (end_behind before (chunks_left files old)) (ap end_of h ∙ ends-then before taken (chunks_left files old) chunks rows) ends
 
 -- where files are told, an error that tells why the reading of any files ends, of which so much is left, tells it of these
 pub ends-told : (before : Counted) (told : Option Files) (first : ReaderState) (most : ℕ) (err now : CsvError) (chunks : List DataChunk) → ((left : CsvChunks) (most : ℕ) → StopsWithin most err chunks left → EndsWith before left now)
-    → IfSome told (λ files. StopsWithin most err chunks (left_of files first)) → EndsBehind before told first now
+    → IfSome told (λ files. StopsWithin most err chunks (chunks_left files first)) → EndsBehind before told first now
 ends-told before None first most err now chunks each h = tt
-ends-told before (Some files) first most err now chunks each h = each (left_of files first) most h
+ends-told before (Some files) first most err now chunks each h = each (chunks_left files first) most h
 
 -- ---- why a run is refused
 
@@ -140,17 +140,17 @@ fell-none stores = record { count = refl; each = λ p within. omega arith }
 -- ---- what is left of the stores
 
 -- whole frames of a run over chunks that fit
-pub front-of : (x now : Setting) (is_open : Bool) (chunks : List DataChunk) (stores : List StoreSeen) → now ≡ x → AllFit x.query.schema chunks
-    → HaveWholeFrames (run_of now is_open chunks) stores → HaveFront x stores
+pub front-of : (x now : Setting) (is_open : Bool) (chunks : List DataChunk) (stores : List StoreSeen) → now ≡ x → AllHaveFields x.query.schema chunks
+    → HaveWholeFrames (run_over now is_open chunks) stores → HaveFront x stores
 front-of x now is_open chunks stores same fit whole = record {
   chunks = chunks;
   is_open = is_open;
   fit = fit;
-  frames = subst (λ (s : Setting). HaveWholeFrames (run_of s is_open chunks) stores) same whole;
+  frames = subst (λ (s : Setting). HaveWholeFrames (run_over s is_open chunks) stores) same whole;
 }
 
 -- the chunks that a refused feed reached fit where all do
-pub reached-fit : (fields : List Field) (s : FedSeen) (chunks : List DataChunk) (err : PipeError) → AllFit fields s.chunks → AllFit fields (s.chunks ++ chunks) → AllFit fields (chunks_reached s chunks err)
+pub reached-fit : (fields : List Field) (s : FedSeen) (chunks : List DataChunk) (err : PipeError) → AllHaveFields fields s.chunks → AllHaveFields fields (s.chunks ++ chunks) → AllHaveFields fields (chunks_reached s chunks err)
 reached-fit fields s chunks (pipe_error.Schema i) few all = few
 reached-fit fields s chunks pipe_error.TooLarge few all = few
 reached-fit fields s chunks (pipe_error.Store p) few all = all
@@ -163,9 +163,9 @@ reached-fit fields s chunks (pipe_error.Damaged p n) few all = few
 -- ---- before the first round
 
 -- nothing is taken yet
-pub taken-none : (told : Option Files) (r : ReaderState) (taken : List DataChunk) → taken ≡ [] → AreTaken told r taken r
+pub taken-none : (told : Option Files) (r : ReaderState) (taken : List DataChunk) → taken ≡ [] → WereTaken told r taken r
 taken-none None r taken none = tt
-taken-none (Some files) r taken none = subst (λ (cs : List DataChunk). left_of files r ≡ chunks_then cs (left_of files r)) (sym none) refl
+taken-none (Some files) r taken none = subst (λ (cs : List DataChunk). chunks_left files r ≡ chunks_then cs (chunks_left files r)) (sym none) refl
 
 -- no chunk is a misfit
 pub fit-none : (fields : List Field) (taken : List DataChunk) → taken ≡ [] → All (λ (c : DataChunk). FitsSchema fields c.frame) taken

@@ -10,7 +10,7 @@ use Rattle.pipe_plan.specs.Run.{StoreSeen}
 use Rattle.pipe_run.specs.declared.error.PipeError.{PipeError}
 use Rattle.pipe_run.specs.Fed.{FedSeen}
 use Rattle.pipe_run.specs.Feeding.{chunks_reached, IsFeedCause, NoneFell}
-use Rattle.pipe_run.specs.Refusals.{AllFit}
+use Rattle.pipe_run.specs.Refusals.{AllHaveFields}
 use Rattle.pipe_run.specs.Finish.{IsFinishCause}
 use Rattle.tool_made.specs.Made.{chunk_count, made_chunk, made_from}
 use Rattle.tool_made.specs.MadeQuery.{made_schema}
@@ -24,12 +24,12 @@ fed-then m a b old more now one two is =
     is ∙ ap (λ (cs : List DataChunk). cs ++ more) one ∙ ap (λ (cs : List DataChunk). made_from m 0 a ++ cs) two ∙ sym (made-then m a b)
 
 -- the first chunks fit what the rows have
-pub made-fit : (fields : List Field) (m : Made) (n : ℕ) (chunks : List DataChunk) → made_schema ≡ fields → chunks ≡ made_from m 0 n → AllFit fields chunks
+pub made-fit : (fields : List Field) (m : Made) (n : ℕ) (chunks : List DataChunk) → made_schema ≡ fields → chunks ≡ made_from m 0 n → AllHaveFields fields chunks
 made-fit fields m n chunks same is =
-    subst (AllFit fields) (sym is) (subst (λ (f : List Field). AllFit f (made_from m 0 n)) same (chunks-fit m (range_with_len 0 n)))
+    subst (AllHaveFields fields) (sym is) (subst (λ (f : List Field). AllHaveFields f (made_from m 0 n)) same (chunks-fit m (range_with_len 0 n)))
 
 -- and so do those that a refused feed reached
-pub made-reached : (fields : List Field) (s : FedSeen) (m : Made) (a b : ℕ) (more : List DataChunk) (err : PipeError) → made_schema ≡ fields → s.chunks ≡ made_from m 0 a → more ≡ made_from m a b → AllFit fields (chunks_reached s more err)
+pub made-reached : (fields : List Field) (s : FedSeen) (m : Made) (a b : ℕ) (more : List DataChunk) (err : PipeError) → made_schema ≡ fields → s.chunks ≡ made_from m 0 a → more ≡ made_from m a b → AllHaveFields fields (chunks_reached s more err)
 made-reached fields s m a b more err same one two =
     reached-fit fields s more err (made-fit fields m a s.chunks same one) (made-fit fields m (a + b) (s.chunks ++ more) same (fed-then m a b s.chunks more (s.chunks ++ more) one two refl))
 

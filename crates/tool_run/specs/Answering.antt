@@ -7,8 +7,8 @@ use Rattle.pipe_run.specs.declared.output.GroupByOutput.{GroupByOutput}
 use Rattle.pipe_run.specs.Answered.{HaveWholeFrames, IsAnswered}
 use Rattle.pipe_run.specs.Fed.{FedSeen}
 use Rattle.pipe_run.specs.Finish.{IsFinishCause}
-use Rattle.pipe_run.specs.Refusals.{AllFit}
-use Rattle.pipe_run.specs.Setting.{run_of, Setting}
+use Rattle.pipe_run.specs.Refusals.{AllHaveFields}
+use Rattle.pipe_run.specs.Setting.{run_over, Setting}
 use Rattle.pipe_source.specs.Reader.{ReaderState}
 use Rattle.tool_run.specs.declared.error.FileRunError.{FileRunError}
 use Rattle.tool_run.specs.declared.error.FileRunError.TheVariants as error
@@ -21,8 +21,8 @@ pub record IsAnsweredFrom
   pub chunks : List DataChunk
   pub all : AreAll told first chunks
   pub few : are_few chunks ≡ true
-  pub fit : AllFit x.query.schema chunks
-  pub answered : IsAnswered (run_of x false chunks) out stores
+  pub fit : AllHaveFields x.query.schema chunks
+  pub answered : IsAnswered (run_over x false chunks) out stores
 
 -- why a run over files ends early: their reading does; or a store's faults rose; or a store doesn't
 -- tell, and the frame that is named is one that the run put there; or memory ran out
@@ -35,5 +35,5 @@ IsRunEnd s told first stores (error.Run e) = IsFinishCause s stores e
 pub record HaveFront (x : Setting) (stores : List StoreSeen) : Type 0 where
   pub chunks : List DataChunk
   pub is_open : Bool
-  pub fit : AllFit x.query.schema chunks
-  pub frames : HaveWholeFrames (run_of x is_open chunks) stores
+  pub fit : AllHaveFields x.query.schema chunks
+  pub frames : HaveWholeFrames (run_over x is_open chunks) stores

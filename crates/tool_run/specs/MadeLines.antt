@@ -12,8 +12,8 @@ is_arrival (event.Merge w) = false
 is_arrival (event.Dump w) = false
 
 -- how many pieces came to all partitions
-abbrev pub arrivals : List (List PartitionEvent) → ℕ
-arrivals journals = sum_by (λ j. count_by is_arrival j) journals
+abbrev pub all_arrivals : List (List PartitionEvent) → ℕ
+all_arrivals journals = sum_by (λ j. count_by is_arrival j) journals
 
 -- how many merges and dumps there were
 abbrev pub picks : List (List PartitionEvent) → ℕ
@@ -29,5 +29,5 @@ made_lines rows out =
     named_number (codes "rows") rows
     ++ (named_number (codes "groups") out.frame.height
     ++ (named_number (codes "overflow") out.overflow
-    ++ (named_number (codes "arrivals") (arrivals out.journals)
+    ++ (named_number (codes "all_arrivals") (all_arrivals out.journals)
     ++ named_number (codes "picks") (picks out.journals))))

@@ -7,7 +7,7 @@ use Rattle.pipe_csv.specs.declared.csv_error.CsvError.TheVariants as csv_error
 use Rattle.pipe_io.specs.Files.{Files}
 use Rattle.pipe_model.specs.Rows.{total_height}
 use Rattle.pipe_source.specs.CsvChunks.{CsvChunks, misfit, Stop, too_large}
-use Rattle.pipe_source.specs.Reader.{left_of, ReaderState}
+use Rattle.pipe_source.specs.Reader.{chunks_left, ReaderState}
 
 -- whether chunks and their rows have numbers of 32 bits
 abbrev pub are_few : List DataChunk → Bool
@@ -16,7 +16,7 @@ are_few chunks = nat_lt (total_height chunks) (2 ^ 32) && nat_lt (length chunks)
 -- where files are told, these chunks are all that was left, without a stop
 abbrev pub AreAll : Option Files → ReaderState → List DataChunk → Type 0
 AreAll told first taken =
-    IfSome told (λ files. left_of files first ≡ record { chunks = taken; stop = None })
+    IfSome told (λ files. chunks_left files first ≡ record { chunks = taken; stop = None })
 
 -- why the reading of chunks ends early, if it does: too many come before where the files stop
 abbrev pub end_of : CsvChunks → Option Stop
@@ -35,4 +35,4 @@ stop_of csv_error.Memory = None
 -- where files are told, an error that tells a stop tells why the reading of what was left ends
 abbrev pub EndsBy : Option Files → ReaderState → CsvError → Type 0
 EndsBy told first e =
-    IfSome told (λ files. IfSome (stop_of e) (λ stop. end_of (left_of files first) ≡ Some stop))
+    IfSome told (λ files. IfSome (stop_of e) (λ stop. end_of (chunks_left files first) ≡ Some stop))

@@ -5,7 +5,7 @@ use Rattle.pipe_csv.specs.declared.csv_error.CsvError.{CsvError}
 use Rattle.pipe_io.specs.Files.{Files}
 use Rattle.pipe_model.specs.Rows.{total_height}
 use Rattle.pipe_source.specs.CsvChunks.{chunks_then, CsvChunks, no_more, Stop, too_large}
-use Rattle.pipe_source.specs.Reader.{left_of, ReaderState}
+use Rattle.pipe_source.specs.Reader.{chunks_left, ReaderState}
 use Rattle.tool_run.specs.declared.counted.Counted.{Counted}
 use Rattle.tool_run.specs.Reading.{stop_of}
 
@@ -16,13 +16,13 @@ are_few_behind before chunks =
     && nat_lt (before.chunks + length chunks) (2 ^ 32)
 
 -- where files are told, these chunks were taken of what was left first
-abbrev pub AreTaken : Option Files → ReaderState → List DataChunk → ReaderState → Type 0
-AreTaken told first taken now =
-    IfSome told (λ files. left_of files first ≡ chunks_then taken (left_of files now))
+abbrev pub WereTaken : Option Files → ReaderState → List DataChunk → ReaderState → Type 0
+WereTaken told first taken now =
+    IfSome told (λ files. chunks_left files first ≡ chunks_then taken (chunks_left files now))
 
 -- where files are told, nothing is left
-abbrev pub HasNone : Option Files → ReaderState → Type 0
-HasNone told now = IfSome told (λ files. left_of files now ≡ no_more)
+abbrev pub HasNoneLeft : Option Files → ReaderState → Type 0
+HasNoneLeft told now = IfSome told (λ files. chunks_left files now ≡ no_more)
 
 -- why the reading ends early behind others, if it does: too many come before where the files stop
 abbrev pub end_behind : Counted → CsvChunks → Option Stop
@@ -36,4 +36,4 @@ EndsWith before left e = IfSome (stop_of e) (λ stop. end_behind before left ≡
 -- where files are told, an error does so
 abbrev pub EndsBehind : Counted → Option Files → ReaderState → CsvError → Type 0
 EndsBehind before told first e =
-    IfSome told (λ files. EndsWith before (left_of files first) e)
+    IfSome told (λ files. EndsWith before (chunks_left files first) e)

@@ -1,7 +1,7 @@
 //! How many events of a kind journals have.
 
 ghost use Rattle.std.specs.Prelude.{◌≡◌, ◌≤◌, ◌^◌, count_by, length, not};
-ghost use Rattle.tool_run.specs.MadeLines.{arrivals, is_arrival, picks};
+ghost use Rattle.tool_run.specs.MadeLines.{all_arrivals, is_arrival, picks};
 
 use pipe_global::{Journal, Journals};
 use pipe_plan::PartitionEvent;
@@ -44,7 +44,7 @@ fn picks_of(events: &[PartitionEvent]) -> usize
 
 /// How many pieces came to all partitions.
 pub(crate) fn arrivals(journals: &Journals) -> u128
-    ensures { result ≡ arrivals journals.now }
+    ensures { result ≡ all_arrivals journals.now }
 {
     let mut count = 0;
     for journal in journals.journals() {

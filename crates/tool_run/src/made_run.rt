@@ -4,7 +4,7 @@ ghost use Rattle.std.specs.Prelude.{◌≡◌, ◌<◌, [], false, IfErr, IfOk};
 ghost use Rattle.pipe_plan.specs.Stores.{stores_seen};
 ghost use Rattle.pipe_run.specs.Answered.{IsAnswered};
 ghost use Rattle.pipe_run.specs.Finish.{IsFinishCause};
-ghost use Rattle.pipe_run.specs.Setting.{run_of};
+ghost use Rattle.pipe_run.specs.Setting.{run_over};
 ghost use Rattle.tool_made.specs.Made.{made};
 ghost use Rattle.tool_made.specs.MadeQuery.{made_schema};
 ghost use Rattle.tool_run.specs.Answering.{HaveFront};
@@ -34,7 +34,7 @@ pub fn run_made<'a, S: SpillStore + Drop + Send, G: Gate + Sync, H: Threads + Wa
     requires none { run.chunks ≡ [] }
     requires fits { made_schema ≡ run.setting.query.schema }
     ensures answered { IfOk result.0 (λ out. IsAnswered
-        (run_of run.entry.setting false (made rows.now)) out
+        (run_over run.entry.setting false (made rows.now)) out
         (stores_seen S.held S.told S.faults S.sure result.1.items)) }
     ensures cause { IfErr result.0 (λ e. IsFinishCause run.entry
         (stores_seen S.held S.told S.faults S.sure result.1.items) e) }

@@ -9,7 +9,7 @@ ghost use Rattle.pipe_model.specs.Rows.{total_height};
 ghost use Rattle.pipe_source.specs.CsvChunks.{CsvChunks};
 ghost use Rattle.pipe_source.specs.Reader.{given_fields};
 ghost use Rattle.pipe_source.specs.Rounds.{StopsWithin};
-ghost use Rattle.tool_run.specs.Rounds.{AreTaken, EndsBehind, EndsWith, HasNone, are_few_behind};
+ghost use Rattle.tool_run.specs.Rounds.{WereTaken, EndsBehind, EndsWith, HasNoneLeft, are_few_behind};
 
 use crate::counted::Counted;
 use pipe_columns::DataChunk;
@@ -76,12 +76,12 @@ pub(crate) fn read_round<I: InputFiles, H: Threads + Sync>(
     requires few { (before.chunks < 2 ^ 32) × (before.rows < 2 ^ 32) }
     requires threads { 0 < threads }
     ensures taken { IfOk result
-        (λ r. AreTaken (I.told input.old) reader.old r.0.items reader.new) }
+        (λ r. WereTaken (I.told input.old) reader.old r.0.items reader.new) }
     ensures chunks { IfOk result (λ r. r.1.chunks ≡ before.chunks + length r.0.items) }
     ensures rows { IfOk result (λ r. r.1.rows ≡ before.rows + total_height r.0.items) }
     ensures few { IfOk result (λ r. (r.1.chunks < 2 ^ 32) × (r.1.rows < 2 ^ 32)) }
     ensures over { IfOk result
-        (λ r. length r.0.items < most → HasNone (I.told input.old) reader.new) }
+        (λ r. length r.0.items < most → HasNoneLeft (I.told input.old) reader.new) }
     ensures fit { IfOk result (λ r.
         All (λ c. FitsSchema (given_fields reader.old) c.frame) r.0.items) }
     ensures ends { IfErr result (λ e. EndsBehind before (I.told input.old) reader.old e) }

@@ -44,7 +44,8 @@ fn given_of_rows(
     Ok(None)
 }
 
-/// What an aggregate gives of two values that it is lent as a run.
+/// What an aggregate gives of two values that it is lent as a run, of which the text that it would
+/// keep is copied first.
 fn given_of_run(
     alloc: Global,
     prototype: &AggregateFunction,
@@ -54,10 +55,12 @@ fn given_of_run(
     if !is_taken(&function, &values[0]) || !is_taken(&function, &values[1]) {
         return Ok(None);
     }
-    if function.text_of_run(2, 7, values).is_some() {
-        function.pre_agg_ordered_copied(alloc, 2, 7, values)?;
-    } else {
-        function.pre_agg_ordered_lent(2, 7, values);
+    match function.text_of_run(2, 7, values) {
+        Some(index) => {
+            let row = 7 + index as u32;
+            function.pre_agg_copied(alloc, Place { chunk: 2, row }, &values[index])?;
+        }
+        None => function.pre_agg_ordered_lent(2, 7, values),
     }
     Ok(Some(function.finalize()))
 }

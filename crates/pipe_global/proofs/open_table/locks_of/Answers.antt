@@ -6,7 +6,7 @@ use Rattle.std.specs.Vec.Iter.{into_iter_items}
 use Rattle.std.proofs.lemmas.List.Elements.{All-pop}
 use Rattle.pipe_plan.specs.Run.{Run, StoreSeen}
 use Rattle.pipe_global.specs.declared.place.Place.{Place}
-use Rattle.pipe_global.specs.Opening.{AreStoresFrom, IsPlace}
+use Rattle.pipe_global.specs.Opening.{AreStoresFrom, IsEmptyPlace}
 use Rattle.pipe_global.specs.Partition.{store_of}
 use Rattle.pipe_global.proofs.Closing.{store-next}
 use Rattle.pipe_global.proofs.open_table.locks_of.Goals as goal
@@ -16,7 +16,7 @@ loop-store-preserved g c =
     let r = g.R.Naming.run in
     let S = g.row.S.Denot in
     let seen : S → StoreSeen = λ s. record { held = g.S.SpillStore.held s; told = g.S.SpillStore.told s; faults = g.S.SpillStore.faults s; sure = g.S.SpillStore.sure s } in
-    let P : Place → Type 0 = IsPlace r.query r.limits.workers in
+    let P : Place → Type 0 = IsEmptyPlace r.query r.limits.workers in
     let old : List S = into_iter_items c.loop-store.store-iterator in
     let new : List S = into_iter_items c.next.new.self in
     let items : old ≡ c.in-Some.store ∷ new = search rules in
@@ -68,8 +68,8 @@ unreachable-requires g c =
     omega (arith, ap (λ (l : List g.row.S.Denot). length l) items, c.loop-store.invariant.8, c.in_default.ensures.cases)
 
 -- the last of places
-last-place : (r : Run) (all left : List Place) (last : Option Place) (place : Place) → all ≡ left ++ option_to_list last → last ≡ Some place → All (IsPlace r.query r.limits.workers) all → IsPlace r.query r.limits.workers place
-last-place r all left last place pops is each = subst (λ o. IfSome o (IsPlace r.query r.limits.workers)) is (All-pop (IsPlace r.query r.limits.workers) all left last pops each).1
+last-place : (r : Run) (all left : List Place) (last : Option Place) (place : Place) → all ≡ left ++ option_to_list last → last ≡ Some place → All (IsEmptyPlace r.query r.limits.workers) all → IsEmptyPlace r.query r.limits.workers place
+last-place r all left last place pops is each = subst (λ o. IfSome o (IsEmptyPlace r.query r.limits.workers)) is (All-pop (IsEmptyPlace r.query r.limits.workers) all left last pops each).1
 
 pub new-requires-clause-shape : goal.new-requires-clause-shape
 new-requires-clause-shape g c =

@@ -6,7 +6,7 @@ use Rattle.pipe_model.specs.Output.{key_types}
 use Rattle.pipe_plan.specs.Run.{StoreSeen}
 use Rattle.pipe_run.specs.Refusals.{IsBeginCause, suits_keys}
 use Rattle.pipe_run.specs.Setting.{Setting}
-use Rattle.pipe_run.specs.WholeRun.{CanBegin, CanRun}
+use Rattle.pipe_run.specs.WholeRun.{CanBegin, CanRunOver}
 use Rattle.pipe_run.proofs.RunEnds.{begin-ends, finish-ends, fits-setting}
 use Rattle.pipe_group_by.proofs.AtOnce.{fed-can, typed-refused}
 use Rattle.pipe_group_by.proofs.Untouched.{none-fell}
@@ -42,6 +42,6 @@ returns g c =
     let first = c.in-Ok.run' in
     let last = c.in-Ok-feed.fed.0 in
     let fed : last.chunks ≡ chunks = c.in-Ok-feed.ensures.chunks ∙ ap (λ (l : List DataChunk). l ++ chunks) c.in-Ok.ensures.chunks in
-    let can : CanRun x chunks = record { begin = begin; feed = fed-can x chunks first c.in-Ok.ensures.setting c.in-Ok.ensures.chunks c.in-Ok-feed.ensures.fed } in
+    let can : CanRunOver x chunks = record { begin = begin; feed = fed-can x chunks first c.in-Ok.ensures.setting c.in-Ok.ensures.chunks c.in-Ok-feed.ensures.fed } in
     finish-ends x chunks last c.finish.result.0 (map seen c.finish.result.1.items) (c.in-Ok-feed.ensures.setting ∙ c.in-Ok.ensures.setting) fed can
     (none-fell x.stores last.stores (c.in-Ok-feed.ensures.same ∙ c.in-Ok.ensures.same)) c.finish.ensures.answered c.finish.ensures.cause c.finish.ensures.back

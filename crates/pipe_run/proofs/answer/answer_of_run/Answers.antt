@@ -12,7 +12,7 @@ use Rattle.pipe_keyed.specs.Tables.{Table}
 use Rattle.pipe_global.specs.Partition.{PartitionSeen}
 use Rattle.pipe_run.specs.Ending.{IsAnswerCause}
 use Rattle.pipe_run.specs.Given.{HasRows}
-use Rattle.pipe_run.specs.Setting.{run_of, Setting}
+use Rattle.pipe_run.specs.Setting.{run_over, Setting}
 use Rattle.pipe_run.specs.Sources.{IsGiveCause, KeepsAsked, unasked}
 use Rattle.pipe_run.proofs.AnswerOfRun.{ended-answer, ended-cause}
 use Rattle.pipe_run.proofs.EndedSource.{ended-rows, ended-source}
@@ -21,7 +21,7 @@ use Rattle.pipe_run.proofs.answer.answer_of_run.Goals as goal
 pub answer_of_parts-requires-clause-source : goal.answer_of_parts-requires-clause-source
 answer_of_parts-requires-clause-source g c κs within =
     let chunks : List DataChunk = map (λ m. m.value) c.args.chunks.now in
-    let r : Run = run_of c.args.begun.now false chunks in
+    let r : Run = run_over c.args.begun.now false chunks in
     let q : Query = c.begun.inside.query in
     let closed : List PartitionSeen = c.args.closed.items in
     let of_query : r.query ≡ query_tree q = ap (λ (x : Setting). query_tree x.query) (sym c.begun.view_is) in
@@ -36,7 +36,7 @@ answer_of_parts-requires-clause-some g c = omega (arith, c.requires.whole.count,
 pub returns-clause-answer : goal.returns-clause-answer
 returns-clause-answer g c =
     let chunks : List DataChunk = map (λ m. m.value) c.args.chunks.now in
-    let r : Run = run_of c.args.begun.now false chunks in
+    let r : Run = run_over c.args.begun.now false chunks in
     let q : Query = c.begun.inside.query in
     let closed : List PartitionSeen = c.args.closed.items in
     let of_query : r.query ≡ query_tree q = ap (λ (x : Setting). query_tree x.query) (sym c.begun.view_is) in
@@ -54,7 +54,7 @@ returns-clause-answer g c =
 pub returns-clause-cause : goal.returns-clause-cause
 returns-clause-cause g c =
     let chunks : List DataChunk = map (λ m. m.value) c.args.chunks.now in
-    let r : Run = run_of c.args.begun.now false chunks in
+    let r : Run = run_over c.args.begun.now false chunks in
     let q : Query = c.begun.inside.query in
     let closed : List PartitionSeen = c.args.closed.items in
     let local : Table = c.in-Ok.local in

@@ -8,16 +8,16 @@ use Rattle.pipe_columns.specs.Frame.{fields_of, frame_of, FrameData, stacked}
 use Rattle.pipe_model.specs.Output.{output_schema}
 use Rattle.pipe_groups.proofs.FrameRows.{frame-fields}
 use Rattle.pipe_run.specs.Given.{joined_frames}
-use Rattle.pipe_run.specs.Sources.{chunks_left, query_of}
+use Rattle.pipe_run.specs.Sources.{chunks_left, source_query}
 use Rattle.pipe_run.proofs.AnswerOfRun.{joining-all, joining-more, joining-none}
 use Rattle.pipe_run.proofs.Asking.{cause-later}
 use Rattle.pipe_run.proofs.answer.joined_chunks.Goals as goal
 
 pub chunks-init : goal.chunks-init
 chunks-init g c =
-    let is : c.in-Ok.frame ≡ frame_of (output_schema (query_of c.args.source.now)) [] =
+    let is : c.in-Ok.frame ≡ frame_of (output_schema (source_query c.args.source.now)) [] =
     c.in-Ok.ensures ∙ ap (λ (fields : List Field). frame_of fields []) (c.output_schema.ensures.schema ∙ ap (λ (q : Query). output_schema (query_tree q)) (sym c.requires)) in
-    joining-none c.args.source.now c.in-Ok.frame is (ap (λ (f : FrameData). fields_of f.columns) is ∙ frame-fields 0 (output_schema (query_of c.args.source.now)) [])
+    joining-none c.args.source.now c.in-Ok.frame is (ap (λ (f : FrameData). fields_of f.columns) is ∙ frame-fields 0 (output_schema (source_query c.args.source.now)) [])
 
 pub chunks-preserved : goal.chunks-preserved
 chunks-preserved g c =

@@ -2,7 +2,7 @@ use Rattle.std.proofs.Common.{rules, subst}
 use Rattle.std.specs.List.{All}
 use Rattle.pipe_columns.specs.declared.data_chunk.DataChunk.{DataChunk}
 use Rattle.pipe_columns.specs.Frame.{FitsSchema, HoldsTypes}
-use Rattle.pipe_run.specs.Refusals.{AllFit}
+use Rattle.pipe_run.specs.Refusals.{AllHaveFields}
 use Rattle.pipe_run.proofs.Lists.{all-take-more, take-past}
 use Rattle.pipe_run.proofs.chunk_check.first_misfit.Goals as goal
 
@@ -18,7 +18,7 @@ loop-position-preserved c =
     )
 
 pub returns-clause-none : goal.returns-clause-none
-returns-clause-none c = subst (AllFit c.args.schema.now) (take-past c.loop-position.position c.args.chunks.now c.loop-position-test.false) c.loop-position.invariant.0
+returns-clause-none c = subst (AllHaveFields c.args.schema.now) (take-past c.loop-position.position c.args.chunks.now c.loop-position-test.false) c.loop-position.invariant.0
 
 pub returns-clause-typed : goal.returns-clause-typed
 returns-clause-typed c = subst (All (λ (x : DataChunk). HoldsTypes x.frame)) (take-past c.loop-position.position c.args.chunks.now c.loop-position-test.false) c.loop-position.invariant.1

@@ -12,7 +12,7 @@ use Rattle.pipe_global.specs.declared.batch_error.BatchError.{BatchError}
 use Rattle.pipe_run.specs.Ending.{IsAnswerCause}
 use Rattle.pipe_run.specs.Fed.{FedSeen}
 use Rattle.pipe_run.specs.Finish.{IsFinishCause}
-use Rattle.pipe_run.specs.Setting.{run_of}
+use Rattle.pipe_run.specs.Setting.{run_over}
 use Rattle.pipe_run.proofs.Endings.{answered-shut, few-shut, groups-cause, groups-left, round-cause, round-left, runnable-shut}
 use Rattle.pipe_run.proofs.finish.finish_with.Goals as goal
 
@@ -55,8 +55,8 @@ returns-in-Err-groups-clause-cause g c =
     let seen = map (λ (p : PartitionSeen). p.store) c.args.closed.items in
     let s : FedSeen = record { setting = x; chunks = taken; journals = journals; stores = seen } in
     let after = c.answer_of_run-groups.result.1.items in
-    let cause : IsAnswerCause (run_of x false taken) c.in-Ok.ended.closed.items after c.in-Err-groups.error =
-    subst (λ (r : Result FrameData BatchError). IfErr r (λ e. IsAnswerCause (run_of x false taken) c.in-Ok.ended.closed.items after e)) c.in-Err-groups.is c.answer_of_run-groups.ensures.cause in
+    let cause : IsAnswerCause (run_over x false taken) c.in-Ok.ended.closed.items after c.in-Err-groups.error =
+    subst (λ (r : Result FrameData BatchError). IfErr r (λ e. IsAnswerCause (run_over x false taken) c.in-Ok.ended.closed.items after e)) c.in-Err-groups.is c.answer_of_run-groups.ensures.cause in
     subst (IsFinishCause s (map (λ s. record { held = g.S.SpillStore.held s; told = g.S.SpillStore.told s; faults = g.S.SpillStore.faults s; sure = g.S.SpillStore.sure s }) c.stores_of-in-Err-groups.result.items)) (sym c.of_groups.ensures)
     (groups-cause x taken journals seen s refl (map (λ s. record { held = g.S.SpillStore.held s; told = g.S.SpillStore.told s; faults = g.S.SpillStore.faults s; sure = g.S.SpillStore.sure s }) c.stores_of-in-Err-groups.result.items)
     c.args.closed.items c.args.rested.items (total_height taken) c.requires.fed c.in-Ok.ended.closed.items c.answer_of_run-groups.result.1.items c.in-Ok.ensures.whole c.answer_of_run-groups.ensures.kept c.in-Err-groups.error c.stores_of-in-Err-groups.ensures refl c.in-Ok.ensures.counted cause)

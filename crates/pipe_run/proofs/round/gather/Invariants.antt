@@ -1,7 +1,7 @@
 use Rattle.std.proofs.Common.{◌≡◌, ◌+◌, ◌≤◌, ◌++◌, ◌&&◌, length, map, vec_capacity, vec_len}
 use Rattle.std.specs.List.{All, list_all}
 use Rattle.std.specs.Vec.Iter.{into_iter_items}
-use Rattle.pipe_run.specs.Rounds.{has_gone_on, rest_of, shares_of}
+use Rattle.pipe_run.specs.Rounds.{has_gone_on, paused_of, shares_of}
 use Rattle.pipe_run.proofs.round.gather.Given as goal
 
 -- what is left of the jobs completes what was taken of them
@@ -14,6 +14,6 @@ invariant-loop-job g l =
     × (vec_len l.fn.jobs ≤ vec_capacity l.shares)
     × (vec_len l.fn.jobs ≤ vec_capacity l.rested)
     × (l.shares.items ++ map shares_of (into_iter_items l.job-iterator) ≡ map shares_of l.fn.jobs.items)
-    × (l.rested.items ++ map rest_of (into_iter_items l.job-iterator) ≡ map rest_of l.fn.jobs.items)
+    × (l.rested.items ++ map paused_of (into_iter_items l.job-iterator) ≡ map paused_of l.fn.jobs.items)
     × ((l.all && list_all has_gone_on (into_iter_items l.job-iterator)) ≡ list_all has_gone_on l.fn.jobs.items)
     × All (λ s. length s.events ≡ g.R.Naming.run.limits.partitions) l.shares.items

@@ -7,9 +7,9 @@ use Rattle.pipe_global.specs.Partition.{PartitionSeen}
 use Rattle.pipe_run.specs.Answered.{HaveWholeFrames}
 use Rattle.pipe_run.specs.Fed.{FedSeen}
 use Rattle.pipe_run.specs.Feeding.{chunks_reached, IsBadChunks, IsFeedCause}
-use Rattle.pipe_run.specs.Refusals.{AllFit, AreMany, IsFirstMisfit}
+use Rattle.pipe_run.specs.Refusals.{AllHaveFields, AreMany, IsFirstMisfit}
 use Rattle.pipe_run.specs.declared.error.PipeError.TheVariants as error
-use Rattle.pipe_run.specs.Setting.{run_of, Setting}
+use Rattle.pipe_run.specs.Setting.{run_over, Setting}
 use Rattle.pipe_run.proofs.FeedEnds.{bad-back, bad-cause, none-fell, stop-back, stop-cause-of, stop-fits}
 use Rattle.pipe_run.proofs.Feeding.{fed-more}
 use Rattle.pipe_run.proofs.run.fed_round.Goals as goal
@@ -67,7 +67,7 @@ returns-in-Err-round-clause-back g c =
     let seen = map (λ (p : PartitionSeen). p.store) c.args.closed.items in
     let s : FedSeen = record { setting = x; chunks = taken; journals = journals; stores = seen } in
     let stores = map (λ (p : PartitionSeen). p.store) c.in-Err-round.closed.items in
-    subst (λ e. HaveWholeFrames (run_of x true (chunks_reached s chunks e)) stores) (sym c.error.ensures)
+    subst (λ e. HaveWholeFrames (run_over x true (chunks_reached s chunks e)) stores) (sym c.error.ensures)
     (stop-back x taken journals seen s refl stores c.args.closed.items c.args.rested.items c.args.rows c.requires chunks c.in-Err-round.closed.items c.in-Err-round.stop refl c.in-Err-round.ensures.back)
 
 pub checked_rows-requires-clause-taken : goal.checked_rows-requires-clause-taken
@@ -98,7 +98,7 @@ returns-in-Err-clause-cause g c =
     let e = c.in-Err.error in
     bad-cause s chunks seen e c.in-Err.ensures.kinds
     (subst (λ (y : Setting). (i : ℕ) → e ≡ error.Schema i → IsFirstMisfit y.query.schema (taken ++ chunks) i) c.begun.view_is c.in-Err.ensures.misfit)
-    (subst (λ (y : Setting). e ≡ error.TooLarge → AllFit y.query.schema (taken ++ chunks) × AreMany (taken ++ chunks)) c.begun.view_is c.in-Err.ensures.large)
+    (subst (λ (y : Setting). e ≡ error.TooLarge → AllHaveFields y.query.schema (taken ++ chunks) × AreMany (taken ++ chunks)) c.begun.view_is c.in-Err.ensures.large)
 
 pub returns-in-Err-clause-untouched : goal.returns-in-Err-clause-untouched
 returns-in-Err-clause-untouched g c = λ bad. refl

@@ -8,9 +8,9 @@ use Rattle.pipe_model.specs.Rows.{AreChunksOf}
 use Rattle.pipe_plan.specs.Run.{StoreSeen}
 use Rattle.pipe_run.specs.declared.error.PipeError.TheVariants as error
 use Rattle.pipe_run.specs.Feeding.{NoneFell}
-use Rattle.pipe_run.specs.Refusals.{AllFit, AreMany, IsBeginCause, IsFirstMisfit}
+use Rattle.pipe_run.specs.Refusals.{AllHaveFields, AreMany, IsBeginCause, IsFirstMisfit}
 use Rattle.pipe_run.specs.Setting.{Setting}
-use Rattle.pipe_run.specs.WholeRun.{CanBegin, CanRun, setting_suits}
+use Rattle.pipe_run.specs.WholeRun.{CanBegin, CanRunOver, setting_suits}
 use Rattle.pipe_run.proofs.FeedEnds.{can-feed}
 use Rattle.pipe_run.proofs.LimitFacts.{fit-count, fit-few, fit-former, fit-limits, fit-same}
 use Rattle.pipe_run.proofs.RunEnds.{begin-ends, chunks-ends, feed-ends, fell-twice, finish-ends, fits-setting, memory-ends}
@@ -36,9 +36,9 @@ returns-in-Err-checked_rows g c =
     let misfit : (i : ℕ) → e ≡ error.Schema i → IsFirstMisfit c.args.query.now.schema chunks i =
     subst (λ (q : Query). (i : ℕ) → e ≡ error.Schema i → IsFirstMisfit q.schema chunks i) c.in-Ok.ensures.query
     (subst (λ (l : List DataChunk). (i : ℕ) → e ≡ error.Schema i → IsFirstMisfit c.in-Ok.checked.schema l i) c.deref-2.ensures.value c.in-Err-checked_rows.ensures.misfit) in
-    let large : e ≡ error.TooLarge → AllFit c.args.query.now.schema chunks × AreMany chunks =
-    subst (λ (q : Query). e ≡ error.TooLarge → AllFit q.schema chunks × AreMany chunks) c.in-Ok.ensures.query
-    (subst (λ (l : List DataChunk). e ≡ error.TooLarge → AllFit c.in-Ok.checked.schema l × AreMany l) c.deref-2.ensures.value c.in-Err-checked_rows.ensures.large) in
+    let large : e ≡ error.TooLarge → AllHaveFields c.args.query.now.schema chunks × AreMany chunks =
+    subst (λ (q : Query). e ≡ error.TooLarge → AllHaveFields q.schema chunks × AreMany chunks) c.in-Ok.ensures.query
+    (subst (λ (l : List DataChunk). e ≡ error.TooLarge → AllHaveFields c.in-Ok.checked.schema l × AreMany l) c.deref-2.ensures.value c.in-Err-checked_rows.ensures.large) in
     chunks-ends x chunks (map seen c.args.stores.items) e begin refl c.in-Err-checked_rows.ensures.kinds misfit large
 
 pub before_chunks-requires-clause-count : goal.before_chunks-requires-clause-count
@@ -84,7 +84,7 @@ returns-in-Err-feed g c =
     let chunks : List DataChunk = c.args.chunks.items in
     let are : AreChunksOf (query_tree c.args.query.now) chunks = subst (λ (q : Query). AreChunksOf (query_tree q) chunks) c.in-Ok.ensures.query
     (subst (λ (l : List DataChunk). AreChunksOf (query_tree c.in-Ok.checked) l) c.deref-2.ensures.value c.in-Ok-checked_rows.ensures.chunks) in
-    let can : CanRun x chunks = record { begin = begin; feed = can-feed x chunks are } in
+    let can : CanRunOver x chunks = record { begin = begin; feed = can-feed x chunks are } in
     let first = c.in-Ok-before_chunks.run' in
     let setting : first.setting ≡ x = c.in-Ok-before_chunks.ensures.setting
     ∙ ap {B = Setting} (λ (q : Query). record { query = q; limits = c.args.limits.now; actions = map (λ v. v.items) c.args.actions.items; stores = map seen c.args.stores.items }) c.in-Ok.ensures.query in
@@ -101,7 +101,7 @@ returns g c =
     let chunks : List DataChunk = c.args.chunks.items in
     let are : AreChunksOf (query_tree c.args.query.now) chunks = subst (λ (q : Query). AreChunksOf (query_tree q) chunks) c.in-Ok.ensures.query
     (subst (λ (l : List DataChunk). AreChunksOf (query_tree c.in-Ok.checked) l) c.deref-2.ensures.value c.in-Ok-checked_rows.ensures.chunks) in
-    let can : CanRun x chunks = record { begin = begin; feed = can-feed x chunks are } in
+    let can : CanRunOver x chunks = record { begin = begin; feed = can-feed x chunks are } in
     let first = c.in-Ok-before_chunks.run' in
     let setting : first.setting ≡ x = c.in-Ok-before_chunks.ensures.setting
     ∙ ap {B = Setting} (λ (q : Query). record { query = q; limits = c.args.limits.now; actions = map (λ v. v.items) c.args.actions.items; stores = map seen c.args.stores.items }) c.in-Ok.ensures.query in

@@ -5,7 +5,7 @@ use Rattle.std.proofs.lemmas.Option.{none-some}
 use Rattle.pipe_io.specs.Output.{WroteFront}
 use Rattle.tool_words.specs.Asked.{asked}
 use Rattle.tool_answer.specs.Asking.{due_paths}
-use Rattle.tool_answer.specs.Ended.{IsSound}
+use Rattle.tool_answer.specs.Ended.{IsSoundStore}
 use Rattle.tool_answer.specs.Inside.{RanSeen}
 use Rattle.tool_answer.specs.Faults.{fault_line, IsCaused}
 use Rattle.tool_answer.specs.Inside.{EndsMade, EndsRefused, IsLeft}
@@ -21,7 +21,7 @@ pub returns-clause-answered : goal.returns-clause-answered
 returns-clause-answered g c = elim c.match-fault.branch [
   | in-None w ↦ λ done sound.
       written-answered (asked c.args.words.now) (g.I.InputFiles.told c.args.input.now) (g.O.Output.told c.args.output.now) (g.O.Output.told c.run.new.output) c.run.result.journals c.run.result.stores
-      (c.run.ensures.written (sym (ap (λ (r : RanSeen). r.fault) c.fault.view_is) ∙ w.in-None.is)) (subst (All IsSound) (ap (λ (r : RanSeen). r.stores) c.fault.view_is) sound)
+      (c.run.ensures.written (sym (ap (λ (r : RanSeen). r.fault) c.fault.view_is) ∙ w.in-None.is)) (subst (All IsSoundStore) (ap (λ (r : RanSeen). r.stores) c.fault.view_is) sound)
   | in-Some w ↦ λ done sound. absurd (told-not-done w.in-Some.fault w.report-status.result w.report-status.ensures.either (sym w.status-is ∙ done))
 ]
 
@@ -85,7 +85,7 @@ returns-clause-complete g c = elim c.match-fault.branch [
       (w.status-is
       ∙ told-complete w.in-Some.fault (asked c.args.words.now) (g.I.InputFiles.told c.args.input.now) c.run.result.stores w.report-status.result
       (some-at c.run.result.fault w.in-Some.fault (λ f. IsCaused f (asked c.args.words.now) (g.I.InputFiles.told c.args.input.now) c.run.result.stores) has c.run.ensures.cause)
-      w.report-status.ensures.either known due (subst (All IsSound) (ap (λ (r : RanSeen). r.stores) c.fault.view_is) sound)
+      w.report-status.ensures.either known due (subst (All IsSoundStore) (ap (λ (r : RanSeen). r.stores) c.fault.view_is) sound)
       (λ is. input (c.run.ensures.input_failed (has ∙ ap (λ f. Some f) is))) (λ is. output (c.run.ensures.output_failed (has ∙ ap (λ f. Some f) is))))
 ]
 

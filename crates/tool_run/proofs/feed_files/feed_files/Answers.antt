@@ -8,10 +8,10 @@ use Rattle.pipe_io.specs.Tried.{AreTried}
 use Rattle.pipe_io.proofs.TriedFacts.{front-then, tried-none, tried-then}
 use Rattle.pipe_model.specs.Rows.{total_height}
 use Rattle.pipe_run.specs.Feeding.{chunks_reached}
-use Rattle.pipe_run.specs.Refusals.{AllFit}
+use Rattle.pipe_run.specs.Refusals.{AllHaveFields}
 use Rattle.pipe_run.specs.Setting.{Setting}
 use Rattle.pipe_source.specs.Reader.{given_fields, ReaderState}
-use Rattle.tool_run.specs.Rounds.{AreTaken, EndsBehind, HasNone}
+use Rattle.tool_run.specs.Rounds.{WereTaken, EndsBehind, HasNoneLeft}
 use Rattle.tool_run.proofs.FeedFacts.{chunks-more, ends-behind, feed-cause, fell-none, fell-then, fit-more, fit-none, front-of, reached-fit, rows-more, taken-all, taken-none, taken-then}
 use Rattle.tool_run.proofs.feed_files.feed_files.Goals as goal
 
@@ -59,7 +59,7 @@ returns-in-Err-feed_lent-clause-back g c =
     let inv = c.loop.invariant in
     let more : List DataChunk = c.in-Ok.read.0.items in
     let fields : List Field = c.args.run.setting.query.schema in
-    let fit : AllFit fields (c.loop.run.chunks ++ more) = fit-more fields (given_fields c.loop.reader) c.loop.run.chunks more inv.fields inv.fit c.in-Ok.ensures.fit in
+    let fit : AllHaveFields fields (c.loop.run.chunks ++ more) = fit-more fields (given_fields c.loop.reader) c.loop.run.chunks more inv.fields inv.fit c.in-Ok.ensures.fit in
     front-of c.args.run.setting c.loop.run.setting true (chunks_reached c.loop.run more c.in-Err-feed_lent.error) _ inv.setting
     (reached-fit fields c.loop.run more c.in-Err-feed_lent.error inv.fit fit) c.in-Err-feed_lent.ensures.back
 
@@ -82,9 +82,9 @@ returns-then-is_last-clause-all g c =
     let inv = c.loop.invariant in
     let told : Option Files = g.I.InputFiles.told c.args.input.now in
     let more : List DataChunk = c.in-Ok.read.0.items in
-    let step : AreTaken told c.loop.reader more c.read_round.new.reader = subst (λ (t : Option Files). AreTaken t c.loop.reader more c.read_round.new.reader) inv.told c.in-Ok.ensures.taken in
+    let step : WereTaken told c.loop.reader more c.read_round.new.reader = subst (λ (t : Option Files). WereTaken t c.loop.reader more c.read_round.new.reader) inv.told c.in-Ok.ensures.taken in
     let last : length more < c.args.most = search rules in
-    let none : HasNone told c.read_round.new.reader = subst (λ (t : Option Files). HasNone t c.read_round.new.reader) inv.told (c.in-Ok.ensures.over last) in
+    let none : HasNoneLeft told c.read_round.new.reader = subst (λ (t : Option Files). HasNoneLeft t c.read_round.new.reader) inv.told (c.in-Ok.ensures.over last) in
     taken-all told c.args.reader.now c.read_round.new.reader c.in-Ok-feed_lent.fed.0.chunks
     (taken-then told c.args.reader.now c.loop.reader c.read_round.new.reader c.loop.run.chunks more c.in-Ok-feed_lent.fed.0.chunks c.in-Ok-feed_lent.ensures.chunks inv.taken step) none
 
@@ -93,7 +93,7 @@ returns-then-is_last-clause-fit g c =
     let inv = c.loop.invariant in
     let more : List DataChunk = c.in-Ok.read.0.items in
     let fields : List Field = c.args.run.setting.query.schema in
-    subst (AllFit fields) (sym c.in-Ok-feed_lent.ensures.chunks) (fit-more fields (given_fields c.loop.reader) c.loop.run.chunks more inv.fields inv.fit c.in-Ok.ensures.fit)
+    subst (AllHaveFields fields) (sym c.in-Ok-feed_lent.ensures.chunks) (fit-more fields (given_fields c.loop.reader) c.loop.run.chunks more inv.fields inv.fit c.in-Ok.ensures.fit)
 
 pub returns-then-is_last-clause-counted : goal.returns-then-is_last-clause-counted
 returns-then-is_last-clause-counted g c = fell-then c.args.run.stores c.loop.run.stores c.in-Ok-feed_lent.fed.0.stores c.loop.invariant.counted c.in-Ok-feed_lent.ensures.counted
@@ -105,7 +105,7 @@ loop-preserved g c =
     let more : List DataChunk = c.in-Ok.read.0.items in
     let now : List DataChunk = c.in-Ok-feed_lent.fed.0.chunks in
     let is : now ≡ c.loop.run.chunks ++ more = c.in-Ok-feed_lent.ensures.chunks in
-    let step : AreTaken told c.loop.reader more c.read_round.new.reader = subst (λ (t : Option Files). AreTaken t c.loop.reader more c.read_round.new.reader) inv.told c.in-Ok.ensures.taken in
+    let step : WereTaken told c.loop.reader more c.read_round.new.reader = subst (λ (t : Option Files). WereTaken t c.loop.reader more c.read_round.new.reader) inv.told c.in-Ok.ensures.taken in
     let fit : All (λ (x : DataChunk). FitsSchema c.args.run.setting.query.schema x.frame) (c.loop.run.chunks ++ more) =
     fit-more c.args.run.setting.query.schema (given_fields c.loop.reader) c.loop.run.chunks more inv.fields inv.fit c.in-Ok.ensures.fit in
     let full : c.args.most ≤ length more = search rules in
@@ -125,5 +125,5 @@ loop-preserved g c =
       rounds = omega (arith, inv.rounds, c.in-Ok.ensures.chunks, full, c.requires.most);
       fit = subst (All (λ (x : DataChunk). FitsSchema c.args.run.setting.query.schema x.frame)) (sym is) fit;
       counted = fell-then c.args.run.stores c.loop.run.stores c.in-Ok-feed_lent.fed.0.stores inv.counted c.in-Ok-feed_lent.ensures.counted;
-      taken = subst (AreTaken told c.args.reader.now now) (sym c.take_back.ensures) (taken-then told c.args.reader.now c.loop.reader c.read_round.new.reader c.loop.run.chunks more now is inv.taken step);
+      taken = subst (WereTaken told c.args.reader.now now) (sym c.take_back.ensures) (taken-then told c.args.reader.now c.loop.reader c.read_round.new.reader c.loop.run.chunks more now is inv.taken step);
     }

@@ -5,7 +5,7 @@ use Rattle.pipe_io.specs.Tried.{AreTried}
 use Rattle.pipe_model.specs.Rows.{total_height}
 use Rattle.pipe_run.specs.Feeding.{NoneFell}
 use Rattle.pipe_source.specs.Reader.{given_fields}
-use Rattle.tool_run.specs.Rounds.{AreTaken}
+use Rattle.tool_run.specs.Rounds.{WereTaken}
 use Rattle.tool_run.proofs.feed_files.feed_files.Given as goal
 
 -- the chunks that were read so far are those that the run was fed, and each round read one or more
@@ -25,5 +25,5 @@ invariant-loop g l =
       rounds : l.counter ≤ l.before.chunks;
       fit : All (λ c. FitsSchema l.fn.run.setting.query.schema c.frame) l.run.chunks;
       counted : NoneFell l.fn.run.stores l.run.stores;
-      taken : AreTaken (input.told l.fn.input) l.fn.reader l.run.chunks l.reader;
+      taken : WereTaken (input.told l.fn.input) l.fn.reader l.run.chunks l.reader;
     }

@@ -3,7 +3,7 @@ use Rattle.tool_run.proofs.file_run.run_files.Goals as goal
 use Rattle.std.proofs.Common.{rules, false}
 use Rattle.pipe_run.specs.Answered.{HaveWholeFrames}
 use Rattle.pipe_run.specs.Finish.{IsFinishCause}
-use Rattle.pipe_run.specs.Setting.{run_of}
+use Rattle.pipe_run.specs.Setting.{run_over}
 
 pub returns-in-Err-ended-clause-cause : goal.returns-in-Err-ended-clause-cause
 returns-in-Err-ended-clause-cause g c =
@@ -13,5 +13,5 @@ returns-in-Err-ended-clause-cause g c =
 pub returns-in-Err-ended-clause-back : goal.returns-in-Err-ended-clause-back
 returns-in-Err-ended-clause-back g c =
     let run' = c.in-Ok.run' in
-    let whole : HaveWholeFrames (run_of run'.setting false run'.chunks) _ = search rules in
+    let whole : HaveWholeFrames (run_over run'.setting false run'.chunks) _ = search rules in
     front-of c.args.run.setting run'.setting false run'.chunks _ c.in-Ok.ensures.setting c.in-Ok.ensures.fit whole

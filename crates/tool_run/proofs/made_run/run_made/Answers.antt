@@ -1,7 +1,7 @@
 use Rattle.std.proofs.Common.{rules, false}
 use Rattle.pipe_run.specs.Answered.{HaveWholeFrames}
 use Rattle.pipe_run.specs.Finish.{IsFinishCause}
-use Rattle.pipe_run.specs.Setting.{run_of}
+use Rattle.pipe_run.specs.Setting.{run_over}
 use Rattle.tool_run.proofs.FeedFacts.{finish-cause, front-of}
 use Rattle.tool_run.proofs.MadeFacts.{made-fit}
 use Rattle.tool_made.specs.Made.{chunk_count}
@@ -15,6 +15,6 @@ returns-in-Err-ended-clause-cause g c =
 pub returns-in-Err-ended-clause-back : goal.returns-in-Err-ended-clause-back
 returns-in-Err-ended-clause-back g c =
     let run' = c.in-Ok.run' in
-    let whole : HaveWholeFrames (run_of run'.setting false run'.chunks) _ = search rules in
+    let whole : HaveWholeFrames (run_over run'.setting false run'.chunks) _ = search rules in
     front-of c.args.run.setting run'.setting false run'.chunks _ c.in-Ok.ensures.setting
     (made-fit c.args.run.setting.query.schema c.args.rows.now (chunk_count c.args.rows.now) run'.chunks c.requires.fits c.in-Ok.ensures.all) whole

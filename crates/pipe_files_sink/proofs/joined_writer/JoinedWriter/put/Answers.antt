@@ -1,11 +1,11 @@
 use Rattle.std.proofs.Common.{rules}
-use Rattle.pipe_writers.specs.Rows.{rows_of}
+use Rattle.pipe_writers.specs.Rows.{frame_rows}
 use Rattle.pipe_files_sink.proofs.JoinedFacts.{completed-fits, on-err, put-front, put-written, still-awaits}
 use Rattle.pipe_files_sink.proofs.joined_writer.JoinedWriter.put.Goals as goal
 
 pub returns-in_err-all-clause-front : goal.returns-in_err-all-clause-front
 returns-in_err-all-clause-front g c = on-err c.from_residual.result (λ rows since put.
-    put-front (g.W.SinkWriter.stands c.self.inside.writer) c.self.inside.rows.waiting rows since (rw (← c.self.view_is) at put) (rows_of c.args.frame))
+    put-front (g.W.SinkWriter.stands c.self.inside.writer) c.self.inside.rows.waiting rows since (rw (← c.self.view_is) at put) (frame_rows c.args.frame))
 
 pub _write_batch-requires-clause-fits : goal._write_batch-requires-clause-fits
 _write_batch-requires-clause-fits g c =
@@ -17,4 +17,4 @@ invariant_of-self-in_default g c =
 
 pub returns-in_err-_write_batch-clause-front : goal.returns-in_err-_write_batch-clause-front
 returns-in_err-_write_batch-clause-front g c = on-err c.from_residual-in_err-_write_batch.result (λ rows since put.
-    put-written (g.W.SinkWriter.stands c.self.inside.writer) c.self.inside.rows.waiting rows since (rw (← c.self.view_is) at put) (g.W.SinkWriter.stands c._write_batch.new.self) (rows_of c.args.frame) (rows_of c.in-Some.all) (λ done here. c._write_batch.ensures.stands done since here) (search rules))
+    put-written (g.W.SinkWriter.stands c.self.inside.writer) c.self.inside.rows.waiting rows since (rw (← c.self.view_is) at put) (g.W.SinkWriter.stands c._write_batch.new.self) (frame_rows c.args.frame) (frame_rows c.in-Some.all) (λ done here. c._write_batch.ensures.stands done since here) (search rules))

@@ -1,7 +1,7 @@
 use Rattle.std.proofs.Common.{◌≡◌, ◌∙◌, ◌++◌, ◌∷◌, [], arith, rules, subst, ap, sym, append_assoc, List}
 use Rattle.std.proofs.lemmas.Grind.{common_steps}
 use Rattle.pipe_columns.specs.declared.data_chunk.DataChunk.{DataChunk}
-use Rattle.pipe_writers.specs.Rows.{Row, rows_of}
+use Rattle.pipe_writers.specs.Rows.{Row, frame_rows}
 use Rattle.pipe_writers.specs.WriteOrder.{rows_of_chunks}
 use Rattle.pipe_files_sink.specs.Joined.{HasPut}
 use Rattle.pipe_files_sink.proofs.JoinedFacts.{front-more, on-err, rows-both, rows-more, waits-both}
@@ -30,9 +30,9 @@ returns-in_err-put-clause-front g c = on-err c.from_residual.result (λ rows sin
     let chunk : DataChunk = c.in-Some.chunk in
     let rest : List DataChunk = c.next.new.self.rest.items in
     let all : c.args.chunks.items ≡ before ++ (chunk ∷ rest) = search rules in
-    front-more (g.W.SinkWriter.stands c.put.new.self.writer) ((rows ++ rows_of_chunks before) ++ rows_of chunk.frame) (rows_of_chunks rest) _ since
+    front-more (g.W.SinkWriter.stands c.put.new.self.writer) ((rows ++ rows_of_chunks before) ++ frame_rows chunk.frame) (rows_of_chunks rest) _ since
     (c.in_err-put.ensures.front (rows ++ rows_of_chunks before) since (c.loop-chunk.invariant.stands rows since put))
-    (append_assoc (rows ++ rows_of_chunks before) (rows_of chunk.frame) (rows_of_chunks rest) ∙ append_assoc rows (rows_of_chunks before) (rows_of_chunks (chunk ∷ rest))
+    (append_assoc (rows ++ rows_of_chunks before) (frame_rows chunk.frame) (rows_of_chunks rest) ∙ append_assoc rows (rows_of_chunks before) (rows_of_chunks (chunk ∷ rest))
     ∙ ap (λ (rs : List Row). rows ++ rs) (sym (rows-both before (chunk ∷ rest)) ∙ ap rows_of_chunks (sym all))))
 
 pub returns-clause-stands : goal.returns-clause-stands

@@ -2,13 +2,13 @@ use Rattle.std.proofs.Common.{◌∙◌, ◌≤◌, sym, subst, vec_capacity}
 use Rattle.std.specs.List.{All}
 use Rattle.pipe_aggs.specs.QueryTrees.{query_tree}
 use Rattle.pipe_model.specs.Query.{QueryTree}
-use Rattle.pipe_global.specs.Opening.{AreUnused, IsPlace}
+use Rattle.pipe_global.specs.Opening.{AreUnused, IsEmptyPlace}
 use Rattle.pipe_global.proofs.global_table.GlobalTable.new.Goals as goal
 
 pub locks_of-partitions-requires-clause-each : goal.locks_of-partitions-requires-clause-each
 locks_of-partitions-requires-clause-each g c =
-    subst (λ (q : QueryTree). All (IsPlace q g.R.Naming.run.limits.workers) c.in-Ok-places_of.places.items) (sym c.requires.query)
-    (subst (λ n. All (IsPlace (query_tree c.args.query.now) n) c.in-Ok-places_of.places.items) (sym c.requires.numbers.0) c.in-Ok-places_of.ensures.places)
+    subst (λ (q : QueryTree). All (IsEmptyPlace q g.R.Naming.run.limits.workers) c.in-Ok-places_of.places.items) (sym c.requires.query)
+    (subst (λ n. All (IsEmptyPlace (query_tree c.args.query.now) n) c.in-Ok-places_of.places.items) (sym c.requires.numbers.0) c.in-Ok-places_of.ensures.places)
 
 pub invariant_of-table : goal.invariant_of-table
 invariant_of-table g c = (c.locks_of-partitions.ensures ∙ c.requires.count, c.requires.run.limits.partitions)

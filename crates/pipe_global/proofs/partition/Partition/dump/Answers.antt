@@ -3,7 +3,7 @@ use Rattle.pipe_plan.specs.declared.event.PartitionEvent.TheVariants as event
 use Rattle.pipe_global.specs.declared.dump_error.DumpError.TheVariants as dump_error
 use Rattle.pipe_global.specs.Partition.{IsReplayed, PartitionSeen}
 use Rattle.pipe_global.specs.Steps.{IsDumped}
-use Rattle.pipe_global.specs.Refused.{IsKept}
+use Rattle.pipe_global.specs.Refused.{IsKeptBut}
 use Rattle.pipe_global.proofs.Keeping.{book-few, can-write, counted-refused, counted-same, dump-next, share-few, waiting-few}
 use Rattle.pipe_global.proofs.ReplayFacts.{replayed-kept}
 use Rattle.pipe_global.proofs.partition.Partition.dump.Goals as goal
@@ -59,7 +59,7 @@ invariant_of-self g c =
     let new = c.dump.new.self in
     let store : c.in-Err-Store.field-0 ≡ dump_error.Store = search rules in
     let refused = c.in-Err-Store.ensures.store store in
-    let kept : IsKept s new true = refused.0 in
+    let kept : IsKeptBut s new true = refused.0 in
     let number : new.number ≡ s.number = ap (λ (x : PartitionSeen). x.number) kept.others in (
       c.self.invariant.0,
       subst (λ n. IsReplayed r n new) (sym number) (replayed-kept r s.number s new true c.self.invariant.1 kept),

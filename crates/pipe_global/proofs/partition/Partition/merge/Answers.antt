@@ -2,7 +2,7 @@ use Rattle.std.proofs.Common.{◌≡◌, ◌+◌, ◌∙◌, arith, sym, subst, 
 use Rattle.pipe_plan.specs.declared.event.PartitionEvent.TheVariants as event
 use Rattle.pipe_global.specs.Partition.{IsReplayed, PartitionSeen}
 use Rattle.pipe_global.specs.Steps.{IsMerged}
-use Rattle.pipe_global.specs.Refused.{IsKept}
+use Rattle.pipe_global.specs.Refused.{IsKeptBut}
 use Rattle.pipe_global.proofs.Keeping.{book-few, can-merge, counted-same, merge-next, share-few}
 use Rattle.pipe_global.proofs.ReplayFacts.{replayed-kept}
 use Rattle.pipe_global.proofs.partition.Partition.merge.Goals as goal
@@ -51,7 +51,7 @@ invariant_of-self g c =
     let r = g.R.Naming.run in
     let s = c.self.inside.contents in
     let new = c.merge.new.self in
-    let kept : IsKept s new s.failed = c.in_err-merge.ensures.err in
+    let kept : IsKeptBut s new s.failed = c.in_err-merge.ensures.err in
     let number : new.number ≡ s.number = ap (λ (x : PartitionSeen). x.number) kept.others in (
       c.self.invariant.0,
       subst (λ n. IsReplayed r n new) (sym number) (replayed-kept r s.number s new s.failed c.self.invariant.1 kept),

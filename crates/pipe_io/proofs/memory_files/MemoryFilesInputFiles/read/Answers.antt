@@ -1,5 +1,5 @@
 use Rattle.std.proofs.Common.{rules, ap, ◌≡◌, ◌∙◌, ◌-◌, min, drop, take, Some, true, is_some, length, option_and_then}
-use Rattle.pipe_io.specs.FilePlace.{rest_of}
+use Rattle.pipe_io.specs.FilePlace.{file_rest}
 use Rattle.pipe_io.specs.MemoryFiles.{begun_of}
 use Rattle.pipe_io.proofs.MemoryFacts.{begun-there, copied}
 use Rattle.pipe_io.proofs.memory_files.MemoryFilesInputFiles.read.Goals as goal
@@ -14,7 +14,7 @@ returns-clause-bytes c =
     let given = c.copy_front-count.new.into in
     let n = c.copy_front-count.result in
     let current : c.self.inside.current ≡ Some place = search rules in
-    let begun : is_some (option_and_then (rest_of files at) c.self.inside.current) ≡ true = ap begun_of c.self.view_is ∙ c.requires.started in
+    let begun : is_some (option_and_then (file_rest files at) c.self.inside.current) ≡ true = ap begun_of c.self.view_is ∙ c.requires.started in
     let here = begun-there files at place file (rw current at begun) c.index.ensures in
     let count : n ≡ min (length file.1.items - at) room = search rules in
     let same : take n given ≡ take n (drop at file.1.items) = search rules in

@@ -6,7 +6,7 @@ use Rattle.pipe_model.specs.Output.{output_schema}
 use Rattle.pipe_spill.specs.declared.spill_row.SpillRow.{SpillRow}
 use Rattle.pipe_global.specs.Finishing.{GivesGroups, GivesOwn, IsCause, IsLeftOf, IsRestOf, KeepsRest, own_rows, StandFor, StandTogether}
 use Rattle.pipe_global.specs.Partition.{PartitionSeen}
-use Rattle.pipe_run.specs.Given.{HasGiven, HasRows, KeepsSource, SourceSeen}
+use Rattle.pipe_run.specs.Given.{HasGivenNext, HasRows, KeepsSource, SourceSeen}
 use Rattle.pipe_run.proofs.ChunkFacts.{given-chunk, own-fields}
 use Rattle.pipe_run.proofs.SourceFacts.{asked, given-rows, given-source, keeps-asked, refused-cause, refused-rows, refused-source}
 use Rattle.pipe_run.proofs.asked.AskedPartitions.next_chunk.Goals as goal
@@ -82,7 +82,7 @@ returns-clause-chunk g c =
     let lt = subst (λ (v : SourceSeen). v.given < length v.partitions) (sym c.self.view_is) c.requires.left in
     let at = c.index_mut-partition.ensures.value ∙ get_or_default s.partitions s.given c.index_mut-partition.result.now y lt in
     let kept = subst (λ (x : PartitionSeen). KeepsRest x y) at c.in-Ok.ensures.kept in
-    λ rs rows. subst (λ (v : SourceSeen). HasGiven rs v (asked s y c.finish.new.local c.finish.new.slice (s.given + 1)) (record { chunk_index = s.given + 1; frame = c.in-Ok.frame })) c.self.view_is
+    λ rs rows. subst (λ (v : SourceSeen). HasGivenNext rs v (asked s y c.finish.new.local c.finish.new.slice (s.given + 1)) (record { chunk_index = s.given + 1; frame = c.in-Ok.frame })) c.self.view_is
     (given-chunk s y c.finish.new.local c.finish.new.slice c.self.invariant lt kept rs (subst (HasRows rs) (sym c.self.view_is) rows) c.in-Ok.frame
     (subst (λ (x : PartitionSeen). (taken locals : List SpillRow) → StandFor x s.local taken locals → GivesGroups x.table.shape s.slice c.finish.new.slice (taken ++ own_rows x locals) c.in-Ok.frame) at c.in-Ok.ensures.frame))
 

@@ -1,5 +1,5 @@
 use Rattle.std.proofs.Common.{rules, ◌≡◌, ◌∙◌, ◌∷◌, arith, false, length, refl, subst, sym, true}
-use Rattle.pipe_run.specs.Sources.{chunks_left, count_of, GroupSourceSeen, HasAllRows, is_over, query_of}
+use Rattle.pipe_run.specs.Sources.{chunks_left, partition_count, GroupSourceSeen, HasAllRows, is_over, source_query}
 use Rattle.pipe_run.proofs.Sourcing.{stands-waiting, waiting-left, whole-frame, whole-left}
 use Rattle.pipe_run.proofs.group_source.GroupBySource.give_all.Goals as goal
 
@@ -7,7 +7,7 @@ pub returns-in-Err-clause-refused : goal.returns-in-Err-clause-refused
 returns-in-Err-clause-refused g c =
     let s : GroupSourceSeen = record { asked = c.self.inside.asked; placed = c.self.inside.placed.items; is_given = c.self.inside.is_given } in
     let new : GroupSourceSeen = record { asked = c.ask_rest.new.asked; placed = c.ask_rest.new.placed.items; is_given = c.self.inside.is_given } in
-    let order = subst (λ (v : GroupSourceSeen). (query_of v).keeps_order ≡ true) (sym c.self.view_is) c.requires.order in
+    let order = subst (λ (v : GroupSourceSeen). (source_query v).keeps_order ≡ true) (sym c.self.view_is) c.requires.order in
     λ rs. subst (λ (v : GroupSourceSeen). chunks_left rs new ≡ chunks_left rs v) c.self.view_is (waiting-left s new rs order c.ask_rest.ensures.kept c.ask_rest.ensures.slice refl)
 
 pub returns-in-Err-clause-stands : goal.returns-in-Err-clause-stands
@@ -20,7 +20,7 @@ pub returns-in_default-clause-refused : goal.returns-in_default-clause-refused
 returns-in_default-clause-refused g c =
     let s : GroupSourceSeen = record { asked = c.self.inside.asked; placed = c.self.inside.placed.items; is_given = c.self.inside.is_given } in
     let new : GroupSourceSeen = record { asked = c.ask_rest.new.asked; placed = c.ask_rest.new.placed.items; is_given = c.self.inside.is_given } in
-    let order = subst (λ (v : GroupSourceSeen). (query_of v).keeps_order ≡ true) (sym c.self.view_is) c.requires.order in
+    let order = subst (λ (v : GroupSourceSeen). (source_query v).keeps_order ≡ true) (sym c.self.view_is) c.requires.order in
     λ rs. subst (λ (v : GroupSourceSeen). chunks_left rs new ≡ chunks_left rs v) c.self.view_is (waiting-left s new rs order c.ask_rest.ensures.kept c.ask_rest.ensures.slice refl)
 
 pub returns-in_default-clause-stands : goal.returns-in_default-clause-stands
@@ -39,10 +39,10 @@ pub returns-clause-chunk : goal.returns-clause-chunk
 returns-clause-chunk g c =
     let s : GroupSourceSeen = record { asked = c.self.inside.asked; placed = c.self.inside.placed.items; is_given = c.self.inside.is_given } in
     let new : GroupSourceSeen = record { asked = c.ask_rest.new.asked; placed = c.ask_rest.new.placed.items; is_given = true } in
-    let order = subst (λ (v : GroupSourceSeen). (query_of v).keeps_order ≡ true) (sym c.self.view_is) c.requires.order in
+    let order = subst (λ (v : GroupSourceSeen). (source_query v).keeps_order ≡ true) (sym c.self.view_is) c.requires.order in
     let left = subst (λ (v : GroupSourceSeen). is_over v ≡ false) (sym c.self.view_is) c.requires.left in
-    let given : c.ask_rest.new.asked.given ≡ count_of s = search rules in
-    let count : length new.placed ≡ count_of s = omega (arith, c.ask_rest.ensures.waiting, given, c.ask_rest.new.placed.ok.0) in
+    let given : c.ask_rest.new.asked.given ≡ partition_count s = search rules in
+    let count : length new.placed ≡ partition_count s = omega (arith, c.ask_rest.ensures.waiting, given, c.ask_rest.new.placed.ok.0) in
     let query : c.query-query.result.now ≡ s.asked.query = c.query-query.ensures.query ∙ c.ask_rest.ensures.kept.query in
     let slice : c.slice-slice.result ≡ s.asked.slice = c.slice-slice.ensures ∙ c.ask_rest.ensures.slice in
     let parts : c.as_slice-parts.result.now ≡ new.placed = c.as_slice-parts.ensures.value in

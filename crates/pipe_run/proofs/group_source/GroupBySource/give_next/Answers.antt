@@ -1,6 +1,6 @@
 use Rattle.std.proofs.Common.{◌≡◌, ◌+◌, ◌∷◌, arith, false, refl, subst, sym}
 use Rattle.pipe_run.specs.Given.{IsSource}
-use Rattle.pipe_run.specs.Sources.{chunks_left, GroupSourceSeen, HasAllRows, is_over, IsGiveCause, query_of}
+use Rattle.pipe_run.specs.Sources.{chunks_left, GroupSourceSeen, HasAllRows, is_over, IsGiveCause, source_query}
 use Rattle.pipe_run.proofs.Asking.{asked-one, cause-one}
 use Rattle.pipe_run.proofs.Sourcing.{next-left, one-left, refused-left, stands-next}
 use Rattle.pipe_run.proofs.group_source.GroupBySource.give_next.Goals as goal
@@ -15,7 +15,7 @@ pub returns-in-Err-clause-cause : goal.returns-in-Err-clause-cause
 returns-in-Err-clause-cause g c =
     let s : GroupSourceSeen = record { asked = c.self.inside.asked; placed = c.self.inside.placed.items; is_given = c.self.inside.is_given } in
     let left = subst (λ (v : GroupSourceSeen). is_over v ≡ false) (sym c.self.view_is) c.requires.left in
-    let order = subst (λ (v : GroupSourceSeen). (query_of v).keeps_order ≡ false) (sym c.self.view_is) c.requires.order in
+    let order = subst (λ (v : GroupSourceSeen). (source_query v).keeps_order ≡ false) (sym c.self.view_is) c.requires.order in
     let source = subst (λ (v : GroupSourceSeen). IsSource v.asked) (sym c.self.view_is) c.requires.source in
     subst (λ (v : GroupSourceSeen). IsGiveCause v.asked c.next_chunk.new.self c.in-Err.error) c.self.view_is
     (cause-one s.asked c.next_chunk.new.self c.in-Err.error source (one-left s left order source.given) c.in-Err.ensures.cause)
@@ -25,7 +25,7 @@ returns-clause-chunk g c =
     let s : GroupSourceSeen = record { asked = c.self.inside.asked; placed = c.self.inside.placed.items; is_given = c.self.inside.is_given } in
     let new : GroupSourceSeen = record { asked = c.next_chunk.new.self; placed = c.self.inside.placed.items; is_given = c.self.inside.is_given } in
     let left = subst (λ (v : GroupSourceSeen). is_over v ≡ false) (sym c.self.view_is) c.requires.left in
-    let order = subst (λ (v : GroupSourceSeen). (query_of v).keeps_order ≡ false) (sym c.self.view_is) c.requires.order in
+    let order = subst (λ (v : GroupSourceSeen). (source_query v).keeps_order ≡ false) (sym c.self.view_is) c.requires.order in
     let source = subst (λ (v : GroupSourceSeen). IsSource v.asked) (sym c.self.view_is) c.requires.source in
     λ rs all. subst (λ (v : GroupSourceSeen). chunks_left rs v ≡ c.in-Ok.chunk ∷ chunks_left rs new) c.self.view_is
     (next-left s left order new rs c.in-Ok.chunk (one-left s left order source.given) c.in-Ok.ensures.kept (c.in-Ok.ensures.chunk rs (subst (HasAllRows rs) (sym c.self.view_is) all).rows))

@@ -6,7 +6,7 @@ use Rattle.pipe_aggs.specs.QueryTrees.{query_tree}
 use Rattle.pipe_model.specs.Groupable.{IsGroupable}
 use Rattle.pipe_plan.specs.Run.{StoreSeen}
 use Rattle.pipe_run.specs.Fed.{AreCounted, AreWholePartitions, IsFedRun}
-use Rattle.pipe_run.specs.Setting.{run_of, Setting}
+use Rattle.pipe_run.specs.Setting.{run_over, Setting}
 use Rattle.pipe_run.proofs.Openings.{begun-fed, none-fallen}
 use Rattle.pipe_run.proofs.run.GenericRun.before_chunks.Goals as goal
 
@@ -28,7 +28,7 @@ invariant_of-result g c =
     let many : length c.args.stores.items ≡ c.args.limits.now.partitions = search rules in
     let count : length x.stores ≡ c.args.limits.now.partitions = length-map c.args.stores.items seen ∙ many in
     let former : All (λ (s : StoreSeen). s.held < 2 ^ 63) x.stores = All-map (λ (s : StoreSeen). s.held < 2 ^ 63) seen c.args.stores.items c.requires.former in
-    let whole = subst (λ (y : Setting). AreWholePartitions (run_of y true []) closed) is c.in-Ok-opened.ensures.whole in
+    let whole = subst (λ (y : Setting). AreWholePartitions (run_over y true []) closed) is c.in-Ok-opened.ensures.whole in
     let unused = c.in-Ok.ensures.unused in
     let workers : length rested ≡ c.args.limits.now.workers = search rules in
     let none : map (λ m. m.value) c.new.result.items ≡ [] = search rules in
@@ -53,6 +53,6 @@ returns-in-Ok-opened-clause-counted g c =
     let is : c.begun_of-begun.result ≡ x = c.begun_of-begun.ensures ∙ ap {B = Setting} (λ l. record { query = c.args.query; limits = c.args.limits.now; actions = map (λ v. v.items) c.args.actions.items; stores = map seen l }) (c.in-Ok.ensures.former ∙ c.deref.ensures.value) in
     let closed = c.in-Ok-opened.closed.items in
     let many : length c.args.stores.items ≡ c.args.limits.now.partitions = search rules in
-    let whole = subst (λ (y : Setting). AreWholePartitions (run_of y true []) closed) is c.in-Ok-opened.ensures.whole in
-    let counted = subst (λ (y : Setting). AreCounted (run_of y true []) closed) is c.in-Ok-opened.ensures.counted in
+    let whole = subst (λ (y : Setting). AreWholePartitions (run_over y true []) closed) is c.in-Ok-opened.ensures.whole in
+    let counted = subst (λ (y : Setting). AreCounted (run_over y true []) closed) is c.in-Ok-opened.ensures.counted in
     none-fallen x closed (whole.count ∙ sym many ∙ sym (length-map c.args.stores.items seen)) counted

@@ -6,7 +6,7 @@ use Rattle.pipe_plan.specs.Run.{StoreSeen}
 use Rattle.pipe_run.specs.Answered.{HaveWholeFrames}
 use Rattle.pipe_run.specs.Fed.{FedSeen, IsFedRun}
 use Rattle.pipe_run.specs.Feeding.{chunks_reached, IsFeedCause, NoneFell}
-use Rattle.pipe_run.specs.Setting.{run_of, Setting}
+use Rattle.pipe_run.specs.Setting.{run_over, Setting}
 use Rattle.pipe_run.proofs.FeedEnds.{early-back, fed-all}
 use Rattle.pipe_run.proofs.run.GenericRun.feed_lent.Goals as goal
 
@@ -52,10 +52,10 @@ returns-in-Err-fed_round-clause-back g c =
     let stores = (map (λ s. record { held = g.S.SpillStore.held s; told = g.S.SpillStore.told s; faults = g.S.SpillStore.faults s; sure = g.S.SpillStore.sure s }) c.stores_of-in-Err-fed_round.result.items) in
     let after = map (λ (p : PartitionSeen). p.store) c.in-Err-fed_round.closed.items in
     let e = c.in-Err-fed_round.error in
-    subst (λ (s : FedSeen). HaveWholeFrames (run_of s.setting true (chunks_reached s c.args.chunks.items e)) stores) c.self.view_is
-    (subst (λ l. HaveWholeFrames (run_of (seen_of x taken journals seen).setting true (chunks_reached (seen_of x taken journals seen) c.args.chunks.items e)) l) (sym c.stores_of-in-Err-fed_round.ensures)
-    (subst (λ l. HaveWholeFrames (run_of (seen_of x taken journals seen).setting true (chunks_reached (seen_of x taken journals seen) l e)) after) c.deref-2.ensures.value
-    (subst (λ l. HaveWholeFrames (run_of (seen_of x l journals seen).setting true (chunks_reached (seen_of x l journals seen) c.deref-2.result.now e)) after) marks c.in-Err-fed_round.ensures.back)))
+    subst (λ (s : FedSeen). HaveWholeFrames (run_over s.setting true (chunks_reached s c.args.chunks.items e)) stores) c.self.view_is
+    (subst (λ l. HaveWholeFrames (run_over (seen_of x taken journals seen).setting true (chunks_reached (seen_of x taken journals seen) c.args.chunks.items e)) l) (sym c.stores_of-in-Err-fed_round.ensures)
+    (subst (λ l. HaveWholeFrames (run_over (seen_of x taken journals seen).setting true (chunks_reached (seen_of x taken journals seen) l e)) after) c.deref-2.ensures.value
+    (subst (λ l. HaveWholeFrames (run_over (seen_of x l journals seen).setting true (chunks_reached (seen_of x l journals seen) c.deref-2.result.now e)) after) marks c.in-Err-fed_round.ensures.back)))
 
 pub invariant_of-run : goal.invariant_of-run
 invariant_of-run g c =

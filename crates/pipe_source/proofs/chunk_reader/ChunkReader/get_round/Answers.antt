@@ -1,7 +1,7 @@
 use Rattle.std.proofs.Common.{◌≡◌, ◌-◌, length, refl, sym, subst, arith, Some, None}
 use Rattle.pipe_io.specs.Tried.{TriedFront}
 use Rattle.pipe_io.proofs.TriedFacts.{front-none}
-use Rattle.pipe_source.specs.Kept.{IsPlace, state_behind}
+use Rattle.pipe_source.specs.Kept.{IsSourcePlace, state_behind}
 use Rattle.pipe_source.specs.ReadOn.{HasReadOn}
 use Rattle.pipe_source.specs.declared.source_place.SourcePlace.{SourcePlace}
 use Rattle.pipe_source.proofs.KeptFacts.{chunks-below, kept-behind, rows-below}
@@ -37,7 +37,7 @@ returns-then-some-count-clause-fit g c = rw (← c.self.view_is, c.in-Ok.ensures
 
 pub read_on-requires-clause-place : goal.read_on-requires-clause-place
 read_on-requires-clause-place g c =
-    let place : IsPlace c.self.inside.what c.place_behind-last.result = subst (IsPlace c.self.inside.what) (sym c.place_behind-last.ensures) (place-past c.self.inside.what c.self.inside.text c.self.invariant.0 c.self.invariant.1) in
+    let place : IsSourcePlace c.self.inside.what c.place_behind-last.result = subst (IsSourcePlace c.self.inside.what) (sym c.place_behind-last.ensures) (place-past c.self.inside.what c.self.inside.text c.self.invariant.0 c.self.invariant.1) in
     λ κs bounds. place
 
 pub read_on-requires-clause-few : goal.read_on-requires-clause-few

@@ -1,9 +1,9 @@
 use Rattle.std.proofs.Common.{◌≡◌, ◌∙◌, ap, rules, List, Bool}
-use Rattle.pipe_source.specs.CsvChunks.{csv_chunks, narrowed}
+use Rattle.pipe_source.specs.CsvChunks.{csv_chunks, wanted_chunks}
 use Rattle.pipe_source.proofs.ReaderFacts.{all-given}
 use Rattle.pipe_source.proofs.chunk_reader.ChunkReader.new.Goals as goal
 
 pub returns-clause-left : goal.returns-clause-left
 returns-clause-left c = λ files.
-    let all : _ ≡ narrowed c.args.options c.new.result.items (csv_chunks files c.args.names.items c.args.schema c.args.options) = search rules in
-    all ∙ ap (λ (ws : List Bool). narrowed c.args.options ws (csv_chunks files c.args.names.items c.args.schema c.args.options)) c.new.ensures.items ∙ all-given c.args.options (csv_chunks files c.args.names.items c.args.schema c.args.options)
+    let all : _ ≡ wanted_chunks c.args.options c.new.result.items (csv_chunks files c.args.names.items c.args.schema c.args.options) = search rules in
+    all ∙ ap (λ (ws : List Bool). wanted_chunks c.args.options ws (csv_chunks files c.args.names.items c.args.schema c.args.options)) c.new.ensures.items ∙ all-given c.args.options (csv_chunks files c.args.names.items c.args.schema c.args.options)

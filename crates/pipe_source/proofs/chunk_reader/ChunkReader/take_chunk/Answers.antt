@@ -1,5 +1,5 @@
 use Rattle.std.proofs.Common.{◌<◌, length, subst, sym}
-use Rattle.pipe_source.specs.Kept.{name_kept, piece_at, place_at, rows_kept}
+use Rattle.pipe_source.specs.Kept.{name_kept, piece_at, place_behind, rows_kept}
 use Rattle.pipe_source.specs.Reader.{ReaderState}
 use Rattle.pipe_source.proofs.KeptFacts.{chunk-more, chunks-below, chunks-given, kept-behind, rows-below}
 use Rattle.pipe_source.proofs.ReaderFacts.{given-fits}
@@ -28,4 +28,4 @@ pub returns-in-Ok-clause-fits : goal.returns-in-Ok-clause-fits
 returns-in-Ok-clause-fits c =
     let what = c.self.inside.what in
     let k = c.self.inside.text in
-    rw (← c.self.view_is, c.in-Ok.ensures.chunk) (given-fits what.options what.wanted.items what.schema (name_kept what k) (place_at k.at what.options.chunk_size 0) (piece_at what.options.chunk_size 0 (rows_kept what k)))
+    rw (← c.self.view_is, c.in-Ok.ensures.chunk) (given-fits what.options what.wanted.items what.schema (name_kept what k) (place_behind k.at what.options.chunk_size 0) (piece_at what.options.chunk_size 0 (rows_kept what k)))

@@ -2,7 +2,7 @@ use Rattle.std.proofs.Common.{◌≡◌, ◌∙◌, ◌+◌, ◌-◌, List, ℕ,
 use Rattle.std.proofs.lemmas.List.{get_or_default}
 use Rattle.pipe_columns.specs.declared.any_value.AnyValue.{AnyValue}
 use Rattle.pipe_csv.proofs.ColumnFacts.{items_of}
-use Rattle.pipe_source.specs.Kept.{given_chunk, name_kept, piece_at, place_at}
+use Rattle.pipe_source.specs.Kept.{given_chunk, name_kept, piece_at, place_behind}
 use Rattle.pipe_source.proofs.KeptFacts.{chunk-there, piece-placed}
 use Rattle.pipe_source.proofs.ReaderFacts.{chunk-made, rows-seen}
 use Rattle.pipe_source.proofs.reading.Reading.chunk_of.Goals as goal
@@ -31,6 +31,6 @@ returns-clause-chunk c =
     let placed = piece-placed what.schema k.text.items size k.left c.args.n c.min-count.result k.starts.items k.chunk inv.rows inv.starts inv.placed c.requires.some c.min-count.ensures in
     let file : c.index-file.result.now ≡ name_kept what k = c.index-file.ensures ∙ get_or_default what.names.items (k.at.file - 1) c.index-file.result.now [] (omega (arith, inv.few_rows, inv.files, c.requires.some)) in
     let pushed = rw (c.fields-fields.ensures, c.deref.ensures.value, c.deref-2.ensures.value, begin) at c.in_ok-push_rows.ensures.pushed in
-    let made = chunk-made what.options what.wanted.items what.schema c.kept_fields-kept.result.now c.index-file.result.now (place_at k.at size c.args.n) c.min-count.result (items_of c.in_ok-columns.columns.items) (piece_at size c.args.n inv.rows) c.in_ok-chunk.chunk c.in_ok-chunk.ensures c.kept_fields-kept.ensures c.requires.reading.few (c.in_ok-columns.ensures ∙ pushed (piece_at size c.args.n inv.rows) placed) placed.size in
-    made ∙ ap (λ (f : List ℕ). given_chunk what.options what.wanted.items what.schema f (place_at k.at size c.args.n) (piece_at size c.args.n inv.rows)) file
-    ∙ ap (λ (rows : List (List AnyValue)). given_chunk what.options what.wanted.items what.schema (name_kept what k) (place_at k.at size c.args.n) (piece_at size c.args.n rows)) (sym (rows-seen what.schema k.text.items _ k.left inv.rows inv.placed))
+    let made = chunk-made what.options what.wanted.items what.schema c.kept_fields-kept.result.now c.index-file.result.now (place_behind k.at size c.args.n) c.min-count.result (items_of c.in_ok-columns.columns.items) (piece_at size c.args.n inv.rows) c.in_ok-chunk.chunk c.in_ok-chunk.ensures c.kept_fields-kept.ensures c.requires.reading.few (c.in_ok-columns.ensures ∙ pushed (piece_at size c.args.n inv.rows) placed) placed.size in
+    made ∙ ap (λ (f : List ℕ). given_chunk what.options what.wanted.items what.schema f (place_behind k.at size c.args.n) (piece_at size c.args.n inv.rows)) file
+    ∙ ap (λ (rows : List (List AnyValue)). given_chunk what.options what.wanted.items what.schema (name_kept what k) (place_behind k.at size c.args.n) (piece_at size c.args.n rows)) (sym (rows-seen what.schema k.text.items _ k.left inv.rows inv.placed))

@@ -5,7 +5,7 @@ use Rattle.pipe_io.specs.Files.{Files}
 use Rattle.pipe_io.proofs.TriedFacts.{front-then, tried-none, tried-then}
 use Rattle.pipe_source.specs.CsvChunks.{no_more}
 use Rattle.pipe_source.specs.Kept.{state_behind}
-use Rattle.pipe_source.specs.Reader.{StopsAt, left_of}
+use Rattle.pipe_source.specs.Reader.{StopsAt, chunks_left}
 use Rattle.pipe_source.specs.ReadOn.{HasReadNext}
 use Rattle.pipe_source.proofs.RoundFacts.{none-ahead, read-more, read-none, stands-first, stops-behind}
 use Rattle.pipe_source.proofs.reading.Reading.read_on.Goals as goal
@@ -55,7 +55,7 @@ returns-in-Err-clause-stopped g c =
     let told = g.I.InputFiles.told c.args.input.now in
     let fewer : length c.files.chunks.items < c.args.count = search rules in
     stops-behind c.args.self.now told c.args.first c.files.last c.args.chunks.now.items c.files.chunks.items c.read_next.new.chunks.items c.args.count c.files.ahead _ inv.read (inv.next fewer) fewer c.in-Err.ensures.kept
-    (subst (λ (t : Option Files). IfSome t (λ files. StopsAt c.in-Err.error (left_of files (state_behind c.args.self.now c.files.last)))) inv.told c.in-Err.ensures.stopped)
+    (subst (λ (t : Option Files). IfSome t (λ files. StopsAt c.in-Err.error (chunks_left files (state_behind c.args.self.now c.files.last)))) inv.told c.in-Err.ensures.stopped)
 
 pub returns-in-Ok-None-clause-few : goal.returns-in-Ok-None-clause-few
 returns-in-Ok-None-clause-few g c =
@@ -69,7 +69,7 @@ returns-in-Ok-None-clause-over g c =
     let fewer : length c.files.chunks.items < c.args.count = search rules in
     let read = rw c.in-Ok-None.field-0-is at c.in-Ok-None.ensures.read in
     λ _. none-ahead c.args.self.now told c.args.first c.files.last c.files.ahead (inv.next fewer)
-    (subst (λ (t : Option Files). IfSome t (λ files. left_of files (state_behind c.args.self.now c.files.last) ≡ no_more)) inv.told read.1)
+    (subst (λ (t : Option Files). IfSome t (λ files. chunks_left files (state_behind c.args.self.now c.files.last) ≡ no_more)) inv.told read.1)
 
 pub returns-in-Ok-None-clause-tried : goal.returns-in-Ok-None-clause-tried
 returns-in-Ok-None-clause-tried g c = front-then _ _ _ (state_behind c.args.self.now c.args.first).names (state_behind c.args.self.now c.files.last).names c.files.invariant.tried c.read_next.ensures.tried

@@ -1,6 +1,6 @@
 use Rattle.std.proofs.Common.{◌≡◌, ◌≤◌, ◌<◌, ◌-◌, length}
 use Rattle.pipe_io.specs.Tried.{AreTried}
-use Rattle.pipe_source.specs.Kept.{IsPlace, state_behind}
+use Rattle.pipe_source.specs.Kept.{IsSourcePlace, state_behind}
 use Rattle.pipe_source.specs.ReadOn.{HasReadOn, state_ahead}
 use Rattle.pipe_source.proofs.RoundFacts.{StandsAt}
 use Rattle.pipe_source.proofs.reading.Reading.read_on.Given as goal
@@ -16,7 +16,7 @@ invariant-files g l =
       tried : AreTried (input.tried l.fn.input) (input.tried l.input) (state_behind l.self l.fn.first).names (state_behind l.self l.last).names;
       names : (state_ahead l.self l.fn.first l.ahead).names ≡ (state_behind l.self l.last).names;
       few : length l.chunks.items ≤ l.count;
-      place : IsPlace l.self l.last;
+      place : IsSourcePlace l.self l.last;
       next : length l.chunks.items < l.count → StandsAt l.self (input.told l.fn.input) l.fn.first l.ahead l.last;
     }
 
