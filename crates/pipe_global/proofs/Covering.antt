@@ -9,7 +9,7 @@ use Rattle.pipe_columns.specs.declared.any_value.AnyValue.{AnyValue}
 use Rattle.pipe_columns.specs.declared.place.Place.{Place}
 use Rattle.pipe_running.specs.declared.function.AggregateFunction.{AggregateFunction}
 use Rattle.pipe_spill.specs.declared.spill_row.SpillRow.{SpillRow}
-use Rattle.pipe_groups.specs.Groups.{cover, Group, held_at, is_covered, keys_of, new_group, put, with_row}
+use Rattle.pipe_groups.specs.Groups.{cover, Group, held_at, is_covered, group_keys, new_group, put, group_with_row}
 use Rattle.pipe_groups.proofs.HoldFacts.{held_at-covered}
 use Rattle.pipe_groups.proofs.PutFacts.{cover-new, cover-there}
 use Rattle.pipe_tables.specs.Tables.{cover_rows}
@@ -66,11 +66,11 @@ module _ (ps : List AggregateFunction) where
       (rows-keep rows (cover ps r.key gs) r.key (cover-own r.key gs)) (rows-covered rows (cover ps r.key gs))
 
 -- a row of a covered key leaves the keys
-pub put-keys : (ps : List AggregateFunction) (k : List ℕ) (p : Place) (inputs : List AnyValue) (gs : List Group) → is_covered k gs ≡ true → keys_of (put ps k p inputs gs) ≡ keys_of gs
+pub put-keys : (ps : List AggregateFunction) (k : List ℕ) (p : Place) (inputs : List AnyValue) (gs : List Group) → is_covered k gs ≡ true → group_keys (put ps k p inputs gs) ≡ group_keys gs
 put-keys ps k p inputs [] h = cc
 put-keys ps k p inputs (g ∷ gs) h = by (bytes_eq k g.key) h (put-keys ps k p inputs gs) where
-  by : (b : Bool) → b || is_covered k gs ≡ true → (is_covered k gs ≡ true → keys_of (put ps k p inputs gs) ≡ keys_of gs)
-      → keys_of (if b then with_row p inputs g ∷ gs else g ∷ put ps k p inputs gs) ≡ g.key ∷ keys_of gs
+  by : (b : Bool) → b || is_covered k gs ≡ true → (is_covered k gs ≡ true → group_keys (put ps k p inputs gs) ≡ group_keys gs)
+      → group_keys (if b then group_with_row p inputs g ∷ gs else g ∷ put ps k p inputs gs) ≡ g.key ∷ group_keys gs
   by true h next = refl
   by false h next = ap (λ (l : List (List ℕ)). g.key ∷ l) (next h)
 

@@ -8,7 +8,7 @@ use Rattle.std.proofs.lemmas.Grind.{flat_map-append}
 use Rattle.std.proofs.lemmas.List.Elements.{All-append}
 use Rattle.pipe_spill.specs.SpillRow.{AreRows, IsRow, joined_rows, Payload}
 use Rattle.pipe_spill.specs.declared.spill_row.SpillRow.{SpillRow}
-use Rattle.pipe_groups.specs.Groups.{count_held, Group, held_at, is_covered, keys_of}
+use Rattle.pipe_groups.specs.Groups.{count_held, Group, held_at, is_covered, group_keys}
 use Rattle.pipe_groups.specs.Holds.{HoldFewer, Holds}
 use Rattle.pipe_groups.specs.Shape.{Shape}
 use Rattle.pipe_groups.proofs.HoldFacts.{holds-same}
@@ -80,7 +80,7 @@ can-next t now all xs rest can was =
 -- a row of a covered key leaves the keys
 pub put-keeps : (t new : Table) (r : SpillRow) → is_covered r.key t.groups ≡ true → HasGroups t new (put_row t r) → KeepsCovered t.groups new.groups
 put-keeps t new r own has k h =
-    let keys : keys_of new.groups ≡ keys_of t.groups = ap (λ (gs : List Group). keys_of gs) has.0 ∙ put-keys t.shape.prototypes r.key r.place r.values t.groups own in
+    let keys : group_keys new.groups ≡ group_keys t.groups = ap (λ (gs : List Group). group_keys gs) has.0 ∙ put-keys t.shape.prototypes r.key r.place r.values t.groups own in
     ap (λ (ks : List (List ℕ)). list_any (bytes_eq k) ks) keys ∙ h
 
 -- ---- room for rows

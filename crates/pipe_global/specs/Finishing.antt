@@ -13,7 +13,7 @@ use Rattle.pipe_spill.specs.FrameBytes.{frame_bytes}
 use Rattle.pipe_spill.specs.SpillRow.{AreRows, joined_rows}
 use Rattle.pipe_spill.specs.declared.spill_row.SpillRow.{SpillRow}
 use Rattle.pipe_groups.specs.Given.{in_order, IsFrameOfGroups, slice_after}
-use Rattle.pipe_groups.specs.Groups.{count_held, Group, held_at, keys_of}
+use Rattle.pipe_groups.specs.Groups.{count_held, Group, held_at, group_keys}
 use Rattle.pipe_groups.specs.Holds.{Holds}
 use Rattle.pipe_groups.specs.QueryRows.{ArePlaced}
 use Rattle.pipe_groups.specs.Shape.{Shape}
@@ -101,7 +101,7 @@ pub record CanFinish (s : PartitionSeen) (local : Table) : Type 0 where
 pub record GivesGroups (shape : Shape) (slice left : Option (ℕ × ℕ)) (rows : List SpillRow)
     (frame : FrameData) : Type 0 where
   pub groups : List Group
-  pub apart : IsDistinct bytes_eq (keys_of groups)
+  pub apart : IsDistinct bytes_eq (group_keys groups)
   pub holds : Holds shape.prototypes groups rows
   pub frame_is : IsFrameOfGroups shape (sliced slice (in_order groups)) frame
   pub left_is : left ≡ slice_after (count_held groups) slice
@@ -110,7 +110,7 @@ pub record GivesGroups (shape : Shape) (slice left : Option (ℕ × ℕ)) (rows 
 pub record GivesPlaced (shape : Shape) (rows : List SpillRow) (frame : FrameData)
     (firsts : List Place) : Type 0 where
   pub groups : List Group
-  pub apart : IsDistinct bytes_eq (keys_of groups)
+  pub apart : IsDistinct bytes_eq (group_keys groups)
   pub holds : Holds shape.prototypes groups rows
   pub placed : ArePlaced shape groups frame firsts
 

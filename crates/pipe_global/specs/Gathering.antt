@@ -8,7 +8,7 @@ use Rattle.pipe_columns.specs.Slice.{sliced}
 use Rattle.pipe_spill.specs.SpillRow.{joined_rows}
 use Rattle.pipe_spill.specs.declared.spill_row.SpillRow.{SpillRow}
 use Rattle.pipe_groups.specs.Given.{in_order, IsFrameOfGroups, slice_after}
-use Rattle.pipe_groups.specs.Groups.{count_held, keys_of}
+use Rattle.pipe_groups.specs.Groups.{count_held, group_keys}
 use Rattle.pipe_groups.specs.Holds.{Holds}
 use Rattle.pipe_groups.specs.QueryRows.{ArePlaced}
 use Rattle.pipe_keyed.specs.Tables.{KeepsShape, Table}
@@ -85,13 +85,13 @@ pub record HoldsAllRows (s new : PartitionSeen) (local left : Table) : Type 0 wh
 
 -- the groups of the table were given under a slice, of which this is left
 pub record HasGiven (s : PartitionSeen) (slice left : Option (ℕ × ℕ)) (frame : FrameData) : Type 0 where
-  pub apart : IsDistinct bytes_eq (keys_of s.table.groups)
+  pub apart : IsDistinct bytes_eq (group_keys s.table.groups)
   pub frame_is : IsFrameOfGroups s.table.shape (sliced slice (in_order s.table.groups)) frame
   pub left_is : left ≡ slice_after (count_held s.table.groups) slice
 
 -- all groups of the table were given, with their least places
 pub record HasGivenPlaced (s : PartitionSeen) (frame : FrameData) (firsts : List Place) : Type 0 where
-  pub apart : IsDistinct bytes_eq (keys_of s.table.groups)
+  pub apart : IsDistinct bytes_eq (group_keys s.table.groups)
   pub placed : ArePlaced s.table.shape s.table.groups frame firsts
 
 -- a partition whose table has no group

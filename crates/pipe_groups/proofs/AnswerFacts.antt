@@ -35,7 +35,7 @@ use Rattle.pipe_spill.specs.SpillRow.{spilled}
 use Rattle.pipe_spill.specs.declared.spill_row.SpillRow.{SpillRow}
 use Rattle.pipe_spill.proofs.CodeOrder.{codes_injective}
 use Rattle.pipe_groups.specs.Given.{in_order, IsFrameOfGroups, IsRowOfGroup, key_cmp}
-use Rattle.pipe_groups.specs.Groups.{Group, held_at, keys_of, no_group}
+use Rattle.pipe_groups.specs.Groups.{Group, held_at, group_keys, no_group}
 use Rattle.pipe_groups.specs.Holds.{entries_of, FoundStands, Holds, of_key}
 use Rattle.pipe_groups.specs.QueryRows.{HoldRowsOf}
 use Rattle.pipe_groups.specs.Shape.{shape_of}
@@ -66,7 +66,7 @@ pub record IsGroupAt (q : QueryTree) (rs : List Row) (k : List AnyValue) (g : Gr
   pub key : g.key ≡ code (key_types q) k
   pub stands : GroupStands (prototypes q) g.first g.states (rows_at rs k)
 
-module _ (q : QueryTree) (groupable : IsGroupable q) (rs : List Row) (typed : All (IsRowOf q) rs) (gs : List Group) (apart : IsDistinct bytes_eq (keys_of gs))
+module _ (q : QueryTree) (groupable : IsGroupable q) (rs : List Row) (typed : All (IsRowOf q) rs) (gs : List Group) (apart : IsDistinct bytes_eq (group_keys gs))
     (holds : Holds (prototypes q) gs (map (spilled (key_types q)) rs)) where
   abbrev types : List DataType
   types = key_types q

@@ -6,16 +6,16 @@ use Rattle.std.proofs.lemmas.List.Elements.{All-drop, All-head, All-set}
 use Rattle.pipe_columns.specs.declared.any_value.AnyValue.{AnyValue}
 use Rattle.pipe_columns.specs.Frame.{ColumnData}
 use Rattle.pipe_groups.specs.declared.unfinished.Unfinished.{Unfinished}
-use Rattle.pipe_groups.specs.Columns.{column_of, columns_of, HaveRoom, HaveRoomFrom, with_value, with_values, with_values_at}
+use Rattle.pipe_groups.specs.Columns.{column_of_unfinished, columns_of_unfinished, HaveRoom, HaveRoomFrom, with_value, with_values, with_values_at}
 
 -- ---- values
 
 -- one more value in the column at k
-pub columns_of-set : (cs : List Unfinished) (k : ℕ) (c : Unfinished) (v : AnyValue) (d : Unfinished) → k < length cs → column_of c ≡ with_value v (column_of (get_or cs k d))
-    → columns_of (set cs k c) ≡ with_values_at k (v ∷ []) (columns_of cs)
+pub columns_of-set : (cs : List Unfinished) (k : ℕ) (c : Unfinished) (v : AnyValue) (d : Unfinished) → k < length cs → column_of_unfinished c ≡ with_value v (column_of_unfinished (get_or cs k d))
+    → columns_of_unfinished (set cs k c) ≡ with_values_at k (v ∷ []) (columns_of_unfinished cs)
 columns_of-set [] k c v d lt e = absurd (omega arith)
-columns_of-set (x ∷ xs) zero c v d lt e = ap (λ (y : ColumnData). y ∷ columns_of xs) e
-columns_of-set (x ∷ xs) (suc k) c v d lt e = ap (λ (ys : List ColumnData). column_of x ∷ ys) (columns_of-set xs k c v d (omega (arith, lt)) e)
+columns_of-set (x ∷ xs) zero c v d lt e = ap (λ (y : ColumnData). y ∷ columns_of_unfinished xs) e
+columns_of-set (x ∷ xs) (suc k) c v d lt e = ap (λ (ys : List ColumnData). column_of_unfinished x ∷ ys) (columns_of-set xs k c v d (omega (arith, lt)) e)
 
 -- no values change nothing
 with_values-none : (k : ℕ) (cs : List ColumnData) → with_values_at k [] cs ≡ cs

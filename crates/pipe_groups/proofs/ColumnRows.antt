@@ -12,7 +12,7 @@ use Rattle.pipe_columns.specs.AnyValue.{fits}
 use Rattle.pipe_columns.specs.Frame.{all_fit, all_have_height, ColumnData, columns_from, ColumnsFit, value_at}
 use Rattle.pipe_spill.specs.KeyTypes.{AreOfTypes}
 use Rattle.pipe_groups.specs.declared.unfinished.Unfinished.{Unfinished}
-use Rattle.pipe_groups.specs.Columns.{column_of, columns_of, types_of, with_rows, with_values}
+use Rattle.pipe_groups.specs.Columns.{column_of_unfinished, columns_of_unfinished, types_of, with_rows, with_values}
 
 -- ---- one more field
 
@@ -30,11 +30,11 @@ columns_from-more fields i d lt =
 
 -- a column of one more field, without values
 pub opened-more : (cs : List Unfinished) (x : Unfinished) (fields : List Field) (i : ℕ) (f : Field) → i < length fields → f ≡ get_or fields i f
-    → x.field.name ≡ f.name → x.field.dtype ≡ f.dtype → x.values.items ≡ [] → columns_of cs ≡ columns_from 0 (take i fields) []
-    → columns_of (cs ++ x ∷ []) ≡ columns_from 0 (take (i + 1) fields) []
+    → x.field.name ≡ f.name → x.field.dtype ≡ f.dtype → x.values.items ≡ [] → columns_of_unfinished cs ≡ columns_from 0 (take i fields) []
+    → columns_of_unfinished (cs ++ x ∷ []) ≡ columns_from 0 (take (i + 1) fields) []
 opened-more cs x fields i f lt e name dtype none before =
-    let own : column_of x ≡ record { name = f.name; dtype = f.dtype; sorted = false; values = [] } = rw (name, dtype, none) refl in
-    map-append column_of cs (x ∷ []) ∙ ap (λ (t : List ColumnData). t ++ column_of x ∷ []) before ∙ ap (λ (y : ColumnData). columns_from 0 (take i fields) [] ++ y ∷ []) own
+    let own : column_of_unfinished x ≡ record { name = f.name; dtype = f.dtype; sorted = false; values = [] } = rw (name, dtype, none) refl in
+    map-append column_of_unfinished cs (x ∷ []) ∙ ap (λ (t : List ColumnData). t ++ column_of_unfinished x ∷ []) before ∙ ap (λ (y : ColumnData). columns_from 0 (take i fields) [] ++ y ∷ []) own
     ∙ ap (λ (g : Field). columns_from 0 (take i fields) [] ++ columns_from 0 (g ∷ []) []) e ∙ columns_from-more fields i f lt
 
 -- ---- one more row
@@ -123,13 +123,13 @@ pub columns-fit : (fields : List Field) (rows : List (List AnyValue)) → All (�
 columns-fit fields rows h = fit-behind fields 0 rows h
 
 -- what fits among columns
-pub fit-among : (done rest all : List Unfinished) (x : Unfinished) → all ≡ done ++ x ∷ rest → ColumnsFit (columns_of all) → all_fit x.field.dtype x.values.items ≡ true
+pub fit-among : (done rest all : List Unfinished) (x : Unfinished) → all ≡ done ++ x ∷ rest → ColumnsFit (columns_of_unfinished all) → all_fit x.field.dtype x.values.items ≡ true
 fit-among [] rest all x e h =
     let P : ColumnData → Type 0 = λ c. all_fit c.dtype c.values ≡ true in
-    All-head P (column_of x) (columns_of rest) (subst (λ (cs : List Unfinished). All P (columns_of cs)) e h)
+    All-head P (column_of_unfinished x) (columns_of_unfinished rest) (subst (λ (cs : List Unfinished). All P (columns_of_unfinished cs)) e h)
 fit-among (y ∷ ys) rest all x e h =
     let P : ColumnData → Type 0 = λ c. all_fit c.dtype c.values ≡ true in
-    fit-among ys rest (ys ++ x ∷ rest) x refl (All-tail P (column_of y) (columns_of (ys ++ x ∷ rest)) (subst (λ (cs : List Unfinished). All P (columns_of cs)) e h))
+    fit-among ys rest (ys ++ x ∷ rest) x refl (All-tail P (column_of_unfinished y) (columns_of_unfinished (ys ++ x ∷ rest)) (subst (λ (cs : List Unfinished). All P (columns_of_unfinished cs)) e h))
 
 -- ---- columns side by side
 

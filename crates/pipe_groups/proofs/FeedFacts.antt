@@ -13,7 +13,7 @@ use Rattle.pipe_running.proofs.GroupStateFacts.{group-holds}
 use Rattle.pipe_running.proofs.StatesHoldFacts.{fresh-hold, hold-seen, hold-takes, states-weaker}
 use Rattle.pipe_spill.specs.SpillRow.{IsRow}
 use Rattle.pipe_spill.specs.declared.spill_row.SpillRow.{SpillRow}
-use Rattle.pipe_groups.specs.Groups.{Group, group_of, has_rows, keys_of, new_group, no_group, RowlessAreFresh}
+use Rattle.pipe_groups.specs.Groups.{Group, group_of, has_rows, group_keys, new_group, no_group, RowlessAreFresh}
 use Rattle.pipe_groups.specs.Holds.{entries_of, FoundStands, HoldFewer, Holds, of_key}
 use Rattle.pipe_groups.specs.Shape.{IsShape, Shape}
 use Rattle.pipe_groups.proofs.PutFacts.{held_at-at}
@@ -35,14 +35,14 @@ module _ (ps : List AggregateFunction) where
   found-counted g false rows fresh h = rw (fresh refl) (fresh-hold (length rows) ps)
 
   -- no running aggregate has counted more values than there are rows
-  pub holds-counted : (gs : List Group) (rows : List SpillRow) → IsDistinct bytes_eq (keys_of gs) → RowlessAreFresh ps gs → Holds ps gs rows → All (λ g. StatesHold (length rows) ps g.states) gs
+  pub holds-counted : (gs : List Group) (rows : List SpillRow) → IsDistinct bytes_eq (group_keys gs) → RowlessAreFresh ps gs → Holds ps gs rows → All (λ g. StatesHold (length rows) ps g.states) gs
   holds-counted gs rows apart fresh h =
       All-from_get_or (λ g. StatesHold (length rows) ps g.states) gs no_group (λ i lt.
       let g = group_of gs i in
       found-counted g (has_rows g) rows (All-get_or (λ x. has_rows x ≡ false → x.states ≡ fresh_states ps) gs i no_group lt fresh) (rw (held_at-at g.key gs i apart lt refl) at (h.at g.key)))
 
 -- nor as many as leave no place for so many more
-pub few-counted : (s : Shape) (gs : List Group) (n : ℕ) → IsDistinct bytes_eq (keys_of gs) → RowlessAreFresh s.prototypes gs → HoldFewer s gs n
+pub few-counted : (s : Shape) (gs : List Group) (n : ℕ) → IsDistinct bytes_eq (group_keys gs) → RowlessAreFresh s.prototypes gs → HoldFewer s gs n
     → All (λ g. StatesHold (2 ^ 32 - 1 - n) s.prototypes g.states) gs
 few-counted s gs n apart fresh h =
     let rows = h.rows in

@@ -13,7 +13,7 @@ use Rattle.pipe_running.specs.Stands.{FitTypes}
 use Rattle.pipe_spill.specs.KeyTypes.{AreOfTypes}
 use Rattle.pipe_groups.specs.Columns.{HaveKeys, IsTupleOf, with_rows}
 use Rattle.pipe_groups.specs.Given.{CanGive, IsFrameOfGroups, IsRowOfGroup}
-use Rattle.pipe_groups.specs.Groups.{Group, keys_of}
+use Rattle.pipe_groups.specs.Groups.{Group, group_keys}
 use Rattle.pipe_groups.specs.Shape.{IsShape, Shape}
 use Rattle.pipe_groups.proofs.ColumnRows.{columns-fit, columns-joined, heights, joined_rows, length-joined, rows-put}
 use Rattle.pipe_groups.proofs.ReadFacts.{length-types}
@@ -52,7 +52,7 @@ rows-many types (k ∷ ks) [] h = absurd h
 rows-many types (k ∷ ks) (r ∷ rs) h = ap suc (rows-many types ks rs h.1)
 
 -- a row is a group's where its front is the tuple of the group's key
-rows-of : (s : Shape) (gs : List Group) (rows : List (List AnyValue)) → AllZip (IsTupleOf s.key_types) (keys_of gs) rows → AllZip (λ g row. IsRowOfGroup s g row) gs (joined_rows rows (givens gs))
+rows-of : (s : Shape) (gs : List Group) (rows : List (List AnyValue)) → AllZip (IsTupleOf s.key_types) (group_keys gs) rows → AllZip (λ g row. IsRowOfGroup s g row) gs (joined_rows rows (givens gs))
 rows-of s [] [] h = tt
 rows-of s [] (r ∷ rs) h = absurd h
 rows-of s (g ∷ gs) [] h = absurd h
@@ -88,9 +88,9 @@ module _ (s : Shape) (shape : IsShape s) where
     pub given-fit : (columns : List ColumnData) → columns ≡ with_rows (givens gs) (columns_from 0 given_fields []) → ColumnsFit columns
     given-fit columns e = subst ColumnsFit (sym (e ∙ given-are)) (columns-fit given_fields (givens gs) givens-typed)
 
-    module _ (columns : List ColumnData) (keys : HaveKeys s.key_types key_fields (keys_of gs) columns) where
+    module _ (columns : List ColumnData) (keys : HaveKeys s.key_types key_fields (group_keys gs) columns) where
       keys-typed : All (λ row. AreOfTypes s.key_types row) keys.rows
-      keys-typed = rows-typed s.key_types (keys_of gs) keys.rows keys.each
+      keys-typed = rows-typed s.key_types (group_keys gs) keys.rows keys.each
 
       pub keys-fit : ColumnsFit columns
       keys-fit = subst ColumnsFit (sym keys.are) (columns-fit key_fields keys.rows (subst (λ (ts : List DataType). All (λ row. AreOfTypes ts row) keys.rows) (sym (shape-keys s shape)) keys-typed))
@@ -102,7 +102,7 @@ module _ (s : Shape) (shape : IsShape s) where
       keys-long = All-weaker (λ row. AreOfTypes s.key_types row) (λ row. length row ≡ length key_fields) (λ row h. length-types s.key_types row h ∙ key-long) keys.rows keys-typed
 
       many : length keys.rows ≡ length (givens gs)
-      many = rows-many s.key_types (keys_of gs) keys.rows keys.each ∙ length-map gs (λ (g : Group). g.key) ∙ sym (length-map gs (λ (g : Group). given_all g.states))
+      many = rows-many s.key_types (group_keys gs) keys.rows keys.each ∙ length-map gs (λ (g : Group). g.key) ∙ sym (length-map gs (λ (g : Group). given_all g.states))
 
       abbrev all_rows : List (List AnyValue)
       all_rows = joined_rows keys.rows (givens gs)

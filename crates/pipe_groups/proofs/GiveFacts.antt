@@ -14,7 +14,7 @@ use Rattle.pipe_running.proofs.GroupStateFacts.{group-fits}
 use Rattle.pipe_spill.specs.SpillRow.{AreRows, IsKey, IsRow}
 use Rattle.pipe_spill.specs.declared.spill_row.SpillRow.{SpillRow}
 use Rattle.pipe_groups.specs.Given.{CanGive}
-use Rattle.pipe_groups.specs.Groups.{Group, group_of, has_rows, held_groups, keys_of, no_group}
+use Rattle.pipe_groups.specs.Groups.{Group, group_of, has_rows, held_groups, group_keys, no_group}
 use Rattle.pipe_groups.specs.Holds.{entries_of, FoundStands, HoldFewer, Holds, of_key}
 use Rattle.pipe_groups.specs.Shape.{IsShape, Shape, shape_of}
 use Rattle.pipe_groups.proofs.FeedFacts.{few-of_key}
@@ -39,7 +39,7 @@ first-there g h = by g.first refl h where
 
 module _ (ps : List AggregateFunction) where
   -- a group that holds rows, apart from the others, stands for the rows of its key
-  pub held-stands : (gs : List Group) (rows : List SpillRow) → IsDistinct bytes_eq (keys_of gs) → Holds ps gs rows
+  pub held-stands : (gs : List Group) (rows : List SpillRow) → IsDistinct bytes_eq (group_keys gs) → Holds ps gs rows
       → All (λ g. has_rows g ≡ true → GroupStands ps g.first g.states (entries_of (of_key g.key rows))) gs
   held-stands gs rows apart h = All-from_get_or (λ g. has_rows g ≡ true → GroupStands ps g.first g.states (entries_of (of_key g.key rows))) gs no_group (λ i lt has.
       let g = group_of gs i in
@@ -83,14 +83,14 @@ module _ (q : QueryTree) (groupable : IsGroupable q) where
         fits = group-fits q.schema q.aggs s.prototypes g.states g.first (entries_of own) (aggs-served q.schema q.aggs groupable.aggs) h (entries-fit own owned) (omega (arith, few, few-of_key g.key rows));
       }
 
-  query-gives : (gs : List Group) (rows : List SpillRow) → IsDistinct bytes_eq (keys_of gs) → Holds (shape_of q).prototypes gs rows → AreRows (shape_of q).key_types (shape_of q).input_types rows
+  query-gives : (gs : List Group) (rows : List SpillRow) → IsDistinct bytes_eq (group_keys gs) → Holds (shape_of q).prototypes gs rows → AreRows (shape_of q).key_types (shape_of q).input_types rows
       → length rows < 2 ^ 32 → All (CanGive (shape_of q)) (held_groups gs)
   query-gives gs rows apart h typed few =
       let stand = held-stands (shape_of q).prototypes gs rows apart h in
       held-all (CanGive (shape_of q)) gs (λ i d lt has. stands-give (get_or gs i d) rows typed few has (stand i d lt has))
 
 -- each group that holds rows, of a shape and fewer than 2^32, can give its own
-pub can-give : (s : Shape) (gs : List Group) → IsShape s → IsDistinct bytes_eq (keys_of gs) → HoldFewer s gs 0 → All (CanGive s) (held_groups gs)
+pub can-give : (s : Shape) (gs : List Group) → IsShape s → IsDistinct bytes_eq (group_keys gs) → HoldFewer s gs 0 → All (CanGive s) (held_groups gs)
 can-give s gs shape apart h =
     let P : Shape → Type 0 = λ x. HoldFewer x gs 0 → All (CanGive x) (held_groups gs) in
     subst P (sym shape.of_query) (λ f. query-gives shape.query shape.groupable gs f.rows apart f.holds f.typed (let few : length f.rows + 0 < 2 ^ 32 = f.few in omega (arith, few))) h

@@ -16,7 +16,7 @@ use Rattle.pipe_running.specs.declared.function.AggregateFunction.{AggregateFunc
 use Rattle.pipe_running.specs.GroupStates.{fresh_states, GroupStands, TakesFrom}
 use Rattle.pipe_running.proofs.GroupStateFacts.{group-fed, group-fresh, group-joined, group-moved}
 use Rattle.pipe_spill.specs.declared.spill_row.SpillRow.{SpillRow}
-use Rattle.pipe_groups.specs.Groups.{AreJoined, cover, Group, has_rows, held_at, is_covered, new_group, put, RowlessAreFresh, with_held, with_row}
+use Rattle.pipe_groups.specs.Groups.{AreJoined, cover, Group, has_rows, held_at, is_covered, new_group, put, RowlessAreFresh, with_held, group_with_row}
 use Rattle.pipe_groups.specs.Holds.{entries_of, FoundStands, Holds, of_key}
 use Rattle.pipe_groups.proofs.PutFacts.{cover-new, cover-there}
 
@@ -57,18 +57,18 @@ module _ (ps : List AggregateFunction) where
 
   module _ (k : List ℕ) (r : SpillRow) (taken : TakesFrom 0 ps r.values) where
     -- a group with the row, and of the rows so far, is of all
-    with-row : (g : Group) (xs : List SpillRow) → GroupStands ps g.first g.states (entries_of xs) → FoundStands ps (Some (with_row r.place r.values g)) (xs ++ r ∷ [])
+    with-row : (g : Group) (xs : List SpillRow) → GroupStands ps g.first g.states (entries_of xs) → FoundStands ps (Some (group_with_row r.place r.values g)) (xs ++ r ∷ [])
     with-row g xs h =
-        stands-for (with_row r.place r.values g) (xs ++ r ∷ []) (entries_of xs ++ (r.place, r.values) ∷ []) (sym (entries_of-append xs (r ∷ [])))
+        stands-for (group_with_row r.place r.values g) (xs ++ r ∷ []) (entries_of xs ++ (r.place, r.values) ∷ []) (sym (entries_of-append xs (r ∷ [])))
         (group-fed ps g.states g.first (entries_of xs) r.place r.values taken h)
 
     -- one of no rows, with the row, is of it alone
-    with-first : (g : Group) (xs : List SpillRow) → g.first ≡ None → g.states ≡ fresh_states ps → xs ≡ [] → FoundStands ps (Some (with_row r.place r.values g)) (xs ++ r ∷ [])
+    with-first : (g : Group) (xs : List SpillRow) → g.first ≡ None → g.states ≡ fresh_states ps → xs ≡ [] → FoundStands ps (Some (group_with_row r.place r.values g)) (xs ++ r ∷ [])
     with-first g xs none fresh e =
         with-row g xs (rw (none, fresh, e) (group-fresh ps))
 
     found-there : (g : Group) (xs : List SpillRow) → (has_rows g ≡ false → g.states ≡ fresh_states ps) → (first : Option Place) → g.first ≡ first
-        → FoundStands ps (if has_rows g then Some g else None) xs → FoundStands ps (Some (with_row r.place r.values g)) (xs ++ r ∷ [])
+        → FoundStands ps (if has_rows g then Some g else None) xs → FoundStands ps (Some (group_with_row r.place r.values g)) (xs ++ r ∷ [])
     found-there g xs fresh None e h = with-first g xs e (fresh (rw e refl)) (rw e at h)
     found-there g xs fresh (Some p) e h =
         let holds : has_rows g ≡ true = ap (λ (o : Option Place). is_some o) e in

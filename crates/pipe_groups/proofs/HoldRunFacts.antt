@@ -14,7 +14,7 @@ use Rattle.pipe_running.proofs.GroupRunFacts.{group-run}
 use Rattle.pipe_running.proofs.GroupStateFacts.{group-fresh}
 use Rattle.pipe_spill.specs.declared.spill_row.SpillRow.{SpillRow}
 use Rattle.pipe_groups.specs.GroupRuns.{with_run}
-use Rattle.pipe_groups.specs.Groups.{Group, group_of, has_rows, held_at, keys_of, no_group, RowlessAreFresh}
+use Rattle.pipe_groups.specs.Groups.{Group, group_of, has_rows, held_at, group_keys, no_group, RowlessAreFresh}
 use Rattle.pipe_groups.specs.Holds.{entries_of, FoundStands, Holds, of_key}
 use Rattle.pipe_groups.proofs.PutFacts.{held_at-at}
 use Rattle.pipe_groups.proofs.RunFacts.{least-some}
@@ -33,7 +33,7 @@ of_key-others q k (r ∷ rows) e h =
     let other : bytes_eq q r.key ≡ false = ap (bytes_eq q) (All-head (λ (x : SpillRow). x.key ≡ k) r rows h) ∙ e in
     rw other (of_key-others q k rows e (All-tail (λ (x : SpillRow). x.key ≡ k) r rows h))
 
-module _ (ps : List AggregateFunction) (gs : List Group) (i : ℕ) (apart : IsDistinct bytes_eq (keys_of gs)) (fresh : RowlessAreFresh ps gs) (lt : i < length gs)
+module _ (ps : List AggregateFunction) (gs : List Group) (i : ℕ) (apart : IsDistinct bytes_eq (group_keys gs)) (fresh : RowlessAreFresh ps gs) (lt : i < length gs)
     (chunk row : ℕ) (inputs : List (List AnyValue)) (some : 0 < length inputs) (taken : All (TakesFrom 0 ps) inputs)
     (run : List SpillRow) (own : All (λ r. r.key ≡ (group_of gs i).key) run) (entries : entries_of run ≡ placed chunk row inputs) where
   abbrev g : Group

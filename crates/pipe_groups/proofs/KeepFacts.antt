@@ -10,7 +10,7 @@ use Rattle.pipe_columns.specs.declared.place.Place.{Place}
 use Rattle.pipe_running.specs.declared.function.AggregateFunction.{AggregateFunction}
 use Rattle.pipe_spill.specs.SpillRow.{AreRows, IsRow}
 use Rattle.pipe_spill.specs.declared.spill_row.SpillRow.{SpillRow}
-use Rattle.pipe_groups.specs.Groups.{AreJoined, cover, Group, is_covered, keys_of, new_group, put, with_row, RowlessAreFresh}
+use Rattle.pipe_groups.specs.Groups.{AreJoined, cover, Group, is_covered, group_keys, new_group, put, group_with_row, RowlessAreFresh}
 use Rattle.pipe_groups.specs.Holds.{HoldFewer, Holds}
 use Rattle.pipe_groups.specs.Shape.{IsShape, Shape}
 use Rattle.pipe_groups.proofs.HoldFacts.{holds-covered, holds-joined, holds-row}
@@ -22,25 +22,25 @@ use Rattle.pipe_groups.proofs.TakeFacts.{apart-pushed}
 
 module _ (ps : List AggregateFunction) (k : List ℕ) where
   -- a row of a covered key leaves the keys
-  put-keys : (p : Place) (inputs : List AnyValue) (gs : List Group) → is_covered k gs ≡ true → keys_of (put ps k p inputs gs) ≡ keys_of gs
+  put-keys : (p : Place) (inputs : List AnyValue) (gs : List Group) → is_covered k gs ≡ true → group_keys (put ps k p inputs gs) ≡ group_keys gs
   put-keys p inputs [] h = cc
   put-keys p inputs (g ∷ gs) h = by (bytes_eq k g.key) h (put-keys p inputs gs) where
-    by : (b : Bool) → b || is_covered k gs ≡ true → (is_covered k gs ≡ true → keys_of (put ps k p inputs gs) ≡ keys_of gs)
-        → keys_of (if b then with_row p inputs g ∷ gs else g ∷ put ps k p inputs gs) ≡ g.key ∷ keys_of gs
+    by : (b : Bool) → b || is_covered k gs ≡ true → (is_covered k gs ≡ true → group_keys (put ps k p inputs gs) ≡ group_keys gs)
+        → group_keys (if b then group_with_row p inputs g ∷ gs else g ∷ put ps k p inputs gs) ≡ g.key ∷ group_keys gs
     by true h next = refl
     by false h next = ap (λ (l : List (List ℕ)). g.key ∷ l) (next h)
 
   -- keys that are apart stay so with one more row
-  pub apart-put : (p : Place) (inputs : List AnyValue) (gs : List Group) → IsDistinct bytes_eq (keys_of gs) → IsDistinct bytes_eq (keys_of (put ps k p inputs gs))
+  pub apart-put : (p : Place) (inputs : List AnyValue) (gs : List Group) → IsDistinct bytes_eq (group_keys gs) → IsDistinct bytes_eq (group_keys (put ps k p inputs gs))
   apart-put p inputs gs d = by (is_covered k gs) refl where
-    by : (b : Bool) → is_covered k gs ≡ b → IsDistinct bytes_eq (keys_of (put ps k p inputs gs))
+    by : (b : Bool) → is_covered k gs ≡ b → IsDistinct bytes_eq (group_keys (put ps k p inputs gs))
     by true e = subst (IsDistinct bytes_eq) (sym (put-keys p inputs gs e)) d
-    by false e = rw (put-new k ps p inputs gs e) (apart-pushed gs (with_row p inputs (new_group ps k)) d e)
+    by false e = rw (put-new k ps p inputs gs e) (apart-pushed gs (group_with_row p inputs (new_group ps k)) d e)
 
   -- and with room for a key
-  pub apart-cover : (gs : List Group) → IsDistinct bytes_eq (keys_of gs) → IsDistinct bytes_eq (keys_of (cover ps k gs))
+  pub apart-cover : (gs : List Group) → IsDistinct bytes_eq (group_keys gs) → IsDistinct bytes_eq (group_keys (cover ps k gs))
   apart-cover gs d = by (is_covered k gs) refl where
-    by : (b : Bool) → is_covered k gs ≡ b → IsDistinct bytes_eq (keys_of (cover ps k gs))
+    by : (b : Bool) → is_covered k gs ≡ b → IsDistinct bytes_eq (group_keys (cover ps k gs))
     by true e = rw (cover-there k ps gs e) d
     by false e = rw (cover-new k ps gs e) (apart-pushed gs (new_group ps k) d e)
 

@@ -18,7 +18,7 @@ use Rattle.pipe_running.specs.GroupStates.{GroupStands}
 use Rattle.pipe_running.specs.declared.function.AggregateFunction.{AggregateFunction}
 use Rattle.pipe_spill.specs.declared.spill_row.SpillRow.{SpillRow}
 use Rattle.pipe_groups.specs.Given.{key_cmp}
-use Rattle.pipe_groups.specs.Groups.{count_held, Group, has_rows, held_at, held_groups, is_held, keys_of}
+use Rattle.pipe_groups.specs.Groups.{count_held, Group, has_rows, held_at, held_groups, is_held, group_keys}
 use Rattle.pipe_groups.specs.Holds.{entries_of, FoundStands, Holds, of_key}
 use Rattle.pipe_groups.proofs.OnceFacts.{Once, sorted-length}
 use Rattle.pipe_groups.proofs.GiveFacts.{first-there, stands-some}
@@ -37,7 +37,7 @@ key_exact = exact_on key_cmp (lists_total nat_cmp_total) (slice_cmp-IsAntisymmet
 pub record IsHeldAt (k : List ℕ) (gs : List Group) (g : Group) : Type 0 where
   pub key : g.key ≡ k
   pub rows : has_rows g ≡ true
-  pub among : Has k (keys_of (held_groups gs))
+  pub among : Has k (group_keys (held_groups gs))
 
 pub found-is : (k : List ℕ) (gs : List Group) (g : Group) → held_at k gs ≡ Some g → IsHeldAt k gs g
 found-is k [] g e = cc
@@ -53,10 +53,10 @@ found-is k (h ∷ hs) g e = by (bytes_eq k h.key) (has_rows h) refl refl e (foun
   by false false f u e next = let rest = next e in record { key = rest.key; rows = rest.rows; among = rw u rest.among }
 
 -- a key of groups that hold rows is one of all groups
-held-among : (k : List ℕ) (gs : List Group) → Has k (keys_of (held_groups gs)) → Has k (keys_of gs)
+held-among : (k : List ℕ) (gs : List Group) → Has k (group_keys (held_groups gs)) → Has k (group_keys gs)
 held-among k [] m = absurd m
 held-among k (g ∷ gs) m = by (has_rows g) m (held-among k gs) where
-  by : (b : Bool) → Has k (keys_of (cond b (g ∷ held_groups gs) (held_groups gs))) → (Has k (keys_of (held_groups gs)) → Has k (keys_of gs)) → Has k (keys_of (g ∷ gs))
+  by : (b : Bool) → Has k (group_keys (cond b (g ∷ held_groups gs) (held_groups gs))) → (Has k (group_keys (held_groups gs)) → Has k (group_keys gs)) → Has k (group_keys (g ∷ gs))
   by true (inl e) next = inl e
   by true (inr n) next = inr (next n)
   by false n next = inr (next n)
@@ -68,36 +68,36 @@ differs-has x k (y ∷ ys) d (inl e) = ap (bytes_eq x) e ∙ d.0
 differs-has x k (y ∷ ys) d (inr m) = differs-has x k ys d.1 m
 
 -- where keys are apart, a key of the groups that hold rows is held
-pub has-held : (k : List ℕ) (gs : List Group) → IsDistinct bytes_eq (keys_of gs) → Has k (keys_of (held_groups gs)) → is_held k gs ≡ true
+pub has-held : (k : List ℕ) (gs : List Group) → IsDistinct bytes_eq (group_keys gs) → Has k (group_keys (held_groups gs)) → is_held k gs ≡ true
 unfolding IsDistinct
 has-held k [] d m = absurd m
 has-held k (g ∷ gs) d m = by (bytes_eq k g.key) (has_rows g) refl refl m (has-held k gs d.1) where
-  by : (b t : Bool) → bytes_eq k g.key ≡ b → has_rows g ≡ t → Has k (keys_of (cond t (g ∷ held_groups gs) (held_groups gs))) → (Has k (keys_of (held_groups gs)) → is_held k gs ≡ true)
+  by : (b t : Bool) → bytes_eq k g.key ≡ b → has_rows g ≡ t → Has k (group_keys (cond t (g ∷ held_groups gs) (held_groups gs))) → (Has k (group_keys (held_groups gs)) → is_held k gs ≡ true)
       → is_held k (g ∷ gs) ≡ true
   by true true f u m next = rw (f, u) refl
   by true false f u m next =
-      let other : bytes_eq k g.key ≡ false = nat_list_eq_equiv.symm k g.key ∙ differs-has g.key k (keys_of gs) d.0 (held-among k gs m) in
+      let other : bytes_eq k g.key ≡ false = nat_list_eq_equiv.symm k g.key ∙ differs-has g.key k (group_keys gs) d.0 (held-among k gs m) in
       cc
   by false true f u (inl e) next = let own : bytes_eq k g.key ≡ true = (bytes_eq-Decides k g.key).1 e in cc
   by false true f u (inr n) next = rw f (next n)
   by false false f u m next = rw f (next m)
 
 -- and stands once among them
-pub held-once : (gs : List Group) → IsDistinct bytes_eq (keys_of gs) → Once (keys_of (held_groups gs))
+pub held-once : (gs : List Group) → IsDistinct bytes_eq (group_keys gs) → Once (group_keys (held_groups gs))
 unfolding IsDistinct
 held-once [] d = tt
 held-once (g ∷ gs) d = by (has_rows g) (held-once gs d.1) where
-  by : (b : Bool) → Once (keys_of (held_groups gs)) → Once (keys_of (cond b (g ∷ held_groups gs) (held_groups gs)))
+  by : (b : Bool) → Once (group_keys (held_groups gs)) → Once (group_keys (cond b (g ∷ held_groups gs) (held_groups gs)))
   by true rest = (
-    λ m. let itself : bytes_eq g.key g.key ≡ true = nat_list_eq_equiv.refl g.key in let other : bytes_eq g.key g.key ≡ false = differs-has g.key g.key (keys_of gs) d.0 (held-among g.key gs m) in cc,
+    λ m. let itself : bytes_eq g.key g.key ≡ true = nat_list_eq_equiv.refl g.key in let other : bytes_eq g.key g.key ≡ false = differs-has g.key g.key (group_keys gs) d.0 (held-among g.key gs m) in cc,
     rest,
   )
   by false rest = rest
 
 -- what is held is among them
-held-has : (k : List ℕ) (gs : List Group) → is_held k gs ≡ true → Has k (keys_of (held_groups gs))
+held-has : (k : List ℕ) (gs : List Group) → is_held k gs ≡ true → Has k (group_keys (held_groups gs))
 held-has k gs e = by (held_at k gs) refl e where
-  by : (o : Option Group) → held_at k gs ≡ o → is_some o ≡ true → Has k (keys_of (held_groups gs))
+  by : (o : Option Group) → held_at k gs ≡ o → is_some o ≡ true → Has k (group_keys (held_groups gs))
   by None f e = cc
   by (Some g) f e = (found-is k gs g f).among
 
@@ -147,11 +147,11 @@ module _ (ps : List AggregateFunction) (gs : List Group) (rows : List SpillRow) 
         let p = first-there g (found-is k gs g e).rows in
         sym (some-of k rows (stands-some ps p.0 g.states (of_key k rows) (subst (λ (first : Option Place). GroupStands ps first g.states (entries_of (of_key k rows))) p.1 s)))
 
-  module _ (apart : IsDistinct bytes_eq (keys_of gs)) where
+  module _ (apart : IsDistinct bytes_eq (group_keys gs)) where
     -- so the keys of the groups that hold rows are the rows' keys, sorted
-    pub sorted-held : sorted_keys key_cmp (keys_of (held_groups gs)) ≡ sorted_keys key_cmp (row_keys rows)
+    pub sorted-held : sorted_keys key_cmp (group_keys (held_groups gs)) ≡ sorted_keys key_cmp (row_keys rows)
     sorted-held =
-        let held : List (List ℕ) = keys_of (held_groups gs) in
+        let held : List (List ℕ) = group_keys (held_groups gs) in
         sorted_sole AnyKey key_cmp key_exact (row_keys rows) (sorted_keys key_cmp held) (any_keys (row_keys rows)) (record {
           ascending = sorted-ascending key_cmp (lists_total nat_cmp_total) held;
           same = same_elements (sorted_keys key_cmp held) (row_keys rows)
@@ -163,5 +163,5 @@ module _ (ps : List AggregateFunction) (gs : List Group) (rows : List SpillRow) 
     pub held-counted : count_held gs ≡ length (sorted_keys key_cmp (row_keys rows))
     held-counted =
         sym (length-map (held_groups gs) (λ (g : Group). g.key))
-        ∙ sym (sorted-length key_cmp key_exact (keys_of (held_groups gs)) (held-once gs apart))
+        ∙ sym (sorted-length key_cmp key_exact (group_keys (held_groups gs)) (held-once gs apart))
         ∙ ap (λ (ks : List (List ℕ)). length ks) sorted-held

@@ -26,7 +26,7 @@ use Rattle.pipe_model.proofs.PartFacts.{keys_at-part, rows_of-at, sorted_by_part
 use Rattle.pipe_model.proofs.PartitionFacts.{answer_row-in}
 use Rattle.pipe_spill.specs.SpillRow.{spilled}
 use Rattle.pipe_groups.specs.Given.{in_order, IsFrameOfGroups}
-use Rattle.pipe_groups.specs.Groups.{Group, held_at, keys_of}
+use Rattle.pipe_groups.specs.Groups.{Group, held_at, group_keys}
 use Rattle.pipe_groups.specs.QueryRows.{ArePlaced, ArePlacedRows, HoldRowsOf}
 use Rattle.pipe_groups.specs.Shape.{shape_of}
 use Rattle.pipe_groups.proofs.AnswerFacts.{held-answer, sliced-holds, tuples_of}
@@ -79,7 +79,7 @@ module _ (q : QueryTree) (partitions p : ℕ) where
     by false rest = rest
 
   -- groups in which the keys of the partition alone are held hold its rows
-  pub part-holds : (rs : List Row) (gs part : List Group) → HoldRowsOf q gs rs → IsDistinct bytes_eq (keys_of part)
+  pub part-holds : (rs : List Row) (gs part : List Group) → HoldRowsOf q gs rs → IsDistinct bytes_eq (group_keys part)
       → ((k : List ℕ) → held_at k part ≡ (if fold_bytes k % partitions == p then held_at k gs else None)) → HoldRowsOf q part (rows_in partitions q p rs)
   part-holds rs gs part h apart same = record {
     groupable = h.groupable;

@@ -8,13 +8,13 @@ use Rattle.std.specs.Str.{bytes_eq}
 use Rattle.pipe_columns.specs.declared.any_value.AnyValue.{AnyValue}
 use Rattle.pipe_columns.specs.declared.place.Place.{Place}
 use Rattle.pipe_running.specs.declared.function.AggregateFunction.{AggregateFunction}
-use Rattle.pipe_groups.specs.Groups.{cover, Group, group_of, has_rows, held_at, is_covered, is_held, keys_of, new_group, no_group, put, with_row}
+use Rattle.pipe_groups.specs.Groups.{cover, Group, group_of, has_rows, held_at, is_covered, is_held, group_keys, new_group, no_group, put, group_with_row}
 
 -- the first key differs from that of a later group
-pub later-differs : (g : Group) (gs : List Group) (i : ℕ) (k : List ℕ) → IsDistinct bytes_eq (keys_of (g ∷ gs)) → i < length gs → (group_of gs i).key ≡ k → bytes_eq k g.key ≡ false
+pub later-differs : (g : Group) (gs : List Group) (i : ℕ) (k : List ℕ) → IsDistinct bytes_eq (group_keys (g ∷ gs)) → i < length gs → (group_of gs i).key ≡ k → bytes_eq k g.key ≡ false
 later-differs g gs i k d lt e =
-    let there : get_or (keys_of gs) i [] ≡ k = get_or-map (λ (x : Group). x.key) gs i no_group [] lt ∙ e in
-    let apart : bytes_eq g.key (get_or (keys_of gs) i []) ≡ false = apart_from_distinct bytes_eq (keys_of (g ∷ gs)) 0 (suc i) [] d (omega arith) (omega (arith, lt, length-map gs (λ (x : Group). x.key))) in
+    let there : get_or (group_keys gs) i [] ≡ k = get_or-map (λ (x : Group). x.key) gs i no_group [] lt ∙ e in
+    let apart : bytes_eq g.key (get_or (group_keys gs) i []) ≡ false = apart_from_distinct bytes_eq (group_keys (g ∷ gs)) 0 (suc i) [] d (omega arith) (omega (arith, lt, length-map gs (λ (x : Group). x.key))) in
     nat_list_eq_equiv.symm k g.key ∙ ap (bytes_eq g.key) (sym there) ∙ apart
 
 -- a key is its own
@@ -28,13 +28,13 @@ some-if false g = refl
 
 module _ (k : List ℕ) where
   -- where a group has the key, what is held of the key is that group, if it has rows
-  pub held_at-at : (gs : List Group) (i : ℕ) → IsDistinct bytes_eq (keys_of gs) → i < length gs → (group_of gs i).key ≡ k
+  pub held_at-at : (gs : List Group) (i : ℕ) → IsDistinct bytes_eq (group_keys gs) → i < length gs → (group_of gs i).key ≡ k
       → held_at k gs ≡ (if has_rows (group_of gs i) then Some (group_of gs i) else None)
   held_at-at [] i d lt e = absurd (omega arith)
   held_at-at (g ∷ gs) zero d lt e = rw (same-key k g.key e) refl
-  held_at-at (g ∷ gs) (suc i) d lt e = rw (later-differs g gs i k d (omega arith) e) (held_at-at gs i (IsDistinct-tail bytes_eq g.key (keys_of gs) d) (omega arith) e)
+  held_at-at (g ∷ gs) (suc i) d lt e = rw (later-differs g gs i k d (omega arith) e) (held_at-at gs i (IsDistinct-tail bytes_eq g.key (group_keys gs) d) (omega arith) e)
 
-  pub is_held-at : (gs : List Group) (i : ℕ) → IsDistinct bytes_eq (keys_of gs) → i < length gs → (group_of gs i).key ≡ k → is_held k gs ≡ has_rows (group_of gs i)
+  pub is_held-at : (gs : List Group) (i : ℕ) → IsDistinct bytes_eq (group_keys gs) → i < length gs → (group_of gs i).key ≡ k → is_held k gs ≡ has_rows (group_of gs i)
   is_held-at gs i d lt e = ap (λ (o : Option Group). is_some o) (held_at-at gs i d lt e) ∙ some-if (has_rows (group_of gs i)) (group_of gs i)
 
   -- such a key is covered
@@ -78,21 +78,21 @@ module _ (k : List ℕ) where
 
     module _ (p : Place) (inputs : List AnyValue) where
       -- a row whose key a group has is put into that group
-      pub put-at : (gs : List Group) (i : ℕ) → IsDistinct bytes_eq (keys_of gs) → i < length gs → (group_of gs i).key ≡ k
-          → set gs i (with_row p inputs (group_of gs i)) ≡ put prototypes k p inputs gs
+      pub put-at : (gs : List Group) (i : ℕ) → IsDistinct bytes_eq (group_keys gs) → i < length gs → (group_of gs i).key ≡ k
+          → set gs i (group_with_row p inputs (group_of gs i)) ≡ put prototypes k p inputs gs
       put-at [] i d lt e = absurd (omega arith)
       put-at (g ∷ gs) zero d lt e = rw (same-key k g.key e) refl
       put-at (g ∷ gs) (suc i) d lt e =
           rw (later-differs g gs i k d (omega arith) e)
-          (ap (λ (rest : List Group). g ∷ rest) (put-at gs i (IsDistinct-tail bytes_eq g.key (keys_of gs) d) (omega arith) e))
+          (ap (λ (rest : List Group). g ∷ rest) (put-at gs i (IsDistinct-tail bytes_eq g.key (group_keys gs) d) (omega arith) e))
 
       -- where none has it, into a new one
-      pub put-new : (gs : List Group) → is_covered k gs ≡ false → put prototypes k p inputs gs ≡ gs ++ with_row p inputs (new_group prototypes k) ∷ []
+      pub put-new : (gs : List Group) → is_covered k gs ≡ false → put prototypes k p inputs gs ≡ gs ++ group_with_row p inputs (new_group prototypes k) ∷ []
       put-new [] h = refl
       put-new (g ∷ gs) h = rw (not-first g gs h) (ap (λ (rest : List Group). g ∷ rest) (put-new gs (not-later g gs h)))
 
       -- which is pushed first, and then fed
       pub put-pushed : (gs : List Group) → is_covered k gs ≡ false
-          → set (gs ++ new_group prototypes k ∷ []) (length gs) (with_row p inputs (group_of (gs ++ new_group prototypes k ∷ []) (length gs))) ≡ put prototypes k p inputs gs
+          → set (gs ++ new_group prototypes k ∷ []) (length gs) (group_with_row p inputs (group_of (gs ++ new_group prototypes k ∷ []) (length gs))) ≡ put prototypes k p inputs gs
       put-pushed [] h = refl
       put-pushed (g ∷ gs) h = rw (not-first g gs h) (ap (λ (rest : List Group). g ∷ rest) (put-pushed gs (not-later g gs h)))

@@ -13,7 +13,7 @@ use Rattle.pipe_spill.specs.KeyTypes.{AreOfTypes, BeginsNoValue, IsTuple, IsValu
 use Rattle.pipe_spill.specs.SpillRow.{IsKey}
 use Rattle.pipe_spill.proofs.CodeOrder.{value_once}
 use Rattle.pipe_groups.specs.declared.unfinished.Unfinished.{Unfinished}
-use Rattle.pipe_groups.specs.Columns.{columns_of, HaveKey, HaveKeys, IsTupleOf, types_of, with_values, with_values_at}
+use Rattle.pipe_groups.specs.Columns.{columns_of_unfinished, HaveKey, HaveKeys, IsTupleOf, types_of, with_values, with_values_at}
 use Rattle.pipe_groups.specs.Reading.{IsReading}
 use Rattle.pipe_groups.proofs.ColumnFacts.{with_values_at-more}
 use Rattle.pipe_groups.proofs.ColumnRows.{row-more, types-from}
@@ -106,17 +106,17 @@ types-with_values (v ∷ vs) [] = refl
 types-with_values (v ∷ vs) (c ∷ cs) = ap (λ (ts : List DataType). c.dtype ∷ ts) (types-with_values vs cs)
 
 -- the type of a column
-column-type : (cs : List Unfinished) (j : ℕ) (d : Unfinished) (t : DataType) → j < length cs → get_or (types_of (columns_of cs)) j t ≡ (get_or cs j d).field.dtype
+column-type : (cs : List Unfinished) (j : ℕ) (d : Unfinished) (t : DataType) → j < length cs → get_or (types_of (columns_of_unfinished cs)) j t ≡ (get_or cs j d).field.dtype
 column-type [] j d t lt = absurd (omega arith)
 column-type (c ∷ cs) zero d t lt = refl
 column-type (c ∷ cs) (suc j) d t lt = column-type cs j d t (omega (arith, lt))
 
-length-types_of : (cs : List Unfinished) → length (types_of (columns_of cs)) ≡ length cs
+length-types_of : (cs : List Unfinished) → length (types_of (columns_of_unfinished cs)) ≡ length cs
 length-types_of [] = refl
 length-types_of (c ∷ cs) = ap suc (length-types_of cs)
 
-module _ (before : List ColumnData) (key : List ℕ) (j : ℕ) (cs : List Unfinished) (rest : List ℕ) (d : Unfinished) (h : IsReading before key j (columns_of cs) rest) (within : j < length cs) where
-  same-types : types_of (columns_of cs) ≡ types_of before
+module _ (before : List ColumnData) (key : List ℕ) (j : ℕ) (cs : List Unfinished) (rest : List ℕ) (d : Unfinished) (h : IsReading before key j (columns_of_unfinished cs) rest) (within : j < length cs) where
+  same-types : types_of (columns_of_unfinished cs) ≡ types_of before
   same-types = ap types_of h.put ∙ types-with_values h.done before
 
   lt-types : j < length (types_of before)
@@ -127,12 +127,12 @@ module _ (before : List ColumnData) (key : List ℕ) (j : ℕ) (cs : List Unfini
 
   -- what is left of the key begins with a value of the column's type
   pub key-begins : BeginsNoValue (get_or cs j d).field.dtype rest → ⊥
-  key-begins none = reading-begins before key j (columns_of cs) rest (get_or cs j d).field.dtype h lt-types is-type none
+  key-begins none = reading-begins before key j (columns_of_unfinished cs) rest (get_or cs j d).field.dtype h lt-types is-type none
 
   -- that value stands in the column
   pub key-more : (v : AnyValue) (left : List ℕ) (next : List ColumnData) → IsValue (get_or cs j d).field.dtype v → value_code (get_or cs j d).field.dtype v ++ left ≡ rest
-      → next ≡ with_values_at j (v ∷ []) (columns_of cs) → IsReading before key (j + 1) next left
-  key-more v left next value read put = reading-more before key j (columns_of cs) rest (get_or cs j d).field.dtype h lt-types is-type v left next value read put
+      → next ≡ with_values_at j (v ∷ []) (columns_of_unfinished cs) → IsReading before key (j + 1) next left
+  key-more v left next value read put = reading-more before key j (columns_of_unfinished cs) rest (get_or cs j d).field.dtype h lt-types is-type v left next value read put
 
 -- at the end the columns have the key
 pub reading-end : (before : List ColumnData) (key : List ℕ) (j : ℕ) (after : List ColumnData) (rest : List ℕ) → IsReading before key j after rest → length before ≡ j

@@ -16,7 +16,7 @@ use Rattle.pipe_running.specs.GroupStates.{fresh_states}
 use Rattle.pipe_running.proofs.GroupStateFacts.{group-fresh, group-holds}
 use Rattle.pipe_running.proofs.StatesHoldFacts.{fresh-hold, hold-seen}
 use Rattle.pipe_spill.specs.declared.spill_row.SpillRow.{SpillRow}
-use Rattle.pipe_groups.specs.Groups.{AreJoinable, Group, group_of, has_rows, held_at, is_covered, keys_of, new_group, no_group, RowlessAreFresh, with_group, with_held}
+use Rattle.pipe_groups.specs.Groups.{AreJoinable, Group, group_of, has_rows, held_at, is_covered, group_keys, new_group, no_group, RowlessAreFresh, with_group, with_held}
 use Rattle.pipe_groups.specs.Holds.{entries_of, FoundStands, Holds, of_key}
 use Rattle.pipe_groups.proofs.FeedFacts.{few-of_key}
 use Rattle.pipe_groups.proofs.HoldFacts.{held_at-cover}
@@ -26,18 +26,18 @@ use Rattle.pipe_groups.proofs.PutFacts.{held_at-at, held_at-new, later-differs, 
 -- ---- a group is changed
 
 -- a group of the same key in the place of one leaves the keys
-pub keys_of-set : (gs : List Group) (i : ℕ) (u : Group) → u.key ≡ (group_of gs i).key → keys_of (set gs i u) ≡ keys_of gs
+pub keys_of-set : (gs : List Group) (i : ℕ) (u : Group) → u.key ≡ (group_of gs i).key → group_keys (set gs i u) ≡ group_keys gs
 keys_of-set gs i u e = map-set_same (λ (g : Group). g.key) gs i u no_group e
 
 -- what is then held: of its key the new one, if it has rows, and of others what was
-pub held_at-set : (k : List ℕ) (gs : List Group) (i : ℕ) (u : Group) → IsDistinct bytes_eq (keys_of gs) → i < length gs → u.key ≡ (group_of gs i).key
+pub held_at-set : (k : List ℕ) (gs : List Group) (i : ℕ) (u : Group) → IsDistinct bytes_eq (group_keys gs) → i < length gs → u.key ≡ (group_of gs i).key
     → held_at k (set gs i u) ≡ (if bytes_eq k u.key then (if has_rows u then Some u else None) else held_at k gs)
 held_at-set k [] i u d lt e = absurd (omega arith)
 held_at-set k (g ∷ gs) zero u d lt e = by (bytes_eq k u.key) refl where
   by : (b : Bool) → bytes_eq k u.key ≡ b → (if b then (if has_rows u then Some u else None) else held_at k gs) ≡ (if b then (if has_rows u then Some u else None) else held_at k (g ∷ gs))
   by true f = refl
   by false f = let other : bytes_eq k g.key ≡ false = ap (bytes_eq k) (sym e) ∙ f in rw other refl
-held_at-set k (g ∷ gs) (suc i) u d lt e = by (bytes_eq k g.key) refl (held_at-set k gs i u (IsDistinct-tail bytes_eq g.key (keys_of gs) d) (omega arith) e) where
+held_at-set k (g ∷ gs) (suc i) u d lt e = by (bytes_eq k g.key) refl (held_at-set k gs i u (IsDistinct-tail bytes_eq g.key (group_keys gs) d) (omega arith) e) where
   by : (b : Bool) → bytes_eq k g.key ≡ b → held_at k (set gs i u) ≡ (if bytes_eq k u.key then (if has_rows u then Some u else None) else held_at k gs)
       → held_at k (g ∷ set gs i u) ≡ (if bytes_eq k u.key then (if has_rows u then Some u else None) else held_at k (g ∷ gs))
   by true f rest =
@@ -47,7 +47,7 @@ held_at-set k (g ∷ gs) (suc i) u d lt e = by (bytes_eq k g.key) refl (held_at-
   by false f rest = rw f rest
 
 -- a group that is left without rows is held no more
-pub held_at-emptied : (ps : List AggregateFunction) (k : List ℕ) (gs : List Group) (i : ℕ) → IsDistinct bytes_eq (keys_of gs) → i < length gs
+pub held_at-emptied : (ps : List AggregateFunction) (k : List ℕ) (gs : List Group) (i : ℕ) → IsDistinct bytes_eq (group_keys gs) → i < length gs
     → held_at k (set gs i (new_group ps (group_of gs i).key)) ≡ (if bytes_eq k (group_of gs i).key then None else held_at k gs)
 held_at-emptied ps k gs i d lt = held_at-set k gs i (new_group ps (group_of gs i).key) d lt refl
 
@@ -63,8 +63,8 @@ held_at-push k (g ∷ gs) o h = by (bytes_eq k g.key) refl (held_at-push k gs o 
   by false f rest = rw f rest
 
 -- keys stay apart when a new one is pushed
-pub apart-pushed : (gs : List Group) (o : Group) → IsDistinct bytes_eq (keys_of gs) → is_covered o.key gs ≡ false → IsDistinct bytes_eq (keys_of (gs ++ o ∷ []))
-apart-pushed gs o d h = subst (IsDistinct bytes_eq) (sym (map-append (λ (g : Group). g.key) gs (o ∷ []))) (IsDistinct-push nat_list_eq_equiv (keys_of gs) o.key d h)
+pub apart-pushed : (gs : List Group) (o : Group) → IsDistinct bytes_eq (group_keys gs) → is_covered o.key gs ≡ false → IsDistinct bytes_eq (group_keys (gs ++ o ∷ []))
+apart-pushed gs o d h = subst (IsDistinct bytes_eq) (sym (map-append (λ (g : Group). g.key) gs (o ∷ []))) (IsDistinct-push nat_list_eq_equiv (group_keys gs) o.key d h)
 
 -- ---- what was taken
 
@@ -91,7 +91,7 @@ module _ (ps : List AggregateFunction) (gs : List Group) where
         λ i. record { key = sym e i; first = sym f i; states = sym states i }
 
   -- the rows of a group are taken into that of its key
-  pub taken-joined : (taken : List ℕ → Option Group) (now : List Group) (i : ℕ) (o : Group) → IsDistinct bytes_eq (keys_of now) → RowlessAreFresh ps now → i < length now → (group_of now i).key ≡ o.key
+  pub taken-joined : (taken : List ℕ → Option Group) (now : List Group) (i : ℕ) (o : Group) → IsDistinct bytes_eq (group_keys now) → RowlessAreFresh ps now → i < length now → (group_of now i).key ≡ o.key
       → has_rows o ≡ true → taken o.key ≡ None → HoldTaken taken now → HoldTaken (λ k. if bytes_eq k o.key then Some o else taken k) (set now i (with_group o (group_of now i)))
   taken-joined taken now i o apart fresh lt e rows none h = λ k. held_at-set k now i u apart lt refl ∙ by k (bytes_eq k o.key) refl where
     g : Group
@@ -128,7 +128,7 @@ module _ (ps : List AggregateFunction) (gs : List Group) where
   -- ---- one by one
 
   -- a group of others behind those that were taken, which has rows and is joined
-  pub next-joined : (front now : List Group) (i : ℕ) (o : Group) → is_covered o.key front ≡ false → IsDistinct bytes_eq (keys_of now) → RowlessAreFresh ps now → i < length now → (group_of now i).key ≡ o.key
+  pub next-joined : (front now : List Group) (i : ℕ) (o : Group) → is_covered o.key front ≡ false → IsDistinct bytes_eq (group_keys now) → RowlessAreFresh ps now → i < length now → (group_of now i).key ≡ o.key
       → has_rows o ≡ true → HoldTaken (λ k. held_at k front) now → HoldTaken (λ k. held_at k (front ++ o ∷ [])) (set now i (with_group o (group_of now i)))
   next-joined front now i o new apart fresh lt e rows h = λ k.
       taken-joined (λ k. held_at k front) now i o apart fresh lt e rows (held_at-new o.key front new) h k
@@ -144,10 +144,10 @@ module _ (ps : List AggregateFunction) (gs : List Group) where
     by k false f = sym (held_at-push k front o new ∙ rw f refl)
 
 -- where keys are apart no group before one has its key
-pub new-before : (gs : List Group) (j : ℕ) → IsDistinct bytes_eq (keys_of gs) → j < length gs → is_covered (group_of gs j).key (take j gs) ≡ false
+pub new-before : (gs : List Group) (j : ℕ) → IsDistinct bytes_eq (group_keys gs) → j < length gs → is_covered (group_of gs j).key (take j gs) ≡ false
 new-before [] j d lt = absurd (omega arith)
 new-before (g ∷ gs) zero d lt = refl
-new-before (g ∷ gs) (suc j) d lt = rw (later-differs g gs j (group_of gs j).key d (omega arith) refl) (new-before gs j (IsDistinct-tail bytes_eq g.key (keys_of gs) d) (omega arith))
+new-before (g ∷ gs) (suc j) d lt = rw (later-differs g gs j (group_of gs j).key d (omega arith) refl) (new-before gs j (IsDistinct-tail bytes_eq g.key (group_keys gs) d) (omega arith))
 
 -- ---- which groups may be joined
 
@@ -166,7 +166,7 @@ module _ (ps : List AggregateFunction) where
   -- a group that others hold may be joined with that of its key, of which nothing was taken yet, where all rows number fewer than 2^32
   pub taken-joinable : (gs others : List Group) (rows more : List SpillRow) (taken : List ℕ → Option Group) (now : List Group) (i : ℕ) (o : Group)
       → Holds ps gs rows → Holds ps others more → length rows + length more < 2 ^ 32
-      → IsDistinct bytes_eq (keys_of now) → RowlessAreFresh ps now → i < length now → (group_of now i).key ≡ o.key → held_at o.key others ≡ Some o → taken o.key ≡ None → HoldTaken ps gs taken now
+      → IsDistinct bytes_eq (group_keys now) → RowlessAreFresh ps now → i < length now → (group_of now i).key ≡ o.key → held_at o.key others ≡ Some o → taken o.key ≡ None → HoldTaken ps gs taken now
       → AreJoinable (group_of now i).states o.states
   taken-joinable gs others rows more taken now i o h k few apart fresh lt e there none t =
       let g : Group = group_of now i in

@@ -12,7 +12,7 @@ use Rattle.pipe_groups.specs.declared.groups.Entry.{Entry}
 use Rattle.pipe_groups.specs.declared.groups.Groups.TheInside.{Inside}
 use Rattle.pipe_groups.specs.Columns.{states_at}
 use Rattle.pipe_groups.specs.Given.{CanGive}
-use Rattle.pipe_groups.specs.Groups.{Group, group_of, keys_of, Seen}
+use Rattle.pipe_groups.specs.Groups.{Group, group_of, group_keys, Seen}
 use Rattle.pipe_groups.specs.Layout.{IsLaidOut, view_of}
 use Rattle.pipe_groups.specs.Shape.{IsShape}
 use Rattle.pipe_groups.proofs.FrameFacts.{all-mapped, given-long, givens}
@@ -72,5 +72,5 @@ module _ (a : Inside) (t : Seen) (view_is : view_of a ≡ t) (laid : IsLaidOut a
   givens-taken taken = sym (map-map (λ (g : Group). given_all g.states) (group_of t.groups) taken)
 
   -- the keys of some groups
-  pub keys-taken : (taken : List ℕ) → map (λ i. (group_of t.groups i).key) taken ≡ keys_of (map (group_of t.groups) taken)
+  pub keys-taken : (taken : List ℕ) → map (λ i. (group_of t.groups i).key) taken ≡ group_keys (map (group_of t.groups) taken)
   keys-taken taken = sym (map-map (λ (g : Group). g.key) (group_of t.groups) taken)

@@ -11,8 +11,8 @@ use Rattle.pipe_spill.specs.KeyTypes.{IsTuple}
 use Rattle.pipe_groups.specs.declared.unfinished.Unfinished.{Unfinished}
 
 -- a column in the making, as it stands
-abbrev pub column_of : Unfinished → ColumnData
-column_of c = record {
+abbrev pub column_of_unfinished : Unfinished → ColumnData
+column_of_unfinished c = record {
   name = c.field.name;
   dtype = c.field.dtype;
   sorted = false;
@@ -20,8 +20,8 @@ column_of c = record {
 }
 
 -- columns in the making, as they stand
-abbrev pub columns_of : List Unfinished → List ColumnData
-columns_of cs = map column_of cs
+abbrev pub columns_of_unfinished : List Unfinished → List ColumnData
+columns_of_unfinished cs = map column_of_unfinished cs
 
 -- the types of columns
 abbrev pub types_of : List ColumnData → List DataType

@@ -12,7 +12,7 @@ use Rattle.pipe_running.specs.GroupStates.{given_all, SameKinds}
 use Rattle.pipe_running.specs.Stands.{FitTypes, given_types}
 use Rattle.pipe_spill.specs.KeyTypes.{IsTuple}
 use Rattle.pipe_spill.specs.SpillRow.{IsKey}
-use Rattle.pipe_groups.specs.Groups.{Group, held_at, held_groups, keys_of, no_group}
+use Rattle.pipe_groups.specs.Groups.{Group, held_at, held_groups, group_keys, no_group}
 use Rattle.pipe_groups.specs.Shape.{Shape}
 
 -- the order of key bytes
@@ -22,7 +22,7 @@ key_cmp a b = slice_cmp nat_cmp a b
 -- the groups that hold rows, in the order of their keys
 abbrev pub in_order : List Group → List Group
 in_order gs =
-    map (λ k. unwrap_or (held_at k gs) no_group) (sorted_keys key_cmp (keys_of (held_groups gs)))
+    map (λ k. unwrap_or (held_at k gs) no_group) (sorted_keys key_cmp (group_keys (held_groups gs)))
 
 -- a group can give a row: its key is the code of a tuple of the key types, its running aggregates are
 -- of the prototypes' kinds, and what they give fits the types of their columns

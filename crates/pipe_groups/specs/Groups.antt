@@ -36,8 +36,8 @@ abbrev pub new_group : List AggregateFunction → List ℕ → Group
 new_group prototypes key = record { key = key; first = None; states = fresh_states prototypes }
 
 -- a group with one more row
-abbrev pub with_row : Place → List AnyValue → Group → Group
-with_row p inputs g = record {
+abbrev pub group_with_row : Place → List AnyValue → Group → Group
+group_with_row p inputs g = record {
   key = g.key;
   first = Some (nearer place_cmp p g.first);
   states = fed_from p 0 inputs g.states;
@@ -75,12 +75,12 @@ abbrev pub group_of : List Group → ℕ → Group
 group_of gs i = slice_index_or gs i no_group
 
 -- the keys of groups
-abbrev pub keys_of : List Group → List (List ℕ)
-keys_of gs = map (λ g. g.key) gs
+abbrev pub group_keys : List Group → List (List ℕ)
+group_keys gs = map (λ g. g.key) gs
 
 -- whether there is a group of a key, with or without rows
 abbrev pub is_covered : List ℕ → List Group → Bool
-is_covered k gs = list_any (bytes_eq k) (keys_of gs)
+is_covered k gs = list_any (bytes_eq k) (group_keys gs)
 
 -- the group of a key, where it holds a row
 abbrev pub held_at : List ℕ → List Group → Option Group
@@ -115,9 +115,9 @@ all_bytes gs = sum_by (λ g. length g.key) gs
 
 -- groups with one more row of a key
 abbrev pub put : List AggregateFunction → List ℕ → Place → List AnyValue → List Group → List Group
-put prototypes k p inputs [] = with_row p inputs (new_group prototypes k) ∷ []
+put prototypes k p inputs [] = group_with_row p inputs (new_group prototypes k) ∷ []
 put prototypes k p inputs (g ∷ gs) =
-    if bytes_eq k g.key then with_row p inputs g ∷ gs else g ∷ put prototypes k p inputs gs
+    if bytes_eq k g.key then group_with_row p inputs g ∷ gs else g ∷ put prototypes k p inputs gs
 
 -- groups with a group for a key, of no rows where there was none
 abbrev pub cover : List AggregateFunction → List ℕ → List Group → List Group

@@ -15,7 +15,7 @@ use Rattle.pipe_model.specs.Output.{key_types, output_schema}
 use Rattle.pipe_model.specs.Query.{QueryTree}
 use Rattle.pipe_spill.specs.SpillRow.{spilled}
 use Rattle.pipe_groups.specs.Given.{in_order, IsFrameOfGroups}
-use Rattle.pipe_groups.specs.Groups.{Group, keys_of}
+use Rattle.pipe_groups.specs.Groups.{Group, group_keys}
 use Rattle.pipe_groups.specs.Holds.{Holds}
 use Rattle.pipe_groups.specs.Shape.{Shape}
 
@@ -23,7 +23,7 @@ use Rattle.pipe_groups.specs.Shape.{Shape}
 pub record HoldRowsOf (q : QueryTree) (gs : List Group) (rs : List Row) : Type 0 where
   pub groupable : IsGroupable q
   pub typed : All (IsRowOf q) rs
-  pub apart : IsDistinct bytes_eq (keys_of gs)
+  pub apart : IsDistinct bytes_eq (group_keys gs)
   pub holds : Holds (prototypes q) gs (map (spilled (key_types q)) rs)
 
 -- a frame has a row for each group in order, and these are the least places of their rows

@@ -5,7 +5,7 @@ ghost use Rattle.pipe_columns.specs.Place.{place_cmp};
 ghost use Rattle.pipe_inputs.specs.ChunkRows.{row_at};
 ghost use Rattle.pipe_running.specs.GroupStates.{fed_from, StatesSeen, TakesFrom};
 ghost use Rattle.pipe_running.specs.Pick.{nearer};
-ghost use Rattle.pipe_groups.specs.Groups.{group_of, HasGroups, KeepsRoom, with_row};
+ghost use Rattle.pipe_groups.specs.Groups.{group_of, HasGroups, KeepsRoom, group_with_row};
 ghost use Rattle.pipe_groups.specs.Layout.{no_entry, spliced};
 ghost use Rattle.pipe_groups.specs.Texts.{kept_texts};
 
@@ -63,7 +63,7 @@ impl Groups {
         requires few { StatesSeen (2 ^ 32 - 2) (group_of self.old.groups index).states }
         requires taken { TakesFrom 0 (group_of self.old.groups index).states values }
         ensures groups { HasGroups self.old self.new (slice_set self.old.groups index
-            (with_row place values (group_of self.old.groups index))) }
+            (group_with_row place values (group_of self.old.groups index))) }
         ensures room { KeepsRoom self.old self.new }
     {
         let n = self.prototypes.len();
@@ -88,7 +88,7 @@ impl Groups {
             (row_at rows.now row).inputs }
         ensures ok { OnOk result (let r = row_at rows.now row in
             HasGroups self.old self.new (slice_set self.old.groups index
-            (with_row r.place r.inputs (group_of self.old.groups index)))) }
+            (group_with_row r.place r.inputs (group_of self.old.groups index)))) }
         ensures err { OnErr result (HasGroups self.old self.new self.old.groups) }
         ensures room { KeepsRoom self.old self.new }
         ensures plain { kept_texts (row_at rows.now row).place 0 (row_at rows.now row).inputs

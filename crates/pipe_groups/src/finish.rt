@@ -5,7 +5,7 @@ ghost use Rattle.std.specs.List.{IsDistinct};
 ghost use Rattle.std.specs.Str.{bytes_eq};
 ghost use Rattle.pipe_columns.specs.Slice.{sliced};
 ghost use Rattle.pipe_groups.specs.Given.{CanGive, in_order, IsFrameOfGroups, slice_after};
-ghost use Rattle.pipe_groups.specs.Groups.{count_held, group_of, HasGroups, has_rows, held_groups, keys_of};
+ghost use Rattle.pipe_groups.specs.Groups.{count_held, group_of, HasGroups, has_rows, held_groups, group_keys};
 
 use crate::groups::Groups;
 use crate::placed_groups::PlacedGroups;
@@ -19,7 +19,7 @@ impl Groups {
     /// The frame of the groups that hold rows, in the order of their keys, under a slice, of which
     /// less is then left. No group is left. Where memory is wanting, all stays as it was.
     pub fn finalize(&mut self, slice: &mut Option<(usize, usize)>) -> Result<DataFrame, AllocError>
-        requires apart { IsDistinct bytes_eq (keys_of self.old.groups) }
+        requires apart { IsDistinct bytes_eq (group_keys self.old.groups) }
         requires gives { All (CanGive self.old.shape) (held_groups self.old.groups) }
         ensures frame { IfOk result (λ f. IsFrameOfGroups self.old.shape
             (sliced slice.old (in_order self.old.groups)) f) }
@@ -38,7 +38,7 @@ impl Groups {
     /// The frame of all groups that hold rows, in the order of their keys, with the least place of
     /// the rows of each. No group is left. Where memory is wanting, all stays as it was.
     pub fn finalize_placed(&mut self) -> Result<PlacedGroups, AllocError>
-        requires apart { IsDistinct bytes_eq (keys_of self.old.groups) }
+        requires apart { IsDistinct bytes_eq (group_keys self.old.groups) }
         requires gives { All (CanGive self.old.shape) (held_groups self.old.groups) }
         ensures frame { IfOk result (λ p.
             IsFrameOfGroups self.old.shape (in_order self.old.groups) p.frame) }

@@ -6,7 +6,7 @@ ghost use Rattle.pipe_running.specs.GroupStates.{given_all};
 ghost use Rattle.pipe_columns.specs.Frame.{columns_from};
 ghost use Rattle.pipe_groups.specs.Given.{CanGive};
 ghost use Rattle.pipe_groups.specs.Groups.{group_of, HasGroups};
-ghost use Rattle.pipe_groups.specs.Columns.{columns_of, HaveRoom, states_at, with_rows, with_values};
+ghost use Rattle.pipe_groups.specs.Columns.{columns_of_unfinished, HaveRoom, states_at, with_rows, with_values};
 
 use crate::groups::Groups;
 use crate::unfinished::{Unfinished, give_at, opened};
@@ -24,8 +24,8 @@ fn give_group(
     requires fits { length (given_all (take width (drop start states.old)))
         ≡ length columns.old }
     requires room { HaveRoom 1 columns.old }
-    ensures columns { columns_of columns.new
-        ≡ with_values (given_all (take width (drop start states.old))) (columns_of columns.old) }
+    ensures columns { columns_of_unfinished columns.new
+        ≡ with_values (given_all (take width (drop start states.old))) (columns_of_unfinished columns.old) }
     ensures room { (n : ℕ) → HaveRoom (n + 1) columns.old → HaveRoom n columns.new }
     ensures before { take start states.new ≡ take start states.old }
     ensures behind { drop (start + width) states.new ≡ drop (start + width) states.old }
@@ -49,8 +49,8 @@ fn give_groups(
     requires fits { All (λ i. length (given_all (states_at width i states.old))
         ≡ length columns.old) taken.now }
     requires room { HaveRoom (length taken.now) columns.old }
-    ensures { columns_of columns.new ≡ with_rows
-        (map (λ i. given_all (states_at width i states.old)) taken.now) (columns_of columns.old) }
+    ensures { columns_of_unfinished columns.new ≡ with_rows
+        (map (λ i. given_all (states_at width i states.old)) taken.now) (columns_of_unfinished columns.old) }
 {
     for index in taken {
         give_group(states, *index * width, width, columns);
@@ -60,7 +60,7 @@ fn give_groups(
 impl Groups {
     /// Columns for what the running aggregates give, with memory for so many groups.
     pub(crate) fn given_columns(&self, height: usize) -> Result<Vec<Unfinished>, AllocError>
-        ensures columns { IfOk result (λ v. columns_of v.items ≡ columns_from 0
+        ensures columns { IfOk result (λ v. columns_of_unfinished v.items ≡ columns_from 0
             (drop (length self.now.shape.key_types) self.now.shape.fields) []) }
         ensures room { IfOk result (λ v. HaveRoom height v.items) }
     {
@@ -78,9 +78,9 @@ impl Groups {
         requires columns { length columns.old.items
             ≡ length (drop (length self.old.shape.key_types) self.old.shape.fields) }
         requires room { HaveRoom (length taken.now) columns.old.items }
-        ensures columns { columns_of columns.new.items ≡ with_rows
+        ensures columns { columns_of_unfinished columns.new.items ≡ with_rows
             (map (λ i. given_all (group_of self.old.groups i).states) taken.now)
-            (columns_of columns.old.items) }
+            (columns_of_unfinished columns.old.items) }
         ensures emptied { HasGroups self.old self.new [] }
     {
         give_groups(&mut self.states, self.prototypes.len(), taken, columns);

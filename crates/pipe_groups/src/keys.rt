@@ -2,7 +2,7 @@
 
 ghost use Rattle.std.specs.Prelude.{◌≡◌, ◌<◌, ◌≤◌, All, IfOk, length, map, OnOk, take};
 ghost use Rattle.pipe_spill.specs.SpillRow.{IsKey};
-ghost use Rattle.pipe_groups.specs.Columns.{columns_of, HaveKey, HaveKeys, types_of};
+ghost use Rattle.pipe_groups.specs.Columns.{columns_of_unfinished, HaveKey, HaveKeys, types_of};
 ghost use Rattle.pipe_groups.specs.Groups.{group_of};
 
 use crate::groups::Groups;
@@ -12,8 +12,8 @@ use std::alloc::{AllocError, Global};
 
 /// Puts the values of a key below those of the columns.
 fn push_key(alloc: Global, columns: &mut [Unfinished], key: &[u8]) -> Result<(), AllocError>
-    requires { IsKey (types_of (columns_of columns.old)) key.now }
-    ensures { OnOk result (HaveKey (columns_of columns.old) key.now (columns_of columns.new)) }
+    requires { IsKey (types_of (columns_of_unfinished columns.old)) key.now }
+    ensures { OnOk result (HaveKey (columns_of_unfinished columns.old) key.now (columns_of_unfinished columns.new)) }
 {
     let mut rest = key;
     for at in 0..columns.len() {
@@ -37,7 +37,7 @@ impl Groups {
             IsKey self.now.shape.key_types (group_of self.now.groups i).key) taken.now }
         ensures { IfOk result (λ v. HaveKeys self.now.shape.key_types
             (take (length self.now.shape.key_types) self.now.shape.fields)
-            (map (λ i. (group_of self.now.groups i).key) taken.now) (columns_of v.items)) }
+            (map (λ i. (group_of self.now.groups i).key) taken.now) (columns_of_unfinished v.items)) }
     {
         let alloc = *self.entries.allocator();
         let fields = &self.fields.fields()[..self.key_types.len()];

@@ -10,7 +10,7 @@ ghost use Rattle.pipe_running.specs.GroupStates.{StatesHold, TakesFrom};
 ghost use Rattle.pipe_spill.specs.SpillRow.{IsRow};
 ghost use Rattle.pipe_spill.specs.declared.spill_row.SpillRow.{SpillRow};
 ghost use Rattle.pipe_groups.specs.Given.{CanGive, key_cmp};
-ghost use Rattle.pipe_groups.specs.Groups.{AreJoined, count_held, cover, Group, held_at, held_groups, is_held, keys_of, put, RowlessAreFresh};
+ghost use Rattle.pipe_groups.specs.Groups.{AreJoined, count_held, cover, Group, held_at, held_groups, is_held, group_keys, put, RowlessAreFresh};
 ghost use Rattle.pipe_groups.specs.Holds.{HoldFewer, Holds};
 ghost use Rattle.pipe_groups.specs.Shape.{IsShape, Shape};
 
@@ -44,16 +44,16 @@ pub fn what_groups_hold()
 /// there are rows, and take the inputs of one more; and each that holds a row can give its own.
 pub fn what_few_rows_allow()
     ensures counted { (prototypes : List AggregateFunction) (gs : List Group)
-        (rows : List SpillRow) → IsDistinct bytes_eq (keys_of gs) → RowlessAreFresh prototypes gs
+        (rows : List SpillRow) → IsDistinct bytes_eq (group_keys gs) → RowlessAreFresh prototypes gs
         → Holds prototypes gs rows
         → All (λ g. StatesHold (length rows) prototypes g.states) gs }
-    ensures few { (s : Shape) (gs : List Group) (more : ℕ) → IsDistinct bytes_eq (keys_of gs)
+    ensures few { (s : Shape) (gs : List Group) (more : ℕ) → IsDistinct bytes_eq (group_keys gs)
         → RowlessAreFresh s.prototypes gs → HoldFewer s gs more
         → All (λ g. StatesHold (2 ^ 32 - 1 - more) s.prototypes g.states) gs }
     ensures taken { (s : Shape) (n : ℕ) (states : List AggregateFunction) (r : SpillRow)
         → IsShape s → IsRow s.key_types s.input_types r → StatesHold n s.prototypes states
         → TakesFrom 0 states r.values }
-    ensures given { (s : Shape) (gs : List Group) → IsShape s → IsDistinct bytes_eq (keys_of gs)
+    ensures given { (s : Shape) (gs : List Group) → IsShape s → IsDistinct bytes_eq (group_keys gs)
         → HoldFewer s gs 0 → All (CanGive s) (held_groups gs) }
 {}
 
@@ -63,6 +63,6 @@ pub fn which_keys_are_held()
         (rows : List SpillRow) (k : List ℕ) → Holds prototypes gs rows
         → is_held k gs ≡ list_any (λ r. bytes_eq k r.key) rows }
     ensures counted { (prototypes : List AggregateFunction) (gs : List Group)
-        (rows : List SpillRow) → IsDistinct bytes_eq (keys_of gs) → Holds prototypes gs rows
+        (rows : List SpillRow) → IsDistinct bytes_eq (group_keys gs) → Holds prototypes gs rows
         → count_held gs ≡ length (sorted_keys key_cmp (map (λ r. r.key) rows)) }
 {}

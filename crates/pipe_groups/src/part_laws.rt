@@ -18,7 +18,7 @@ ghost use Rattle.pipe_model.specs.Partitions.{groups_in, rows_in};
 ghost use Rattle.pipe_model.specs.Query.{QueryTree};
 ghost use Rattle.pipe_model.specs.Rows.{HaveDistinctPlaces};
 ghost use Rattle.pipe_groups.specs.Given.{in_order, IsFrameOfGroups};
-ghost use Rattle.pipe_groups.specs.Groups.{Group, held_at, keys_of};
+ghost use Rattle.pipe_groups.specs.Groups.{Group, held_at, group_keys};
 ghost use Rattle.pipe_groups.specs.QueryRows.{ArePlaced, ArePlacedRows, HoldRowsOf};
 ghost use Rattle.pipe_groups.specs.Shape.{shape_of};
 
@@ -26,7 +26,7 @@ ghost use Rattle.pipe_groups.specs.Shape.{shape_of};
 /// give: the rows of the answer for its keys.
 pub fn what_a_partition_gives()
     ensures holds { (q : QueryTree) (partitions p : ℕ) (rs : List Row) (gs part : List Group)
-        → HoldRowsOf q gs rs → IsDistinct bytes_eq (keys_of part)
+        → HoldRowsOf q gs rs → IsDistinct bytes_eq (group_keys part)
         → ((k : List ℕ) → held_at k part
         ≡ (if fold_bytes k % partitions == p then held_at k gs else None))
         → HoldRowsOf q part (rows_in partitions q p rs) }

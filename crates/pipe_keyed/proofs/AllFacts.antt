@@ -2,7 +2,7 @@
 use Rattle.std.proofs.Common.{◌≡◌, ◌∙◌, ℕ, ◌+◌, ◌<◌, ◌≤◌, Bool, true, false, List, [], ◌∷◌, length, set, refl, sym, ap, subst, arith, ◌⊎◌, inl, inr, ◌≢◌}
 use Rattle.std.proofs.lemmas.Bool.{cases_eq}
 use Rattle.std.proofs.lemmas.List.{get_or-set_other, get_or-set_same, length-map}
-use Rattle.pipe_groups.specs.Groups.{AreJoined, count_held, Covers, Group, group_of, has_rows, HasGroups, held_bytes, keys_of, new_group, no_group, Seen}
+use Rattle.pipe_groups.specs.Groups.{AreJoined, count_held, Covers, Group, group_of, has_rows, HasGroups, held_bytes, group_keys, new_group, no_group, Seen}
 use Rattle.pipe_keyed.specs.Merges.{IsTakenInto, MayMerge, MayTake}
 use Rattle.pipe_keyed.proofs.MergeFacts.{HasRoom, may-take, merged-joined, Merging, merging-next, merging-start, part, room-next, room-one}
 
@@ -28,7 +28,7 @@ rowless-set gs i j u r lt h = by (cases_eq j i) where
   by (inr ne) = rw (get_or-set_other gs i j u no_group ne) (h ne)
 
 -- the number of groups stays
-pub same-length : (other0 other : Seen) → keys_of other.groups ≡ keys_of other0.groups → length other.groups ≡ length other0.groups
+pub same-length : (other0 other : Seen) → group_keys other.groups ≡ group_keys other0.groups → length other.groups ≡ length other0.groups
 same-length other0 other e = sym (length-map other.groups (λ (g : Group). g.key)) ∙ ap length e ∙ length-map other0.groups (λ (g : Group). g.key)
 
 module _ (own0 other0 : Seen) (may : MayMerge own0 other0) where

@@ -4,7 +4,7 @@ use Rattle.std.specs.List.{IsDistinct}
 use Rattle.std.specs.Str.{bytes_eq}
 use Rattle.pipe_spill.specs.SpillRow.{AreRows}
 use Rattle.pipe_spill.specs.declared.spill_row.SpillRow.{SpillRow}
-use Rattle.pipe_groups.specs.Groups.{AreJoined, Group, keys_of, RowlessAreFresh, Seen}
+use Rattle.pipe_groups.specs.Groups.{AreJoined, Group, group_keys, RowlessAreFresh, Seen}
 use Rattle.pipe_groups.specs.Holds.{Holds}
 use Rattle.pipe_groups.proofs.KeepFacts.{few-joined}
 use Rattle.pipe_keyed.specs.Merges.{MayMerge}
@@ -53,7 +53,7 @@ module _ (t now o other : Table) (h : Combines t now o other) where
 
   -- with some groups joined a table is left
   pub combined-kept : (u : Table) (part : List Group) (more : List SpillRow) → AreJoined t.shape.prototypes t.groups part u.groups → u.shape ≡ t.shape
-      → IsDistinct bytes_eq (keys_of u.groups) → RowlessAreFresh t.shape.prototypes u.groups
+      → IsDistinct bytes_eq (group_keys u.groups) → RowlessAreFresh t.shape.prototypes u.groups
       → Holds t.shape.prototypes part more → AreRows t.shape.key_types t.shape.input_types more → length few.rows + length more < 2 ^ 32 → IsTable u
   combined-kept u part more joined s apart fresh holds typed less = record {
     shape = rw s h.table.shape;

@@ -5,7 +5,7 @@ use Rattle.std.proofs.lemmas.Slice.Eq.{bytes_eq-Decides}
 use Rattle.std.specs.Str.{bytes_eq}
 use Rattle.pipe_chains.specs.Chains.{last_of}
 use Rattle.pipe_chains.proofs.Walks.{left-falls, left_of, OnChain, Walking, walking-end, walking-mark, walking-next, walking-start, walking-within}
-use Rattle.pipe_groups.specs.Groups.{Group, group_of, is_covered, keys_of, no_group}
+use Rattle.pipe_groups.specs.Groups.{Group, group_of, is_covered, group_keys, no_group}
 use Rattle.pipe_columns.specs.declared.data_type.DataType.{DataType}
 use Rattle.pipe_keyed.specs.KeyedLayout.{AreMarked}
 
@@ -21,7 +21,7 @@ not-covered (g ∷ gs) key h = by (bytes_eq key g.key) refl (not-covered gs key 
   by true e rest = absurd (h 0 (omega arith) (sym ((bytes_eq-Decides key g.key).0 e)))
   by false e rest = rest
 
-module _ (Marks : List DataType → List ℕ → ℕ → Type 0) (types : List DataType) (gs : List Group) (marks : List ℕ) (m : AreMarked Marks types (keys_of gs) marks) where
+module _ (Marks : List DataType → List ℕ → ℕ → Type 0) (types : List DataType) (gs : List Group) (marks : List ℕ) (m : AreMarked Marks types (group_keys gs) marks) where
   -- there is a mark for each group
   pub marks-length : length marks ≡ length gs
   marks-length = m.many ∙ length-map gs (λ (g : Group). g.key)
@@ -41,7 +41,7 @@ module _ (gs : List Group) (i : ℕ) (key x : List ℕ) (r : Bool) (is : x ≡ (
   other-key f q = absurd (let t : r ≡ true = e ∙ (bytes_eq-Decides x key).1 (is ∙ q) in cc)
 
 module _ (Marks : List DataType → List ℕ → ℕ → Type 0) (types : List DataType) (gs : List Group) (marks key : List ℕ) (mark : ℕ)
-    (marked : AreMarked Marks types (keys_of gs) marks) where
+    (marked : AreMarked Marks types (group_keys gs) marks) where
   pub find-start : (at : Option ℕ) → at ≡ last_of mark marks → OnChain (IsOther gs key) mark marks at
   find-start at e = record { below = length marks; walk = walking-start (IsOther gs key) mark marks at e }
 

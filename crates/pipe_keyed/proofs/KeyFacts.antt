@@ -3,7 +3,7 @@ use Rattle.std.proofs.Common.{◌≡◌, ◌∙◌, ℕ, zero, suc, ◌<◌, ◌
 use Rattle.std.proofs.lemmas.List.{get_or_append_left, get_or_push, length_push, map-append}
 use Rattle.std.proofs.lemmas.Bool.{cases_lt}
 use Rattle.pipe_columns.specs.declared.data_type.DataType.{DataType}
-use Rattle.pipe_groups.specs.Groups.{Group, group_of, keys_of}
+use Rattle.pipe_groups.specs.Groups.{Group, group_of, group_keys}
 use Rattle.pipe_groups.specs.Shape.{Shape}
 use Rattle.pipe_keyed.specs.KeyedLayout.{AreMarked}
 
@@ -13,26 +13,26 @@ either-end (Ok x) p q f g = f p
 either-end (Err e) p q f g = g q
 
 -- a group in place of another of its key
-pub keys-set : (gs : List Group) (i : ℕ) (g : Group) → g.key ≡ (group_of gs i).key → keys_of (set gs i g) ≡ keys_of gs
+pub keys-set : (gs : List Group) (i : ℕ) (g : Group) → g.key ≡ (group_of gs i).key → group_keys (set gs i g) ≡ group_keys gs
 keys-set [] i g e = refl
-keys-set (x ∷ xs) zero g e = ap (λ (k : List ℕ). k ∷ keys_of xs) e
+keys-set (x ∷ xs) zero g e = ap (λ (k : List ℕ). k ∷ group_keys xs) e
 keys-set (x ∷ xs) (suc i) g e = ap (λ (ks : List (List ℕ)). x.key ∷ ks) (keys-set xs i g e)
 
 module _ (Marks : List DataType → List ℕ → ℕ → Type 0) where
   -- groups of the same keys have the same marks
-  pub marked-keys : (old new : Shape) (gs now : List Group) (marks : List ℕ) → keys_of now ≡ keys_of gs → new ≡ old → AreMarked Marks old.key_types (keys_of gs) marks → AreMarked Marks new.key_types (keys_of now) marks
+  pub marked-keys : (old new : Shape) (gs now : List Group) (marks : List ℕ) → group_keys now ≡ group_keys gs → new ≡ old → AreMarked Marks old.key_types (group_keys gs) marks → AreMarked Marks new.key_types (group_keys now) marks
   marked-keys old new gs now marks same shape h =
-      subst (λ (s : Shape). AreMarked Marks s.key_types (keys_of now) marks) (sym shape)
+      subst (λ (s : Shape). AreMarked Marks s.key_types (group_keys now) marks) (sym shape)
       (subst (λ (ks : List (List ℕ)). AreMarked Marks old.key_types ks marks) (sym same) h)
 
   -- a group in place of another leaves the marks
   pub marked-set : (old new : Shape) (gs now : List Group) (marks : List ℕ) (i : ℕ) (g : Group) → (now ≡ set gs i g) × (new ≡ old) → g.key ≡ (group_of gs i).key
-      → AreMarked Marks old.key_types (keys_of gs) marks → AreMarked Marks new.key_types (keys_of now) marks
-  marked-set old new gs now marks i g is same h = marked-keys old new gs now marks (ap keys_of is.0 ∙ keys-set gs i g same) is.1 h
+      → AreMarked Marks old.key_types (group_keys gs) marks → AreMarked Marks new.key_types (group_keys now) marks
+  marked-set old new gs now marks i g is same h = marked-keys old new gs now marks (ap group_keys is.0 ∙ keys-set gs i g same) is.1 h
 
   -- the same groups have the same marks
-  pub marked-same : (old new : Shape) (gs now : List Group) (marks : List ℕ) → (now ≡ gs) × (new ≡ old) → AreMarked Marks old.key_types (keys_of gs) marks → AreMarked Marks new.key_types (keys_of now) marks
-  marked-same old new gs now marks is h = marked-keys old new gs now marks (ap keys_of is.0) is.1 h
+  pub marked-same : (old new : Shape) (gs now : List Group) (marks : List ℕ) → (now ≡ gs) × (new ≡ old) → AreMarked Marks old.key_types (group_keys gs) marks → AreMarked Marks new.key_types (group_keys now) marks
+  marked-same old new gs now marks is h = marked-keys old new gs now marks (ap group_keys is.0) is.1 h
 
   -- a key behind others has its mark behind theirs
   marked-behind : (types : List DataType) (keys : List (List ℕ)) (key : List ℕ) (marks : List ℕ) (mark : ℕ) → AreMarked Marks types keys marks → Marks types key mark
@@ -47,11 +47,11 @@ module _ (Marks : List DataType → List ℕ → ℕ → Type 0) where
         let last : length keys ≡ i = omega (arith, within, ge, length_push keys key) in
         rw (get_or_push keys key [] i last, get_or_push marks mark 0 i (h.many ∙ last)) own
 
-  pub marked-push : (old new : Shape) (gs now : List Group) (g : Group) (marks more : List ℕ) (mark : ℕ) → AreMarked Marks old.key_types (keys_of gs) marks → Marks old.key_types g.key mark
-      → (now ≡ gs ++ g ∷ []) × (new ≡ old) → more ≡ marks ++ mark ∷ [] → AreMarked Marks new.key_types (keys_of now) more
+  pub marked-push : (old new : Shape) (gs now : List Group) (g : Group) (marks more : List ℕ) (mark : ℕ) → AreMarked Marks old.key_types (group_keys gs) marks → Marks old.key_types g.key mark
+      → (now ≡ gs ++ g ∷ []) × (new ≡ old) → more ≡ marks ++ mark ∷ [] → AreMarked Marks new.key_types (group_keys now) more
   marked-push old new gs now g marks more mark h own is longer =
-      rw (longer, is.0, is.1, map-append (λ (x : Group). x.key) gs (g ∷ [])) (marked-behind old.key_types (keys_of gs) g.key marks mark h own)
+      rw (longer, is.0, is.1, map-append (λ (x : Group). x.key) gs (g ∷ [])) (marked-behind old.key_types (group_keys gs) g.key marks mark h own)
 
   -- no groups have no marks
-  pub marked-none : (s : Shape) (now : List Group) (marks : List ℕ) → now ≡ [] → marks ≡ [] → AreMarked Marks s.key_types (keys_of now) marks
+  pub marked-none : (s : Shape) (now : List Group) (marks : List ℕ) → now ≡ [] → marks ≡ [] → AreMarked Marks s.key_types (group_keys now) marks
   marked-none s now marks none empty = rw (none, empty) (record { many = refl; each = λ i l. absurd (omega arith) })

@@ -10,7 +10,7 @@ use Rattle.pipe_columns.specs.Place.{place_cmp}
 use Rattle.pipe_running.specs.Pick.{nearest}
 use Rattle.pipe_running.specs.declared.function.AggregateFunction.{AggregateFunction}
 use Rattle.pipe_running.specs.GroupStates.{fresh_states}
-use Rattle.pipe_groups.specs.Groups.{AreJoined, count_held, cover, Covers, Group, group_of, has_rows, HasGroups, held_at, held_bytes, keys_of, new_group, RowlessAreFresh, Seen, with_group, with_held}
+use Rattle.pipe_groups.specs.Groups.{AreJoined, count_held, cover, Covers, Group, group_of, has_rows, HasGroups, held_at, held_bytes, group_keys, new_group, RowlessAreFresh, Seen, with_group, with_held}
 use Rattle.pipe_groups.proofs.HoldFacts.{held_at-covered, held_at-passing}
 use Rattle.pipe_groups.proofs.KeepFacts.{apart-cover}
 use Rattle.pipe_groups.proofs.PutFacts.{held_at-at}
@@ -30,10 +30,10 @@ pub record Merging (test : List ℕ → Bool) (own0 other0 own other : Seen) : T
   pub from : (k : List ℕ) → is_some (taken k) ≡ true → taken k ≡ held_at k other0.groups
   pub inside : (k : List ℕ) → is_some (taken k) ≡ true → test k ≡ true
   pub shape : own.shape ≡ own0.shape
-  pub apart : IsDistinct bytes_eq (keys_of own.groups)
+  pub apart : IsDistinct bytes_eq (group_keys own.groups)
   pub fresh : RowlessAreFresh own0.shape.prototypes own.groups
   pub other_shape : other.shape ≡ own0.shape
-  pub keys : keys_of other.groups ≡ keys_of other0.groups
+  pub keys : group_keys other.groups ≡ group_keys other0.groups
   pub other_fresh : RowlessAreFresh own0.shape.prototypes other.groups
 
 -- a group that another with rows is joined with has rows
@@ -72,7 +72,7 @@ module _ (test : List ℕ → Bool) (own0 other0 : Seen) (may : MayMerge own0 ot
   }
 
   module _ (own other : Seen) (m : Merging test own0 other0 own other) where
-    other-apart : IsDistinct bytes_eq (keys_of other.groups)
+    other-apart : IsDistinct bytes_eq (group_keys other.groups)
     other-apart = rw m.keys may.other_apart
 
     module _ (i : ℕ) (lt : i < length other.groups) (rows : has_rows (group_of other.groups i) ≡ true) where
@@ -151,7 +151,7 @@ module _ (test : List ℕ → Bool) (own0 other0 : Seen) (may : MayMerge own0 ot
               (All-set (λ (g : Group). has_rows g ≡ false → g.states ≡ fresh_states ps) covered into-same.index now
               (λ h. absurd (let q = joined-rows (group_of covered into-same.index) o rows in cc)) (fresh-covered ps o.key own.groups m.fresh));
           other_shape = left.1 ∙ m.other_shape;
-          keys = ap keys_of left-same ∙ keys_of-set other.groups i (new_group ps o.key) refl ∙ m.keys;
+          keys = ap group_keys left-same ∙ keys_of-set other.groups i (new_group ps o.key) refl ∙ m.keys;
           other_fresh = rw left-same (All-set (λ (g : Group). has_rows g ≡ false → g.states ≡ fresh_states ps) other.groups i (new_group ps o.key) (λ h. refl) m.other_fresh);
         }
 

@@ -6,7 +6,7 @@ use Rattle.pipe_columns.specs.declared.place.Place.{Place}
 use Rattle.pipe_running.specs.declared.function.AggregateFunction.{AggregateFunction}
 use Rattle.pipe_running.specs.GroupStates.{fresh_states, StatesSeen, TakesFrom}
 use Rattle.pipe_running.proofs.StatesHoldFacts.{fresh-hold, hold-seen}
-use Rattle.pipe_groups.specs.Groups.{Group, group_of, new_group, no_group, with_row}
+use Rattle.pipe_groups.specs.Groups.{Group, group_of, new_group, no_group, group_with_row}
 
 module _ (ps : List AggregateFunction) (key : List ℕ) (gs pushed : List Group) (i : ℕ) (is : pushed ≡ gs ++ new_group ps key ∷ []) (last : i ≡ length gs) where
   pub last-is : group_of pushed i ≡ new_group ps key
@@ -24,5 +24,5 @@ module _ (ps : List AggregateFunction) (key : List ℕ) (gs pushed : List Group)
   set-last (z ∷ zs) x y = ap (λ (l : List Group). z ∷ l) (set-last zs x y)
 
   -- with the row it stands behind the others
-  pub last-fed : (p : Place) (inputs : List AnyValue) (new : List Group) → new ≡ set pushed i (with_row p inputs (group_of pushed i)) → new ≡ gs ++ with_row p inputs (new_group ps key) ∷ []
-  last-fed p inputs new e = e ∙ rw (last-is, is, last) (set-last gs (new_group ps key) (with_row p inputs (new_group ps key)))
+  pub last-fed : (p : Place) (inputs : List AnyValue) (new : List Group) → new ≡ set pushed i (group_with_row p inputs (group_of pushed i)) → new ≡ gs ++ group_with_row p inputs (new_group ps key) ∷ []
+  last-fed p inputs new e = e ∙ rw (last-is, is, last) (set-last gs (new_group ps key) (group_with_row p inputs (new_group ps key)))

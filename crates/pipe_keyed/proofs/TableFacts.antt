@@ -12,7 +12,7 @@ use Rattle.pipe_running.specs.declared.function.AggregateFunction.{AggregateFunc
 use Rattle.pipe_running.specs.GroupStates.{fresh_states}
 use Rattle.pipe_spill.specs.SpillRow.{IsRow}
 use Rattle.pipe_spill.specs.declared.spill_row.SpillRow.{SpillRow}
-use Rattle.pipe_groups.specs.Groups.{cover, Group, has_rows, is_covered, keys_of, new_group, put, RowlessAreFresh, with_row}
+use Rattle.pipe_groups.specs.Groups.{cover, Group, has_rows, is_covered, group_keys, new_group, put, RowlessAreFresh, group_with_row}
 use Rattle.pipe_groups.specs.Holds.{HoldFewer}
 use Rattle.pipe_groups.specs.Shape.{IsShape, Shape}
 use Rattle.pipe_groups.proofs.HoldFacts.{holds-covered, holds-none, holds-row}
@@ -28,14 +28,14 @@ module _ (ps : List AggregateFunction) where
   -- ---- room for a key
 
   -- a key behind others that don't have it leaves them apart
-  pub apart-pushed : (gs : List Group) (g : Group) → IsDistinct bytes_eq (keys_of gs) → is_covered g.key gs ≡ false → IsDistinct bytes_eq (keys_of (gs ++ g ∷ []))
+  pub apart-pushed : (gs : List Group) (g : Group) → IsDistinct bytes_eq (group_keys gs) → is_covered g.key gs ≡ false → IsDistinct bytes_eq (group_keys (gs ++ g ∷ []))
   apart-pushed gs g apart absent =
-      rw (map-append (λ (x : Group). x.key) gs (g ∷ [])) (IsDistinct-push nat_list_eq_equiv (keys_of gs) g.key apart absent)
+      rw (map-append (λ (x : Group). x.key) gs (g ∷ [])) (IsDistinct-push nat_list_eq_equiv (group_keys gs) g.key apart absent)
 
   module _ (k : List ℕ) where
-    apart-covered : (gs : List Group) → IsDistinct bytes_eq (keys_of gs) → IsDistinct bytes_eq (keys_of (cover ps k gs))
+    apart-covered : (gs : List Group) → IsDistinct bytes_eq (group_keys gs) → IsDistinct bytes_eq (group_keys (cover ps k gs))
     apart-covered gs apart = by (is_covered k gs) refl where
-      by : (b : Bool) → is_covered k gs ≡ b → IsDistinct bytes_eq (keys_of (cover ps k gs))
+      by : (b : Bool) → is_covered k gs ≡ b → IsDistinct bytes_eq (group_keys (cover ps k gs))
       by true e = rw (cover-there k ps gs e) apart
       by false e = rw (cover-new k ps gs e) (apart-pushed gs (new_group ps k) apart e)
 
@@ -48,25 +48,25 @@ module _ (ps : List AggregateFunction) where
   -- ---- a row more
 
   module _ (k : List ℕ) (p : Place) (inputs : List AnyValue) where
-    keys-there : (gs : List Group) → is_covered k gs ≡ true → keys_of (put ps k p inputs gs) ≡ keys_of gs
+    keys-there : (gs : List Group) → is_covered k gs ≡ true → group_keys (put ps k p inputs gs) ≡ group_keys gs
     keys-there [] h = cc
     keys-there (g ∷ gs) h = by (bytes_eq k g.key) refl h (keys-there gs) where
-      by : (b : Bool) → bytes_eq k g.key ≡ b → (b || is_covered k gs) ≡ true → (is_covered k gs ≡ true → keys_of (put ps k p inputs gs) ≡ keys_of gs)
-          → keys_of (put ps k p inputs (g ∷ gs)) ≡ keys_of (g ∷ gs)
+      by : (b : Bool) → bytes_eq k g.key ≡ b → (b || is_covered k gs) ≡ true → (is_covered k gs ≡ true → group_keys (put ps k p inputs gs) ≡ group_keys gs)
+          → group_keys (put ps k p inputs (g ∷ gs)) ≡ group_keys (g ∷ gs)
       by true e h rest = rw e refl
       by false e h rest = rw e (ap (λ (ks : List (List ℕ)). g.key ∷ ks) (rest h))
 
-    apart-put : (gs : List Group) → IsDistinct bytes_eq (keys_of gs) → IsDistinct bytes_eq (keys_of (put ps k p inputs gs))
+    apart-put : (gs : List Group) → IsDistinct bytes_eq (group_keys gs) → IsDistinct bytes_eq (group_keys (put ps k p inputs gs))
     apart-put gs apart = by (is_covered k gs) refl where
-      by : (b : Bool) → is_covered k gs ≡ b → IsDistinct bytes_eq (keys_of (put ps k p inputs gs))
+      by : (b : Bool) → is_covered k gs ≡ b → IsDistinct bytes_eq (group_keys (put ps k p inputs gs))
       by true e = rw (keys-there gs e) apart
-      by false e = rw (put-new k ps p inputs gs e) (apart-pushed gs (with_row p inputs (new_group ps k)) apart e)
+      by false e = rw (put-new k ps p inputs gs e) (apart-pushed gs (group_with_row p inputs (new_group ps k)) apart e)
 
     fresh-put : (gs : List Group) → RowlessAreFresh ps gs → RowlessAreFresh ps (put ps k p inputs gs)
-    fresh-put [] fresh = All-push IsFresh [] (with_row p inputs (new_group ps k)) fresh (λ h. absurd (cc))
+    fresh-put [] fresh = All-push IsFresh [] (group_with_row p inputs (new_group ps k)) fresh (λ h. absurd (cc))
     fresh-put (g ∷ gs) fresh = by (bytes_eq k g.key) refl (fresh-put gs (All-tail IsFresh g gs fresh)) where
       by : (b : Bool) → bytes_eq k g.key ≡ b → RowlessAreFresh ps (put ps k p inputs gs) → RowlessAreFresh ps (put ps k p inputs (g ∷ gs))
-      by true e rest = rw e (All-cons IsFresh (with_row p inputs g) gs (λ h. absurd (cc)) (All-tail IsFresh g gs fresh))
+      by true e rest = rw e (All-cons IsFresh (group_with_row p inputs g) gs (λ h. absurd (cc)) (All-tail IsFresh g gs fresh))
       by false e rest = rw e (All-cons IsFresh g (put ps k p inputs gs) (All-head IsFresh g gs fresh) rest)
 
 -- ---- tables

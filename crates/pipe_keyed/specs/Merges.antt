@@ -4,7 +4,7 @@ use Rattle.std.specs.List.{IsDistinct}
 use Rattle.std.specs.Str.{bytes_eq}
 use Rattle.pipe_running.specs.declared.function.AggregateFunction.{AggregateFunction}
 use Rattle.pipe_spill.specs.declared.spill_row.SpillRow.{SpillRow}
-use Rattle.pipe_groups.specs.Groups.{AreJoinable, cover, Group, group_of, keys_of, RowlessAreFresh, Seen, with_group}
+use Rattle.pipe_groups.specs.Groups.{AreJoinable, cover, Group, group_of, group_keys, RowlessAreFresh, Seen, with_group}
 use Rattle.pipe_groups.specs.Holds.{Holds}
 use Rattle.pipe_keyed.specs.Keyed.{IsAt}
 
@@ -24,9 +24,9 @@ pub record IsTakenInto (prototypes : List AggregateFunction) (gs : List Group) (
 -- groups of one shape, with keys apart, that hold rows which together number fewer than 2^32
 pub record MayMerge (own other : Seen) : Type 0 where
   pub shape : other.shape ≡ own.shape
-  pub apart : IsDistinct bytes_eq (keys_of own.groups)
+  pub apart : IsDistinct bytes_eq (group_keys own.groups)
   pub fresh : RowlessAreFresh own.shape.prototypes own.groups
-  pub other_apart : IsDistinct bytes_eq (keys_of other.groups)
+  pub other_apart : IsDistinct bytes_eq (group_keys other.groups)
   pub other_fresh : RowlessAreFresh own.shape.prototypes other.groups
   pub rows : List SpillRow
   pub others : List SpillRow

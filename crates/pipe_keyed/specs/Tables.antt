@@ -4,7 +4,7 @@ use Rattle.std.specs.List.{IsDistinct}
 use Rattle.std.specs.Str.{bytes_eq}
 use Rattle.pipe_spill.specs.SpillRow.{AreRows}
 use Rattle.pipe_spill.specs.declared.spill_row.SpillRow.{SpillRow}
-use Rattle.pipe_groups.specs.Groups.{Group, keys_of, put, RowlessAreFresh}
+use Rattle.pipe_groups.specs.Groups.{Group, group_keys, put, RowlessAreFresh}
 use Rattle.pipe_groups.specs.Holds.{HoldFewer, Holds}
 use Rattle.pipe_groups.specs.Shape.{IsShape, Shape}
 
@@ -18,7 +18,7 @@ pub record Table : Type 0 where
 -- fewer than 2^32 rows of the shape
 pub record IsTable (t : Table) : Type 0 where
   pub shape : IsShape t.shape
-  pub apart : IsDistinct bytes_eq (keys_of t.groups)
+  pub apart : IsDistinct bytes_eq (group_keys t.groups)
   pub fresh : RowlessAreFresh t.shape.prototypes t.groups
   pub rows : HoldFewer t.shape t.groups 0
 

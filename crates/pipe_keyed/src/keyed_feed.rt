@@ -5,7 +5,7 @@ ghost use Rattle.pipe_inputs.specs.ChunkRows.{row_at};
 ghost use Rattle.pipe_inputs.specs.RowRuns.{run_inputs};
 ghost use Rattle.pipe_running.specs.GroupStates.{fresh_states, StatesSeen, TakesFrom};
 ghost use Rattle.pipe_groups.specs.GroupRuns.{KeepNoneFrom, with_run};
-ghost use Rattle.pipe_groups.specs.Groups.{group_of, HasGroups, new_group, with_row};
+ghost use Rattle.pipe_groups.specs.Groups.{group_of, HasGroups, new_group, group_with_row};
 
 use crate::keyed_groups::KeyedGroups;
 use crate::marking::Marking;
@@ -22,7 +22,7 @@ impl<M: Marking> KeyedGroups<M> {
         requires few { StatesSeen (2 ^ 32 - 2) (group_of self.old.groups index).states }
         requires taken { TakesFrom 0 (group_of self.old.groups index).states values }
         ensures groups { HasGroups self.old self.new (slice_set self.old.groups index
-            (with_row place values (group_of self.old.groups index))) }
+            (group_with_row place values (group_of self.old.groups index))) }
     {
         self.groups.feed(index, place, values);
     }
@@ -42,7 +42,7 @@ impl<M: Marking> KeyedGroups<M> {
         requires taken { TakesFrom 0 (group_of self.old.groups index).states
             (row_at rows.now row).inputs }
         ensures ok { OnOk result (HasGroups self.old self.new (slice_set self.old.groups index
-            (with_row (row_at rows.now row).place (row_at rows.now row).inputs
+            (group_with_row (row_at rows.now row).place (row_at rows.now row).inputs
             (group_of self.old.groups index)))) }
         ensures err { OnErr result (HasGroups self.old self.new self.old.groups) }
     {
@@ -64,7 +64,7 @@ impl<M: Marking> KeyedGroups<M> {
         requires taken { TakesFrom 0 (fresh_states self.old.shape.prototypes)
             (row_at rows.now row).inputs }
         ensures ok { OnOk result (HasGroups self.old self.new (self.old.groups
-            ++ with_row (row_at rows.now row).place (row_at rows.now row).inputs
+            ++ group_with_row (row_at rows.now row).place (row_at rows.now row).inputs
             (new_group self.old.shape.prototypes key.now) ∷ [])) }
         ensures err { OnErr result (HasGroups self.old self.new self.old.groups) }
     {

@@ -6,7 +6,7 @@ ghost use Rattle.std.specs.Str.{bytes_eq};
 ghost use Rattle.pipe_columns.specs.Slice.{sliced};
 ghost use Rattle.pipe_groups.specs.Given.{CanGive, in_order, IsFrameOfGroups, slice_after};
 ghost use Rattle.pipe_groups.specs.QueryRows.{ArePlaced};
-ghost use Rattle.pipe_groups.specs.Groups.{count_held, HasGroups, held_groups, keys_of};
+ghost use Rattle.pipe_groups.specs.Groups.{count_held, HasGroups, held_groups, group_keys};
 
 use crate::keyed_groups::KeyedGroups;
 use crate::marking::Marking;
@@ -17,7 +17,7 @@ use std::alloc::AllocError;
 impl<M: Marking> KeyedGroups<M> {
     /// The frame of the groups that hold rows, in the order of their keys, under a slice.
     pub fn finalize(&mut self, slice: &mut Option<(usize, usize)>) -> Result<DataFrame, AllocError>
-        requires apart { IsDistinct bytes_eq (keys_of self.old.groups) }
+        requires apart { IsDistinct bytes_eq (group_keys self.old.groups) }
         requires gives { All (CanGive self.old.shape) (held_groups self.old.groups) }
         ensures frame { IfOk result (λ f. IsFrameOfGroups self.old.shape
             (sliced slice.old (in_order self.old.groups)) f) }
@@ -34,7 +34,7 @@ impl<M: Marking> KeyedGroups<M> {
 
     /// The frame of all groups that hold rows, in the order of their keys, with their first places.
     pub fn finalize_placed(&mut self) -> Result<PlacedGroups, AllocError>
-        requires apart { IsDistinct bytes_eq (keys_of self.old.groups) }
+        requires apart { IsDistinct bytes_eq (group_keys self.old.groups) }
         requires gives { All (CanGive self.old.shape) (held_groups self.old.groups) }
         ensures placed { IfOk result (λ p.
             ArePlaced self.old.shape self.old.groups p.frame p.firsts) }

@@ -24,14 +24,14 @@ pub struct KeyedGroups<M: Marking> {
 }
 
 impl<M: Marking> Model for KeyedGroups<M> {
-    ghost use Rattle.pipe_groups.specs.Groups.{keys_of, Seen};
+    ghost use Rattle.pipe_groups.specs.Groups.{group_keys, Seen};
     ghost use Rattle.pipe_keyed.specs.KeyedLayout.{AreMarked, with_room};
 
     ghost Value = { Seen };
 
     ghost view = { λ a. with_room a.chains.room a.groups };
 
-    ghost invariant = { λ a. AreMarked M.marks a.groups.shape.key_types (keys_of a.groups.groups)
+    ghost invariant = { λ a. AreMarked M.marks a.groups.shape.key_types (group_keys a.groups.groups)
         a.chains.marks };
 }
 

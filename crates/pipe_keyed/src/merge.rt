@@ -3,7 +3,7 @@
 ghost use Rattle.std.specs.Prelude.{◌≡◌};
 ghost use Rattle.std.specs.List.{IsDistinct};
 ghost use Rattle.std.specs.Str.{bytes_eq};
-ghost use Rattle.pipe_groups.specs.Groups.{AreJoined, count_held, Covers, held_bytes, keys_of, RowlessAreFresh};
+ghost use Rattle.pipe_groups.specs.Groups.{AreJoined, count_held, Covers, held_bytes, group_keys, RowlessAreFresh};
 ghost use Rattle.pipe_keyed.specs.Merges.{MayMerge};
 
 use crate::keyed_groups::KeyedGroups;
@@ -16,7 +16,7 @@ pub fn take_all<M: Marking>(own: &mut KeyedGroups<M>, other: &mut KeyedGroups<M>
     ensures joined { AreJoined own.old.shape.prototypes own.old.groups other.old.groups
         own.new.groups }
     ensures shape { own.new.shape ≡ own.old.shape }
-    ensures apart { IsDistinct bytes_eq (keys_of own.new.groups) }
+    ensures apart { IsDistinct bytes_eq (group_keys own.new.groups) }
     ensures fresh { RowlessAreFresh own.old.shape.prototypes own.new.groups }
     ensures other_shape { other.new.shape ≡ other.old.shape }
 {

@@ -57,8 +57,8 @@ three_parts (a ∷ b ∷ c ∷ []) = Some (a, b, c)
 three_parts (a ∷ b ∷ c ∷ d ∷ more) = None
 
 -- a text, as a column's name
-abbrev pub column_of : Data → Option Expr
-column_of d = option_map expr.column (as_str d)
+abbrev pub json_column : Data → Option Expr
+json_column d = option_map expr.column (as_str d)
 
 -- a type and a value
 abbrev pub literal_of : Option (Data × Data) → Option Expr
@@ -124,7 +124,7 @@ over_expr over.Sort e = expr.sort e
 -- the expression that a member of a form is: its value is given, with the expression that the value
 -- is, if it is one, and the parts of a list
 abbrev pub formed : Form → Data → Option Expr → List Part → Option Expr
-formed form.Col d e parts = column_of d
+formed form.Col d e parts = json_column d
 formed form.Lit d e parts = literal_of (pair_of d)
 formed form.Cast d e parts = cast_of (two_parts parts)
 formed form.Op d e parts = binary_of (three_parts parts)

@@ -9,8 +9,8 @@ use Rattle.pipe_query.specs.ExprJson.{exprs_of, type_of_name}
 use Rattle.pipe_query.specs.JsonShapes.{has_members, pair_of}
 
 -- a pair of a name and a type's name
-abbrev pub field_of : Data → Option Field
-field_of d =
+abbrev pub json_field : Data → Option Field
+json_field d =
     option_and_then (λ p.
     option_and_then (λ name.
     option_map (λ dtype. record { name = name; dtype = dtype }) (type_of_name p.1))
@@ -18,9 +18,9 @@ field_of d =
     (pair_of d)
 
 -- the fields that a list's items are
-abbrev pub fields_of : Items → Option (List Field)
-fields_of no_items = Some []
-fields_of (item d ds) = option_and_then (λ f. option_map (λ fs. f ∷ fs) (fields_of ds)) (field_of d)
+abbrev pub json_fields : Items → Option (List Field)
+json_fields no_items = Some []
+json_fields (item d ds) = option_and_then (λ f. option_map (λ fs. f ∷ fs) (json_fields ds)) (json_field d)
 
 -- at least one field
 abbrev pub some_fields : List Field → Option (List Field)
@@ -29,11 +29,11 @@ some_fields fields = if length fields == 0 then None else Some fields
 -- a list of at least one field
 abbrev pub schema_of : Option Data → Option (List Field)
 schema_of member =
-    option_and_then some_fields (option_and_then fields_of (option_and_then as_array member))
+    option_and_then some_fields (option_and_then json_fields (option_and_then as_array member))
 
 -- a list of expressions
-abbrev pub list_of : Option Data → Option (List Expr)
-list_of member = option_and_then exprs_of (option_and_then as_array member)
+abbrev pub json_exprs : Option Data → Option (List Expr)
+json_exprs member = option_and_then exprs_of (option_and_then as_array member)
 
 -- an offset, which may be negative, and a length
 abbrev pub bounds_of : Data → Option (ℤ × ℕ)
@@ -82,7 +82,7 @@ query_of d =
     })
     (order_of (get (codes "maintain_order") d)))
     (slice_of (get (codes "slice") d)))
-    (list_of (get (codes "aggs") d)))
-    (list_of (get (codes "keys") d)))
+    (json_exprs (get (codes "aggs") d)))
+    (json_exprs (get (codes "keys") d)))
     (schema_of (get (codes "schema") d))
     else None

@@ -3,7 +3,7 @@
 ghost use Rattle.std.specs.Prelude.{◌≡◌, ◌++◌, ◌∷◌, [], true, length, IfOk, OnOk, option_map};
 ghost use Rattle.serde_json.specs.View.{view};
 ghost use Rattle.pipe_exprs.specs.Trees.{children_below};
-ghost use Rattle.pipe_query.specs.ExprJson.{column_of, length_of, literal_of, operator_of, type_of_name, value_of};
+ghost use Rattle.pipe_query.specs.ExprJson.{json_column, length_of, literal_of, operator_of, type_of_name, value_of};
 ghost use Rattle.pipe_query.specs.Added.{IsAdded};
 ghost use Rattle.pipe_query.specs.Flat.{node};
 ghost use Rattle.pipe_query.specs.JsonShapes.{pair_of};
@@ -61,7 +61,7 @@ pub fn add_column(
     arena: &mut Arena,
     json: &Value,
 ) -> Result<Option<Node>, AllocError>
-    ensures { IfOk result (IsAdded (column_of (view json.now)) arena.old arena.new) }
+    ensures { IfOk result (IsAdded (json_column (view json.now)) arena.old arena.new) }
 {
     let Some(name) = json.as_str() else {
         return Ok(None);

@@ -19,7 +19,7 @@ use Rattle.pipe_model.specs.Output.{key_types, output_schema}
 use Rattle.pipe_model.specs.Partitions.{groups_in, rows_in}
 use Rattle.pipe_model.specs.Query.{QueryTree}
 use Rattle.pipe_model.specs.Groupable.{IsGroupable}
-use Rattle.pipe_model.specs.Rows.{HaveDistinctPlaces, keys_of}
+use Rattle.pipe_model.specs.Rows.{HaveDistinctPlaces, group_keys}
 use Rattle.pipe_spill.specs.KeyTypes.{AreOfTypes}
 use Rattle.pipe_spill.specs.SpillRow.{spilled}
 use Rattle.pipe_spill.specs.declared.spill_row.SpillRow.{SpillRow}
@@ -42,18 +42,18 @@ use Rattle.pipe_run.specs.Sources.{IsPlacedFrame}
 use Rattle.pipe_run.proofs.SourceFacts.{asked, both, mine}
 
 -- as many groups hold rows as the rows have keys
-pub count-groups : (q : QueryTree) (rs : List Row) (gs : List Group) → HoldRowsOf q gs rs → count_held gs ≡ length (sorted_keys tuple_cmp (keys_of rs))
+pub count-groups : (q : QueryTree) (rs : List Row) (gs : List Group) → HoldRowsOf q gs rs → count_held gs ≡ length (sorted_keys tuple_cmp (group_keys rs))
 count-groups q rs gs h =
     let types = key_types q in
-    let typed : All (AreOfTypes types) (keys_of rs) = All-map (AreOfTypes types) (λ (r : Row). r.key) rs (All-weaker (IsRowOf q) (λ r. AreOfTypes types r.key) (λ r t. t.key.fit) rs h.typed) in
+    let typed : All (AreOfTypes types) (group_keys rs) = All-map (AreOfTypes types) (λ (r : Row). r.key) rs (All-weaker (IsRowOf q) (λ r. AreOfTypes types r.key) (λ r t. t.key.fit) rs h.typed) in
     held-counted (prototypes q) gs (map (spilled types) rs) h.holds h.apart
     ∙ ap (λ (ks : List (List ℕ)). length (sorted_keys key_cmp ks)) (map-map (λ (r : SpillRow). r.key) (spilled types) rs ∙ sym (map-map (code types) (λ (r : Row). r.key) rs))
-    ∙ ap (λ (ks : List (List ℕ)). length ks) (sorted-codes types (keys_of rs) typed)
-    ∙ length-map (sorted_keys tuple_cmp (keys_of rs)) (code types)
+    ∙ ap (λ (ks : List (List ℕ)). length ks) (sorted-codes types (group_keys rs) typed)
+    ∙ length-map (sorted_keys tuple_cmp (group_keys rs)) (code types)
 
 -- groups that hold what a partition and the local rows of its keys stand for hold the rows of the partition
 hold-rows : (q : QueryTree) (rs : List Row) (locals : List SpillRow) (x : PartitionSeen) (gs : List Group) → IsGroupable q → All (IsRowOf q) rs → x.table.shape ≡ shape_of q → (part : StandsForPart q rs locals x)
-    → IsDistinct bytes_eq (Rattle.pipe_groups.specs.Groups.keys_of gs) → Holds x.table.shape.prototypes gs (part.rows ++ own_rows x locals) → HoldRowsOf q gs (rows_in x.partitions q x.number rs)
+    → IsDistinct bytes_eq (Rattle.pipe_groups.specs.Groups.group_keys gs) → Holds x.table.shape.prototypes gs (part.rows ++ own_rows x locals) → HoldRowsOf q gs (rows_in x.partitions q x.number rs)
 hold-rows q rs locals x gs groupable typed shape part apart holds = record {
   groupable = groupable;
   typed = All-filter (λ r. partition x.partitions (key_types q) r.key == x.number) (IsRowOf q) rs typed;
@@ -84,7 +84,7 @@ module _ (s : SourceSeen) (y : PartitionSeen) (local : Table) (slice : Option (�
   n = length s.partitions
 
   -- groups that hold what the partition stands for hold the rows of the partition
-  hold-part : (gs : List Group) → IsDistinct bytes_eq (Rattle.pipe_groups.specs.Groups.keys_of gs)
+  hold-part : (gs : List Group) → IsDistinct bytes_eq (Rattle.pipe_groups.specs.Groups.group_keys gs)
       → Holds here.table.shape.prototypes gs (part.rows ++ own_rows here h.stands.locals) → HoldRowsOf q gs (rows_in n q s.given rs)
   hold-part gs apart holds =
       let at = is.each s.given y lt in

@@ -16,7 +16,7 @@ use Rattle.pipe_spill.specs.KeyTypes.{AreOfTypes}
 use Rattle.pipe_spill.specs.SpillRow.{IsRow}
 use Rattle.pipe_spill.specs.declared.spill_row.SpillRow.{SpillRow}
 use Rattle.pipe_groups.specs.GroupRuns.{keep_no_text, KeepNoneFrom, with_run}
-use Rattle.pipe_groups.specs.Groups.{cover, Group, group_of, is_covered, keys_of, new_group, no_group, RowlessAreFresh, with_row}
+use Rattle.pipe_groups.specs.Groups.{cover, Group, group_of, is_covered, group_keys, new_group, no_group, RowlessAreFresh, group_with_row}
 use Rattle.pipe_groups.specs.Holds.{HoldFewer, Holds}
 use Rattle.pipe_groups.proofs.FeedFacts.{few-counted, few-feed}
 use Rattle.pipe_groups.proofs.HoldFacts.{holds-covered, holds-row}
@@ -68,7 +68,7 @@ module _ (t u : Table) (k : List ℕ) (i : ℕ) (h : Covered t u k i) where
     pub one-few : StatesSeen (2 ^ 32 - 2) (group_of u.groups i).states × TakesFrom 0 (group_of u.groups i).states r.values
     one-few = few-feed u.shape u.groups i r covered-table.shape one h.at.0 counted
 
-    module _ (new : Table) (fed : HasGroups u new (set u.groups i (with_row r.place r.values (group_of u.groups i)))) where
+    module _ (new : Table) (fed : HasGroups u new (set u.groups i (group_with_row r.place r.values (group_of u.groups i)))) where
       put-there : new.groups ≡ put_row u r
       put-there = fed.0 ∙ put-at r.key u.shape.prototypes r.place r.values u.groups i covered-table.apart h.at.0 (h.at.1 ∙ own)
 
@@ -158,7 +158,7 @@ module _ (t u : Table) (k : List ℕ) (i : ℕ) (h : Covered t u k i) where
 
 -- ---- groups that stay
 
-pub at-keys : (gs others : List Group) (k : List ℕ) (i : ℕ) → keys_of others ≡ keys_of gs → IsAt gs k i → IsAt others k i
+pub at-keys : (gs others : List Group) (k : List ℕ) (i : ℕ) → group_keys others ≡ group_keys gs → IsAt gs k i → IsAt others k i
 at-keys gs others k i same at =
     let key : Group → List ℕ = λ g. g.key in
     let long : length others ≡ length gs = sym (length-map others key) ∙ ap (λ (ks : List (List ℕ)). length ks) same ∙ length-map gs key in (
@@ -166,7 +166,7 @@ at-keys gs others k i same at =
       sym (get_or-map key others i no_group [] (omega (arith, at.0, long))) ∙ ap (λ (ks : List (List ℕ)). get_or ks i []) same ∙ get_or-map key gs i no_group [] at.0 ∙ at.1,
     )
 
-pub keys-stay : (t u : Table) → keys_of u.groups ≡ keys_of t.groups → KeysStay t u
+pub keys-stay : (t u : Table) → group_keys u.groups ≡ group_keys t.groups → KeysStay t u
 keys-stay t u same k i at = at-keys t.groups u.groups k i same at
 
 -- room for a key leaves them where they are

@@ -17,7 +17,7 @@ use Rattle.pipe_running.proofs.GroupStateFacts.{group-fresh}
 use Rattle.pipe_spill.specs.KeyTypes.{AreOfTypes}
 use Rattle.pipe_spill.specs.SpillRow.{AreRows, IsRow, spilled}
 use Rattle.pipe_spill.specs.declared.spill_row.SpillRow.{SpillRow}
-use Rattle.pipe_groups.specs.Groups.{Group, group_of, has_rows, keys_of, no_group, RowlessAreFresh}
+use Rattle.pipe_groups.specs.Groups.{Group, group_of, has_rows, group_keys, no_group, RowlessAreFresh}
 use Rattle.pipe_groups.specs.Holds.{entries_of, FoundStands, Holds, of_key}
 use Rattle.pipe_groups.specs.Shape.{Shape}
 use Rattle.pipe_groups.proofs.PutFacts.{held_at-at}
@@ -70,7 +70,7 @@ run-entries s rows row len run = entries-from s.key_types rows (row_at rows row)
 -- ---- the running aggregates of a group
 
 -- of a table's group they are of the prototypes' kinds
-pub group-kinds : (ps : List AggregateFunction) (gs : List Group) (i : ℕ) → IsDistinct bytes_eq (keys_of gs) → RowlessAreFresh ps gs → i < length gs → (rows : List SpillRow) → Holds ps gs rows
+pub group-kinds : (ps : List AggregateFunction) (gs : List Group) (i : ℕ) → IsDistinct bytes_eq (group_keys gs) → RowlessAreFresh ps gs → i < length gs → (rows : List SpillRow) → Holds ps gs rows
     → SameKinds ps (group_of gs i).states
 group-kinds ps gs i apart fresh lt rows h =
     by (has_rows (group_of gs i)) refl (rw (held_at-at (group_of gs i).key gs i apart lt refl) at (h.at (group_of gs i).key)) where

@@ -7,7 +7,7 @@ use Rattle.pipe_columns.specs.declared.any_value.AnyValue.{AnyValue}
 use Rattle.pipe_columns.specs.declared.place.Place.{Place}
 use Rattle.pipe_running.specs.declared.function.AggregateFunction.{AggregateFunction}
 use Rattle.pipe_spill.specs.declared.spill_row.SpillRow.{SpillRow}
-use Rattle.pipe_groups.specs.Groups.{count_held, Group, has_rows, held_at, held_groups, is_held, put, with_row}
+use Rattle.pipe_groups.specs.Groups.{count_held, Group, has_rows, held_at, held_groups, is_held, put, group_with_row}
 use Rattle.pipe_tables.specs.LocalTable.{HoldsToLimit, IsToLimit}
 use Rattle.pipe_keyed.specs.Tables.{HasGroups, put_row, Table}
 use Rattle.pipe_tables.specs.Tables.{is_full, passes}
@@ -29,13 +29,13 @@ pub count-put : (ps : List AggregateFunction) (k : List ℕ) (p : Place) (inputs
     → count_held (put ps k p inputs gs) ≡ count_held gs + gain (is_held k gs)
 count-put ps k p inputs [] = refl
 count-put ps k p inputs (g ∷ gs) =
-    elim (bytes_eq k g.key) as (λ b. count_held (if b then with_row p inputs g ∷ gs else g ∷ put ps k p inputs gs)
+    elim (bytes_eq k g.key) as (λ b. count_held (if b then group_with_row p inputs g ∷ gs else g ∷ put ps k p inputs gs)
     ≡ count_held (g ∷ gs) + gain (is_some (if b then (if has_rows g then Some g else None) else held_at k gs))) [
       | true ↦ here (has_rows g) refl
       | false ↦ omega (arith, count-cons g gs, count-cons g (put ps k p inputs gs), count-put ps k p inputs gs)
     ]
   where
-    here : (b : Bool) → has_rows g ≡ b → count_held (with_row p inputs g ∷ gs) ≡ count_held (g ∷ gs) + gain (is_some (if has_rows g then Some g else None))
+    here : (b : Bool) → has_rows g ≡ b → count_held (group_with_row p inputs g ∷ gs) ≡ count_held (g ∷ gs) + gain (is_some (if has_rows g then Some g else None))
     here true is = omega (arith, count-cons g gs, ap one_if is, ap (λ (b : Bool). gain (is_some (if b then Some g else None))) is)
     here false is = omega (arith, count-cons g gs, ap one_if is, ap (λ (b : Bool). gain (is_some (if b then Some g else None))) is)
 

@@ -6,7 +6,7 @@ use Rattle.pipe_running.specs.GroupStates.{fresh_states, StatesHold, StatesSeen,
 use Rattle.pipe_running.proofs.StatesHoldFacts.{fresh-hold}
 use Rattle.pipe_spill.specs.SpillRow.{IsRow}
 use Rattle.pipe_spill.specs.declared.spill_row.SpillRow.{SpillRow}
-use Rattle.pipe_groups.specs.Groups.{Group, group_of, is_covered, new_group, with_row}
+use Rattle.pipe_groups.specs.Groups.{Group, group_of, is_covered, new_group, group_with_row}
 use Rattle.pipe_groups.specs.Holds.{Holds}
 use Rattle.pipe_groups.proofs.FeedFacts.{counted-pushed, few-counted, few-feed, row-taken}
 use Rattle.pipe_groups.proofs.HoldFacts.{holds-row}
@@ -54,12 +54,12 @@ module _ (t now : Table) (r : SpillRow) (h : Inserts t now r) where
         (rw e (counted-pushed t.shape.prototypes (2 ^ 32 - 2) t.groups key counted))
 
     -- with the row in the group of its key, or in a new one, the groups have it put
-    pub puts-at : (u : Table) (i : ℕ) → IsAt t.groups key i → u.groups ≡ set t.groups i (with_row r.place r.values (group_of t.groups i))
+    pub puts-at : (u : Table) (i : ℕ) → IsAt t.groups key i → u.groups ≡ set t.groups i (group_with_row r.place r.values (group_of t.groups i))
         → u.shape ≡ t.shape → u.limit ≡ t.limit → HasGroups t u (put_row t r)
     puts-at u i at e shape limit = (e ∙ put-at r.key t.shape.prototypes r.place r.values t.groups i h.table.apart at.0 (at.1 ∙ is), shape, limit)
 
     pub puts-new : (u : Table) (gs : List Group) (i : ℕ) → is_covered key t.groups ≡ false → gs ≡ t.groups ++ new_group t.shape.prototypes key ∷ [] → i ≡ length t.groups
-        → u.groups ≡ set gs i (with_row r.place r.values (group_of gs i)) → u.shape ≡ t.shape → u.limit ≡ t.limit → HasGroups t u (put_row t r)
+        → u.groups ≡ set gs i (group_with_row r.place r.values (group_of gs i)) → u.shape ≡ t.shape → u.limit ≡ t.limit → HasGroups t u (put_row t r)
     puts-new u gs i absent pushed at e shape limit = (
       e ∙ rw (pushed, at, is) (put-pushed r.key t.shape.prototypes r.place r.values t.groups (rw is at absent)),
       shape,
@@ -70,7 +70,7 @@ module _ (t now : Table) (r : SpillRow) (h : Inserts t now r) where
     pub takes-new : TakesFrom 0 (fresh_states t.shape.prototypes) r.values
     takes-new = row-taken t.shape 0 (fresh_states t.shape.prototypes) r h.table.shape typed (fresh-hold 0 t.shape.prototypes)
 
-    pub puts-last : (u : Table) → is_covered key t.groups ≡ false → u.groups ≡ t.groups ++ with_row r.place r.values (new_group t.shape.prototypes key) ∷ []
+    pub puts-last : (u : Table) → is_covered key t.groups ≡ false → u.groups ≡ t.groups ++ group_with_row r.place r.values (new_group t.shape.prototypes key) ∷ []
         → u.shape ≡ t.shape → u.limit ≡ t.limit → HasGroups t u (put_row t r)
     puts-last u absent e shape limit = (
       e ∙ rw is (sym (put-new r.key t.shape.prototypes r.place r.values t.groups (rw is at absent))),

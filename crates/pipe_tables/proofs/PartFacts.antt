@@ -4,7 +4,7 @@ use Rattle.std.proofs.lemmas.List.{get_or-map, length-map}
 use Rattle.pipe_columns.specs.Key.{fold_bytes}
 use Rattle.pipe_chains.specs.Chains.{last_of}
 use Rattle.pipe_chains.proofs.Walks.{left-falls, left_of, OnChain, Walking, walking-end, walking-mark, walking-next, walking-start, walking-within}
-use Rattle.pipe_groups.specs.Groups.{AreJoined, Covers, Group, group_of, has_rows, HasGroups, held_at, keys_of, new_group, no_group, Seen}
+use Rattle.pipe_groups.specs.Groups.{AreJoined, Covers, Group, group_of, has_rows, HasGroups, held_at, group_keys, new_group, no_group, Seen}
 use Rattle.pipe_keyed.specs.Merges.{IsTakenInto, MayMerge, MayTake}
 use Rattle.pipe_tables.specs.Parts.{marks_in}
 use Rattle.pipe_tables.specs.Tables.{groups_in, lies_in}
@@ -21,14 +21,14 @@ pub record TakesPart (partitions p : ℕ) (marks : List ℕ) (own0 other0 own ot
   pub room : HasRoom (lies_in partitions p) own other
   pub on : OnChain (IsEmptied other.groups) p marks at
 
-module _ (partitions p : ℕ) (gs : List Group) (marks : List ℕ) (marked : marks ≡ marks_in partitions (keys_of gs)) where
+module _ (partitions p : ℕ) (gs : List Group) (marks : List ℕ) (marked : marks ≡ marks_in partitions (group_keys gs)) where
   part-length : length marks ≡ length gs
-  part-length = ap length marked ∙ length-map (keys_of gs) (λ (k : List ℕ). fold_bytes k % partitions) ∙ length-map gs (λ (g : Group). g.key)
+  part-length = ap length marked ∙ length-map (group_keys gs) (λ (k : List ℕ). fold_bytes k % partitions) ∙ length-map gs (λ (g : Group). g.key)
 
   part-mark : (i : ℕ) → i < length gs → get_or marks i 0 ≡ fold_bytes (group_of gs i).key % partitions
   part-mark i l =
       ap (λ (ms : List ℕ). get_or ms i 0) marked
-      ∙ get_or-map (λ (k : List ℕ). fold_bytes k % partitions) (keys_of gs) i [] 0 (omega (arith, l, length-map gs (λ (g : Group). g.key)))
+      ∙ get_or-map (λ (k : List ℕ). fold_bytes k % partitions) (group_keys gs) i [] 0 (omega (arith, l, length-map gs (λ (g : Group). g.key)))
       ∙ ap (λ (k : List ℕ). fold_bytes k % partitions) (get_or-map (λ (g : Group). g.key) gs i no_group [] l)
 
   -- a group lies in the partition that is its mark
@@ -38,7 +38,7 @@ module _ (partitions p : ℕ) (gs : List Group) (marks : List ℕ) (marked : mar
   part-back : (i : ℕ) → i < length gs → lies_in partitions p (group_of gs i).key ≡ true → get_or marks i 0 ≡ p
   part-back i l t = part-mark i l ∙ eqb-true (fold_bytes (group_of gs i).key % partitions) p t
 
-module _ (partitions p : ℕ) (marks : List ℕ) (own0 other0 : Seen) (may : MayMerge own0 other0) (marked : marks ≡ marks_in partitions (keys_of other0.groups)) where
+module _ (partitions p : ℕ) (marks : List ℕ) (own0 other0 : Seen) (may : MayMerge own0 other0) (marked : marks ≡ marks_in partitions (group_keys other0.groups)) where
   pub part-start : (at : Option ℕ) → at ≡ last_of p marks → HasRoom (lies_in partitions p) own0 other0 → TakesPart partitions p marks own0 other0 own0 other0 at
   part-start at e room = record {
     merging = merging-start (lies_in partitions p) own0 other0 may;
@@ -48,7 +48,7 @@ module _ (partitions p : ℕ) (marks : List ℕ) (own0 other0 : Seen) (may : May
 
   module _ (own other : Seen) where
     module _ (i : ℕ) (t : TakesPart partitions p marks own0 other0 own other (Some i)) where
-      still : marks ≡ marks_in partitions (keys_of other.groups)
+      still : marks ≡ marks_in partitions (group_keys other.groups)
       still = marked ∙ ap (marks_in partitions) (sym t.merging.keys)
 
       pub part-link : i < length marks

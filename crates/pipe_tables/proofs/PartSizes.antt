@@ -7,7 +7,7 @@ use Rattle.std.proofs.lemmas.List.Sums.{sum_by-append}
 use Rattle.pipe_columns.specs.Key.{fold_bytes}
 use Rattle.pipe_chains.specs.Chains.{last_index, last_of}
 use Rattle.pipe_chains.proofs.Walks.{left-falls, left_of, Walking, walking-below, walking-next, walking-start, walking-within}
-use Rattle.pipe_groups.specs.Groups.{count_held, Group, group_of, has_rows, held_bytes, held_groups, keys_of, no_group}
+use Rattle.pipe_groups.specs.Groups.{count_held, Group, group_of, has_rows, held_bytes, held_groups, group_keys, no_group}
 use Rattle.pipe_tables.specs.declared.part_size.PartSize.{PartSize}
 use Rattle.pipe_tables.specs.Parts.{marks_in}
 use Rattle.pipe_tables.specs.Tables.{groups_in, lies_in}
@@ -40,16 +40,16 @@ pub record Sizes (partitions p : ℕ) (gs : List Group) (marks : List ℕ) (size
   pub groups : size.groups + count_held (groups_in partitions p (take below gs)) ≡ count_held (groups_in partitions p gs)
   pub key_bytes : size.key_bytes + held_bytes (groups_in partitions p (take below gs)) ≡ held_bytes (groups_in partitions p gs)
 
-module _ (partitions p : ℕ) (gs : List Group) (marks : List ℕ) (marked : marks ≡ marks_in partitions (keys_of gs)) where
+module _ (partitions p : ℕ) (gs : List Group) (marks : List ℕ) (marked : marks ≡ marks_in partitions (group_keys gs)) where
   marks-length : length marks ≡ length gs
-  marks-length = ap length marked ∙ length-map (keys_of gs) (λ (k : List ℕ). fold_bytes k % partitions) ∙ length-map gs (λ (g : Group). g.key)
+  marks-length = ap length marked ∙ length-map (group_keys gs) (λ (k : List ℕ). fold_bytes k % partitions) ∙ length-map gs (λ (g : Group). g.key)
 
   -- the last entry is the last group that lies in the partition
   last-lies : (below : ℕ) → last_of p (take below marks) ≡ last_index (λ (g : Group). lies_in partitions p g.key) (take below gs)
   last-lies below =
       ap (λ (ms : List ℕ). last_of p (take below ms)) marked
-      ∙ ap (last_of p) (take-map (λ (k : List ℕ). fold_bytes k % partitions) below (keys_of gs))
-      ∙ last-map (λ (k : List ℕ). fold_bytes k % partitions) (λ m. m == p) (take below (keys_of gs))
+      ∙ ap (last_of p) (take-map (λ (k : List ℕ). fold_bytes k % partitions) below (group_keys gs))
+      ∙ last-map (λ (k : List ℕ). fold_bytes k % partitions) (λ m. m == p) (take below (group_keys gs))
       ∙ ap (last_index (lies_in partitions p)) (take-map (λ (g : Group). g.key) below gs)
       ∙ last-map (λ (g : Group). g.key) (lies_in partitions p) (take below gs)
 

@@ -6,7 +6,7 @@ use Rattle.std.proofs.lemmas.List.Elements.{All-filter}
 use Rattle.std.proofs.lemmas.List.Filters.{length-filter_both}
 use Rattle.pipe_spill.specs.SpillRow.{IsRow}
 use Rattle.pipe_spill.specs.declared.spill_row.SpillRow.{SpillRow}
-use Rattle.pipe_groups.specs.Groups.{AreJoined, Group, held_at, keys_of, RowlessAreFresh}
+use Rattle.pipe_groups.specs.Groups.{AreJoined, Group, held_at, group_keys, RowlessAreFresh}
 use Rattle.pipe_groups.proofs.HoldFacts.{held_at-passing, holds-part}
 use Rattle.pipe_keyed.specs.Tables.{IsTable, Table}
 use Rattle.pipe_tables.specs.Tables.{groups_in, lies_in}
@@ -23,7 +23,7 @@ module _ (partitions p : ℕ) where
 
   -- with the groups of the partition joined a table is left
   pub part-combined : (t now o other : Table) → Combines t now o other → (u : Table) → AreJoined t.shape.prototypes t.groups (groups_in partitions p o.groups) u.groups → u.shape ≡ t.shape
-      → IsDistinct bytes_eq (keys_of u.groups) → RowlessAreFresh t.shape.prototypes u.groups → IsTable u
+      → IsDistinct bytes_eq (group_keys u.groups) → RowlessAreFresh t.shape.prototypes u.groups → IsTable u
   part-combined t now o other both u joined shape apart fresh =
       let held = few t now o other both in
       combined-kept t now o other both u (groups_in partitions p o.groups) (filter row_lies held.others) joined shape apart fresh
@@ -37,7 +37,7 @@ module _ (partitions p : ℕ) where
     elsewhere k = not (lies_in partitions p k)
 
     -- a table of which the groups of the partition left is one
-    pub part-left : u.shape ≡ t.shape → keys_of u.groups ≡ keys_of t.groups → RowlessAreFresh t.shape.prototypes u.groups
+    pub part-left : u.shape ≡ t.shape → group_keys u.groups ≡ group_keys t.groups → RowlessAreFresh t.shape.prototypes u.groups
         → ((k : List ℕ) → held_at k u.groups ≡ (if lies_in partitions p k then None else held_at k t.groups)) → IsTable u
     part-left shape keys fresh rest = record {
       shape = rw shape table.shape;

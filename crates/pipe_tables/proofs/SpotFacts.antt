@@ -2,7 +2,7 @@
 use Rattle.std.proofs.Common.{◌≡◌, ℕ, ◌&&◌, not, Bool, true, false, List, Option, refl, sym, ap, ◌∙◌}
 use Rattle.std.specs.List.{IsDistinct}
 use Rattle.std.specs.Str.{bytes_eq}
-use Rattle.pipe_groups.specs.Groups.{count_held, Group, group_of, has_rows, is_covered, is_held, keys_of}
+use Rattle.pipe_groups.specs.Groups.{count_held, Group, group_of, has_rows, is_covered, is_held, group_keys}
 use Rattle.pipe_groups.proofs.PutFacts.{is_held-at, is_held-new}
 use Rattle.pipe_keyed.specs.Keyed.{IsAt}
 use Rattle.pipe_tables.specs.Spots.{refuses}
@@ -21,7 +21,7 @@ module _ (limit : Option ℕ) (gs : List Group) (key : List ℕ) (held : ℕ) (c
   is-full : full ≡ passes (count_held gs) limit
   is-full = is ∙ ap (λ (n : ℕ). passes n limit) count
 
-  module _ (i : ℕ) (apart : IsDistinct bytes_eq (keys_of gs)) (at : IsAt gs key i) (rows : Bool) (e : rows ≡ has_rows (group_of gs i)) where
+  module _ (i : ℕ) (apart : IsDistinct bytes_eq (group_keys gs)) (at : IsAt gs key i) (rows : Bool) (e : rows ≡ has_rows (group_of gs i)) where
     -- where the key has a group, it is refused if the limit is passed and that group has no rows
     refuses-at : refuses limit gs key ≡ full && not rows
     refuses-at = rw (is-full, e) (ap (λ (b : Bool). passes (count_held gs) limit && not b) (is_held-at key gs i apart at.0 at.1))

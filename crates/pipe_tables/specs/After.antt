@@ -13,7 +13,7 @@ use Rattle.pipe_spill.specs.declared.spill_row.SpillRow.{SpillRow}
 use Rattle.pipe_groups.specs.Groups.{count_held, RowlessAreFresh}
 use Rattle.pipe_groups.specs.Holds.{Holds}
 use Rattle.pipe_groups.specs.Shape.{Shape}
-use Rattle.pipe_tables.specs.LocalTable.{let_go, Local, with_row}
+use Rattle.pipe_tables.specs.LocalTable.{let_go, Local, local_with_row}
 
 -- ---- which rows are kept and which are sent
 
@@ -64,9 +64,9 @@ piece_for p (Some left) = if left.0 == p then left.1 ∷ [] else []
 -- a local table with rows that come one by one
 abbrev pub with_all : List SpillRow → Local → Local
 with_all [] t = t
-with_all (r ∷ rows) t = with_all rows (with_row r t)
+with_all (r ∷ rows) t = with_all rows (local_with_row r t)
 
 -- the pieces of a partition that leave meanwhile
 abbrev pub pieces_for : ℕ → List SpillRow → Local → List (List SpillRow)
 pieces_for p [] t = []
-pieces_for p (r ∷ rows) t = piece_for p (let_go r t) ++ pieces_for p rows (with_row r t)
+pieces_for p (r ∷ rows) t = piece_for p (let_go r t) ++ pieces_for p rows (local_with_row r t)

@@ -35,8 +35,8 @@ abbrev pub overflowing : SpillRow → Local → Local
 overflowing r t = record { table = t.table; buffers = buffered r t.buffers; overflowed = true }
 
 -- the local table with one more row
-abbrev pub with_row : SpillRow → Local → Local
-with_row r t = if keeps r t then holding r t else overflowing r t
+abbrev pub local_with_row : SpillRow → Local → Local
+local_with_row r t = if keeps r t then holding r t else overflowing r t
 
 -- what leaves as the row comes: the rows of its partition, where it overflows and fills the buffer
 abbrev pub let_go : SpillRow → Local → Option (ℕ × List SpillRow)

@@ -17,7 +17,7 @@ ghost use Rattle.pipe_spill.specs.SpillRow.{HasValues, spilled};
 ghost use Rattle.pipe_groups.specs.Shape.{IsShape, Shape};
 ghost use Rattle.pipe_tables.specs.After.{IsAfter, kept_of, left_of, piece_for, pieces_for, spilled_to, with_all};
 ghost use Rattle.pipe_tables.specs.Buffers.{no_rows};
-ghost use Rattle.pipe_tables.specs.LocalTable.{let_go, Local, with_row};
+ghost use Rattle.pipe_tables.specs.LocalTable.{let_go, Local, local_with_row};
 ghost use Rattle.pipe_keyed.specs.Tables.{TakesOne};
 
 /// A local table that is new is one after no row, and one after few rows has room for another. With
@@ -35,7 +35,7 @@ pub fn rows_come_to_a_local_table()
         → is_generic l.sink ≡ true → AreLimits l → IsShape s
         → All (HasValues s.key_types s.input_types) taken
         → HasValues s.key_types s.input_types x → IsAfter l s taken t
-        → IsAfter l s (taken ++ x ∷ []) (with_row (spilled s.key_types x) t) }
+        → IsAfter l s (taken ++ x ∷ []) (local_with_row (spilled s.key_types x) t) }
     ensures piece { (l : Limits) (s : Shape) (taken : List Row) (x : Row) (t : Local) (p : ℕ)
         → is_generic l.sink ≡ true → AreLimits l
         → All (HasValues s.key_types s.input_types) taken

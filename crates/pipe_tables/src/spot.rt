@@ -3,7 +3,7 @@
 ghost use Rattle.std.specs.Prelude.{◌≡◌};
 ghost use Rattle.std.specs.List.{IsDistinct};
 ghost use Rattle.std.specs.Str.{bytes_eq};
-ghost use Rattle.pipe_groups.specs.Groups.{count_held, keys_of};
+ghost use Rattle.pipe_groups.specs.Groups.{count_held, group_keys};
 ghost use Rattle.pipe_chains.specs.Hash.{hash_of};
 ghost use Rattle.pipe_keyed.specs.Keyed.{IsFound};
 ghost use Rattle.pipe_tables.specs.Spots.{IsSpot};
@@ -78,7 +78,7 @@ pub(crate) fn spot_for(
     limit: Option<usize>,
     key: &[u8],
 ) -> Spot
-    requires { IsDistinct bytes_eq (keys_of keyed.now.groups) }
+    requires { IsDistinct bytes_eq (group_keys keyed.now.groups) }
     ensures { IsSpot limit keyed.now.groups key.now result }
 {
     let hash = hash_bytes(key);

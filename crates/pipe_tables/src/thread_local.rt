@@ -10,7 +10,7 @@ ghost use Rattle.pipe_spill.specs.declared.spill_row.SpillRow.{SpillRow};
 ghost use Rattle.pipe_groups.specs.Holds.{Holds};
 ghost use Rattle.pipe_groups.specs.Shape.{shape_of};
 ghost use Rattle.pipe_tables.specs.Buffers.{AreBuffers, buffer_of, is_taken, is_taken_lent, leaving, left_by, left_by_lent, no_rows};
-ghost use Rattle.pipe_tables.specs.LocalTable.{IsToLimit, keeps, let_go, overflowing, with_row};
+ghost use Rattle.pipe_tables.specs.LocalTable.{IsToLimit, keeps, let_go, overflowing, local_with_row};
 ghost use Rattle.pipe_keyed.specs.Tables.{TakesOne};
 
 use crate::hash_table::AggHashTable;
@@ -104,7 +104,7 @@ impl ThreadLocalTable {
     pub fn insert(&mut self, row: SpillRow) -> LocalEnd
         requires typed { IsRow self.old.table.shape.key_types self.old.table.shape.input_types row }
         requires few { TakesOne self.old.table }
-        ensures taken { is_taken result ≡ true → self.new ≡ with_row row self.old }
+        ensures taken { is_taken result ≡ true → self.new ≡ local_with_row row self.old }
         ensures payload { is_taken result ≡ true → left_by result ≡ let_go row self.old }
         ensures memory { (r : SpillRow) → result ≡ LocalEnd.Memory r
             → (r ≡ row) × (self.new ≡ self.old) }
@@ -145,7 +145,7 @@ impl ThreadLocalTable {
             (spilled self.old.table.shape.key_types (row_at rows.now row)) }
         requires few { TakesOne self.old.table }
         ensures taken { is_taken_lent result ≡ true → self.new
-            ≡ with_row (spilled self.old.table.shape.key_types (row_at rows.now row)) self.old }
+            ≡ local_with_row (spilled self.old.table.shape.key_types (row_at rows.now row)) self.old }
         ensures payload { is_taken_lent result ≡ true → left_by_lent result
             ≡ let_go (spilled self.old.table.shape.key_types (row_at rows.now row)) self.old }
         ensures memory { result ≡ LentLocalEnd.Memory → self.new ≡ self.old }

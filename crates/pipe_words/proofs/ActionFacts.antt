@@ -4,12 +4,12 @@ use Rattle.std.proofs.lemmas.List.{length-map, map-append}
 use Rattle.std.proofs.lemmas.Grind.{common_steps}
 use Rattle.std.proofs.lemmas.Bool.Decides.{nat_tests}
 use Rattle.pipe_plan.specs.declared.event.SpillAction.{SpillAction}
-use Rattle.pipe_words.specs.Actions.{actions_of, each_of, filled_up, list_of, parts_of}
+use Rattle.pipe_words.specs.Actions.{actions_of, each_of, filled_up, listed_actions, parts_of}
 use Rattle.pipe_words.proofs.EachFacts.{each-map}
 
 -- the actions of a list of letters that is lent
 abbrev pub lent_list : Bor (List ℕ) → Option (List SpillAction)
-lent_list x = list_of x.now
+lent_list x = listed_actions x.now
 
 -- empty lists
 map-empty : (k : ℕ) (e : Bor (List ℕ)) → e.now ≡ [] → map (λ x. x.now) (replicate k e) ≡ replicate k []
@@ -25,4 +25,4 @@ actions-lent workers n parts e text is long few none =
     let whole : take workers parts ≡ parts = grind (arith, common_steps) in
     let names : map (λ (x : Bor (List ℕ)). x.now) (parts ++ replicate (workers - n) e) ≡ filled_up workers (parts_of text) =
     map-append (λ x. x.now) parts (replicate (workers - n) e) ∙ rw (is, map-empty (workers - n) e none, size) refl in
-    rw (whole, test) (sym (each-map list_of (λ (x : Bor (List ℕ)). x.now) (parts ++ replicate (workers - n) e)) ∙ ap (each_of list_of) names)
+    rw (whole, test) (sym (each-map listed_actions (λ (x : Bor (List ℕ)). x.now) (parts ++ replicate (workers - n) e)) ∙ ap (each_of listed_actions) names)

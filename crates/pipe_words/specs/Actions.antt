@@ -18,8 +18,8 @@ action_of b =
     else None))
 
 -- the actions of letters
-abbrev pub list_of : List ℕ → Option (List SpillAction)
-list_of letters = each_of action_of letters
+abbrev pub listed_actions : List ℕ → Option (List SpillAction)
+listed_actions letters = each_of action_of letters
 
 -- the lists of letters of an option, which are joined by commas
 abbrev pub parts_of : Option (List ℕ) → List (List ℕ)
@@ -34,4 +34,4 @@ filled_up workers parts = parts ++ replicate (workers - length parts) []
 abbrev pub actions_of : ℕ → Option (List ℕ) → Option (List (List SpillAction))
 actions_of workers text =
     if nat_le (length (parts_of text)) workers
-    then each_of list_of (filled_up workers (parts_of text)) else None
+    then each_of listed_actions (filled_up workers (parts_of text)) else None

@@ -2,7 +2,7 @@
 
 ghost use Rattle.std.specs.Prelude.{◌≡◌, ◌==◌, IfOk, IfSome, length, map, option_map, vec_len};
 ghost use Rattle.std.specs.List.{slice_split};
-ghost use Rattle.pipe_words.specs.Actions.{action_of, actions_of, each_of, list_of, parts_of};
+ghost use Rattle.pipe_words.specs.Actions.{action_of, actions_of, each_of, listed_actions, parts_of};
 
 use pipe_plan::SpillAction;
 use std::alloc::{AllocError, Global};
@@ -21,7 +21,7 @@ fn action_of(letter: u8) -> Option<SpillAction>
 
 /// The actions that letters stand for, where each does.
 fn read_list(alloc: Global, letters: &[u8]) -> Result<Option<Vec<SpillAction>>, AllocError>
-    ensures { IfOk result (λ o. option_map (λ v. v.items) o ≡ list_of letters.now) }
+    ensures { IfOk result (λ o. option_map (λ v. v.items) o ≡ listed_actions letters.now) }
 {
     let mut actions = Vec::new(alloc);
     for letter in letters {
@@ -55,7 +55,7 @@ fn parts_of<'a>(alloc: Global, value: Option<&'a str>) -> Result<Vec<&'a str>, A
 /// The actions of lists of letters, where each letter stands for one.
 fn read_lists(alloc: Global, parts: &[&str]) -> Result<Option<Vec<Vec<SpillAction>>>, AllocError>
     ensures lists { IfOk result (λ o. option_map (λ v. map (λ l. l.items) v.items) o
-        ≡ each_of (λ x. list_of x.now) parts.now) }
+        ≡ each_of (λ x. listed_actions x.now) parts.now) }
     ensures count { IfOk result (λ o. IfSome o (λ v. vec_len v ≡ length parts.now)) }
 {
     let mut lists = Vec::new(alloc);

@@ -1,14 +1,14 @@
 //! The numbers of options.
 
 ghost use Rattle.std.specs.Prelude.{◌≡◌, ◌≤◌, IfSome, option_map};
-ghost use Rattle.pipe_words.specs.Numbers.{number_or, read_number, up_to, within};
+ghost use Rattle.pipe_words.specs.Numbers.{number_or, read_word_number, up_to, within};
 
 /// The most digits of a number.
 const DIGITS: usize = 20;
 
 /// The number that a text writes.
 fn read_number(text: &[u8]) -> Option<u128>
-    ensures { result ≡ read_number text.now }
+    ensures { result ≡ read_word_number text.now }
 {
     if text.is_empty() || text.len() > DIGITS {
         return None;

@@ -31,7 +31,7 @@ use Rattle.pipe_spill.specs.declared.spill_row.SpillRow.{SpillRow}
 use Rattle.pipe_groups.specs.Shape.{shape_of}
 use Rattle.pipe_tables.specs.After.{goes_to, IsAfter, is_kept_of, spilled_to, waiting_of}
 use Rattle.pipe_tables.specs.Buffers.{buffer_of, fills, leaving, rows_with, waiting_in}
-use Rattle.pipe_tables.specs.LocalTable.{keeps, let_go, Local, with_row}
+use Rattle.pipe_tables.specs.LocalTable.{keeps, let_go, Local, local_with_row}
 use Rattle.pipe_tables.proofs.AfterFacts.{after-row}
 use Rattle.pipe_tables.proofs.HeldKeys.{keeps-stays}
 use Rattle.pipe_global.specs.Next.{next_event, next_payload}
@@ -214,11 +214,11 @@ module _ (r : Run) (w i : ℕ) (taken : List Row) (x : Row) (t : Local) (s : Sha
 
   -- ---- after the row
 
-  table-after : IsAfter r.limits (shape_of r.query) (taken ++ x ∷ []) (with_row row t)
+  table-after : IsAfter r.limits (shape_of r.query) (taken ++ x ∷ []) (local_with_row row t)
   table-after = after-row r.limits (shape_of r.query) taken x t takes.generic takes.runnable.limits all-taken row-typed here.table (has-shape r takes)
 
   -- no row leaves
-  pub row-held : let_go row t ≡ None → IsInTurn r w i (taken ++ x ∷ []) (with_row row t) s
+  pub row-held : let_go row t ≡ None → IsInTurn r w i (taken ++ x ∷ []) (local_with_row row t) s
   row-held is = record {
     table = table-after;
     worker = here.worker;
@@ -249,7 +249,7 @@ module _ (r : Run) (w i : ℕ) (taken : List Row) (x : Row) (t : Local) (s : Sha
         ∙ ap (λ n. piece (next_piece r s.worker p (take n (plan r s.worker p)))) (sym (here.events p l.there))
 
     -- with it the turn goes on
-    pub row-sent : length s.events ≡ r.limits.partitions → IsInTurn r w i (taken ++ x ∷ []) (with_row row t) (raised s p)
+    pub row-sent : length s.events ≡ r.limits.partitions → IsInTurn r w i (taken ++ x ∷ []) (local_with_row row t) (raised s p)
     row-sent count =
         let l = leaves p payload.rows gone in
         record {

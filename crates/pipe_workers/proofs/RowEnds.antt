@@ -7,7 +7,7 @@ use Rattle.pipe_inputs.specs.ChunkRows.{row_at}
 use Rattle.pipe_spill.specs.SpillRow.{Payload, spilled}
 use Rattle.pipe_spill.specs.declared.spill_row.SpillRow.{SpillRow}
 use Rattle.pipe_groups.specs.Shape.{Shape}
-use Rattle.pipe_tables.specs.LocalTable.{let_go, Local, with_row}
+use Rattle.pipe_tables.specs.LocalTable.{let_go, Local, local_with_row}
 use Rattle.pipe_global.specs.Shares.{raised, SharesSeen}
 use Rattle.pipe_workers.specs.Steps.{AreRowsOfTurn, IsInTurn, taken_with}
 use Rattle.pipe_workers.specs.Workers.{TakesTurns}
@@ -21,11 +21,11 @@ module _ (r : Run) (w i : ℕ) (rows : List Row) (n : ℕ) (t : Local) (s : Shar
   gone-is o is = sym (is ∙ ap (λ (h : Shape). let_go (spilled h.key_types (row_at rows n)) t) here.table.shape)
 
   -- and the table with the row
-  new-is : (u : Local) → u ≡ with_row (spilled t.table.shape.key_types (row_at rows n)) t → with_row (spilled (key_types r.query) (row_at rows n)) t ≡ u
-  new-is u is = sym (is ∙ ap (λ (h : Shape). with_row (spilled h.key_types (row_at rows n)) t) here.table.shape)
+  new-is : (u : Local) → u ≡ local_with_row (spilled t.table.shape.key_types (row_at rows n)) t → local_with_row (spilled (key_types r.query) (row_at rows n)) t ≡ u
+  new-is u is = sym (is ∙ ap (λ (h : Shape). local_with_row (spilled h.key_types (row_at rows n)) t) here.table.shape)
 
   -- the row is held or waits
-  pub row-ends : (u : Local) → None ≡ let_go (spilled t.table.shape.key_types (row_at rows n)) t → u ≡ with_row (spilled t.table.shape.key_types (row_at rows n)) t
+  pub row-ends : (u : Local) → None ≡ let_go (spilled t.table.shape.key_types (row_at rows n)) t → u ≡ local_with_row (spilled t.table.shape.key_types (row_at rows n)) t
       → IsInTurn r w i (taken_with r w i rows (n + 1)) u s
   row-ends u gone new =
       subst (λ (l : List Row). IsInTurn r w i l u s) (sym (row-more r w i rows n lt))
@@ -34,9 +34,9 @@ module _ (r : Run) (w i : ℕ) (rows : List Row) (n : ℕ) (t : Local) (s : Shar
 
   -- it leaves with those before it
   pub row-leaves : (u : Local) (h : SharesSeen) (p : ℕ) (payload : Payload) → Some (p, payload.rows) ≡ let_go (spilled t.table.shape.key_types (row_at rows n)) t
-      → u ≡ with_row (spilled t.table.shape.key_types (row_at rows n)) t → h ≡ raised s p → length s.events ≡ r.limits.partitions → IsInTurn r w i (taken_with r w i rows (n + 1)) u h
+      → u ≡ local_with_row (spilled t.table.shape.key_types (row_at rows n)) t → h ≡ raised s p → length s.events ≡ r.limits.partitions → IsInTurn r w i (taken_with r w i rows (n + 1)) u h
   row-leaves u h p payload gone new sent count =
       subst (λ (l : List Row). IsInTurn r w i l u h) (sym (row-more r w i rows n lt))
       (subst (λ (v : Local). IsInTurn r w i (taken_with r w i rows n ++ row_at rows n ∷ []) v h) (new-is u new)
-      (subst (λ (v : SharesSeen). IsInTurn r w i (taken_with r w i rows n ++ row_at rows n ∷ []) (with_row (spilled (key_types r.query) (row_at rows n)) t) v) (sym sent)
+      (subst (λ (v : SharesSeen). IsInTurn r w i (taken_with r w i rows n ++ row_at rows n ∷ []) (local_with_row (spilled (key_types r.query) (row_at rows n)) t) v) (sym sent)
       (row-sent r w i (taken_with r w i rows n) (row_at rows n) t s takes (at-row r w i rows n lt turn) here p payload (gone-is (Some (p, payload.rows)) gone) count)))

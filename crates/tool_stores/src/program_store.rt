@@ -4,7 +4,7 @@ ghost use Rattle.std.specs.Prelude.{◌≡◌, ◌<◌, ◌+◌, ◌-◌, ◌^�
 ghost use Rattle.pipe_columns.specs.Causes.{HasCause};
 ghost use Rattle.pipe_spill.specs.Store.{IsFrameAt, with_frame};
 ghost use Rattle.pipe_spill.specs.declared.store.StoreError.TheVariants as store_error;
-ghost use Rattle.tool_stores.specs.ProgramStore.{faults_of, held_of, is_sure, path_of, told_of};
+ghost use Rattle.tool_stores.specs.ProgramStore.{program_faults, program_held, is_program_sure, path_of, program_told};
 
 use pipe_spill::{FileStore, MemoryStore, SpillStore, StoreError};
 use std::fs::Files;
@@ -19,22 +19,22 @@ pub enum ProgramStore<R> {
 }
 
 impl<R: Files + Drop> SpillStore for ProgramStore<R> {
-    ghost use Rattle.tool_stores.specs.ProgramStore.{faults_of, has_held, held_of, is_sure, sure_never_failed, told_of};
+    ghost use Rattle.tool_stores.specs.ProgramStore.{program_faults, has_held, program_held, is_program_sure, sure_never_failed, program_told};
 
-    ghost told = { told_of };
+    ghost told = { program_told };
 
-    ghost held = { held_of };
+    ghost held = { program_held };
 
-    ghost faults = { faults_of };
+    ghost faults = { program_faults };
 
-    ghost sure = { is_sure };
+    ghost sure = { is_program_sure };
 
     ghost tells_all = { has_held };
 
     ghost never_failed = { sure_never_failed };
 
     fn held(&self) -> u64
-        ensures { result ≡ held_of self.now }
+        ensures { result ≡ program_held self.now }
     {
         match self {
             ProgramStore::Memory(store) => store.held(),
@@ -43,14 +43,14 @@ impl<R: Files + Drop> SpillStore for ProgramStore<R> {
     }
 
     fn put(&mut self, frame: &[u8]) -> Result<u64, StoreError>
-        requires room { held_of self.old < 2 ^ 64 - 1 }
-        ensures number { IfOk result (λ n. n ≡ held_of self.old) }
-        ensures held { OnOk result (held_of self.new ≡ held_of self.old + 1) }
-        ensures told { OnOk result (told_of self.new ≡ with_frame (told_of self.old) frame.now) }
-        ensures refused { OnErr result (told_of self.new ≡ told_of self.old) }
-        ensures refused_held { OnErr result (held_of self.new ≡ held_of self.old) }
-        ensures sure { is_sure self.new ≡ is_sure self.old }
-        ensures cause { HasCause (faults_of self.old) (faults_of self.new)
+        requires room { program_held self.old < 2 ^ 64 - 1 }
+        ensures number { IfOk result (λ n. n ≡ program_held self.old) }
+        ensures held { OnOk result (program_held self.new ≡ program_held self.old + 1) }
+        ensures told { OnOk result (program_told self.new ≡ with_frame (program_told self.old) frame.now) }
+        ensures refused { OnErr result (program_told self.new ≡ program_told self.old) }
+        ensures refused_held { OnErr result (program_held self.new ≡ program_held self.old) }
+        ensures sure { is_program_sure self.new ≡ is_program_sure self.old }
+        ensures cause { HasCause (program_faults self.old) (program_faults self.new)
             (IsErrOf result store_error.Failed) }
         ensures path { path_of self.new ≡ path_of self.old }
     {
@@ -61,13 +61,13 @@ impl<R: Files + Drop> SpillStore for ProgramStore<R> {
     }
 
     fn get(&mut self, number: u64, into: &mut Vec<u8>) -> Result<(), StoreError>
-        requires held { number < held_of self.old }
-        ensures frame { OnOk result (IsFrameAt (told_of self.old) number into.new.items) }
+        requires held { number < program_held self.old }
+        ensures frame { OnOk result (IsFrameAt (program_told self.old) number into.new.items) }
         ensures refused { OnErr result (into.new.items ≡ []) }
-        ensures told { told_of self.new ≡ told_of self.old }
-        ensures held { held_of self.new ≡ held_of self.old }
-        ensures sure { is_sure self.new ≡ is_sure self.old }
-        ensures cause { HasCause (faults_of self.old) (faults_of self.new)
+        ensures told { program_told self.new ≡ program_told self.old }
+        ensures held { program_held self.new ≡ program_held self.old }
+        ensures sure { is_program_sure self.new ≡ is_program_sure self.old }
+        ensures cause { HasCause (program_faults self.old) (program_faults self.new)
             (IsErrOf result store_error.Failed) }
         ensures path { path_of self.new ≡ path_of self.old }
     {

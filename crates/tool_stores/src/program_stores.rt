@@ -1,7 +1,7 @@
 //! Who makes the stores of the program.
 
 ghost use Rattle.std.specs.Prelude.{◌≡◌, ◌<◌, ◌++◌, ◌∷◌, [], IfOk, IsTrue, None, OnErr, Some, map, option_map, vec_capacity, vec_len};
-ghost use Rattle.tool_stores.specs.ProgramStore.{faults_of, held_of, is_sure, path_of, told_of};
+ghost use Rattle.tool_stores.specs.ProgramStore.{program_faults, program_held, is_program_sure, path_of, program_told};
 ghost use Rattle.tool_stores.specs.StorePath.{store_path};
 
 use crate::maker::StoreMaker;
@@ -70,10 +70,10 @@ impl<'a, R: Files + Sync> StoreMaker for ProgramStores<'a, R> {
         dir: Option<&Text>,
         partition: usize,
     ) -> Result<ProgramStore<&'a R>, AllocError>
-        ensures held { IfOk result (λ s. held_of s ≡ 0) }
-        ensures faults { IfOk result (λ s. faults_of s ≡ 0) }
-        ensures tells { dir.entry ≡ None → IfOk result (λ s. told_of s ≡ Some []) }
-        ensures sure { dir.entry ≡ None → IfOk result (λ s. IsTrue (is_sure s)) }
+        ensures held { IfOk result (λ s. program_held s ≡ 0) }
+        ensures faults { IfOk result (λ s. program_faults s ≡ 0) }
+        ensures tells { dir.entry ≡ None → IfOk result (λ s. program_told s ≡ Some []) }
+        ensures sure { dir.entry ≡ None → IfOk result (λ s. IsTrue (is_program_sure s)) }
         ensures path { IfOk result
             (λ s. path_of s ≡ store_path (option_map (λ d. d.now) dir.entry) partition) }
         ensures made { IfOk result (λ s. self.new ≡ self.old ++ path_of s ∷ []) }

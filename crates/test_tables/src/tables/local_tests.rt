@@ -10,7 +10,7 @@ ghost use Rattle.pipe_groups.specs.Shape.{shape_of};
 ghost use Rattle.pipe_model.specs.Output.{key_types};
 ghost use Rattle.pipe_spill.specs.SpillRow.{HasValues, IsRow, spilled};
 ghost use Rattle.pipe_tables.specs.Buffers.{is_taken_lent, with_none};
-ghost use Rattle.pipe_tables.specs.LocalTable.{NoneWaits, with_buffers, with_row};
+ghost use Rattle.pipe_tables.specs.LocalTable.{NoneWaits, with_buffers, local_with_row};
 ghost use Rattle.pipe_keyed.specs.Tables.{TakesOne};
 
 use crate::tables::table_tests::{assert_numbers, given};
@@ -106,7 +106,7 @@ fn insert(
         (spilled table.old.table.shape.key_types (row_at rows.now row)) }
     requires few { TakesOne table.old.table }
     ensures { is_taken_lent result ≡ true → table.new
-        ≡ with_row (spilled table.old.table.shape.key_types (row_at rows.now row)) table.old }
+        ≡ local_with_row (spilled table.old.table.shape.key_types (row_at rows.now row)) table.old }
 {
     match table.insert_lent(key, rows, row) {
         LentLocalEnd::Memory => table.insert_lent(key, rows, row),
@@ -130,7 +130,7 @@ fn take(
     requires shape { table.old.table.shape ≡ shape_of (query_tree query.now) }
     requires few { TakesOne table.old.table }
     ensures { OnOk result (table.new
-        ≡ with_row (spilled (key_types (query_tree query.now)) (row_at rows.now row)) table.old) }
+        ≡ local_with_row (spilled (key_types (query_tree query.now)) (row_at rows.now row)) table.old) }
 {
     encode_row(key, rows, row, query.key_types())?;
     match insert(table, key, rows, row) {

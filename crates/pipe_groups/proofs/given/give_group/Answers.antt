@@ -5,7 +5,7 @@ use Rattle.pipe_running.specs.declared.function.AggregateFunction.{AggregateFunc
 use Rattle.pipe_running.specs.declared.interface.Finalized.{Finalized}
 use Rattle.pipe_running.specs.GroupStates.{given_all}
 use Rattle.pipe_running.specs.States.{given, output_values}
-use Rattle.pipe_groups.specs.Columns.{columns_of, with_values_at}
+use Rattle.pipe_groups.specs.Columns.{columns_of_unfinished, with_values_at}
 use Rattle.pipe_groups.proofs.ColumnFacts.{with_values_at-more}
 use Rattle.pipe_groups.proofs.GivenFacts.{block-at, given-le, given-more, head-same, length-block, rest-same}
 use Rattle.pipe_groups.proofs.given.give_group.Goals as goal
@@ -46,8 +46,8 @@ loop-j-preserved c =
     record {
       at = omega (arith, c.give_at-at.ensures.next, inv.at, ap length more, length-append (given_all (take j block)) (output_values c.finalize.result));
       columns = c.give_at-at.ensures.columns ∙ ap (with_values_at c.loop-j.at (output_values c.finalize.result)) inv.columns
-          ∙ with_values_at-more 0 (given_all (take j block)) (output_values c.finalize.result) (columns_of c.args.columns.now) c.loop-j.at (omega (arith, inv.at))
-          ∙ ap (λ (vs : List AnyValue). with_values_at 0 vs (columns_of c.args.columns.now)) (sym more);
+          ∙ with_values_at-more 0 (given_all (take j block)) (output_values c.finalize.result) (columns_of_unfinished c.args.columns.now) c.loop-j.at (omega (arith, inv.at))
+          ∙ ap (λ (vs : List AnyValue). with_values_at 0 vs (columns_of_unfinished c.args.columns.now)) (sym more);
       room = λ n h. rw c.give_at-at.ensures.next (c.give_at-at.ensures.room n (inv.room n h));
       before = take-set-le c.args.start c.loop-j.states (c.args.start + j) c.finalize.new.self (omega arith) ∙ inv.before;
       behind = ap (λ (k : ℕ). drop k (set c.loop-j.states (c.args.start + j) c.finalize.new.self)) (omega arith)

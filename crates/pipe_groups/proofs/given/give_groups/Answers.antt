@@ -5,7 +5,7 @@ use Rattle.std.proofs.lemmas.List.Elements.{All-head, All-tail}
 use Rattle.pipe_columns.specs.declared.any_value.AnyValue.{AnyValue}
 use Rattle.pipe_running.specs.declared.function.AggregateFunction.{AggregateFunction}
 use Rattle.pipe_running.specs.GroupStates.{given_all}
-use Rattle.pipe_groups.specs.Columns.{columns_of, HaveRoom, states_at, with_rows, with_values}
+use Rattle.pipe_groups.specs.Columns.{columns_of_unfinished, HaveRoom, states_at, with_rows, with_values}
 use Rattle.pipe_groups.proofs.GivenFacts.{other-block, others-apart, rows-more}
 use Rattle.pipe_groups.proofs.given.give_groups.Goals as goal
 
@@ -33,8 +33,8 @@ loop-index-preserved c =
     let rows : map row (take k taken) ++ row i ∷ [] ≡ map row (take (k + 1) taken) = sym (ap (map row) (take_more taken k 0 lt) ∙ map-append row (take k taken) (i ∷ [])) in
     record {
       rest = λ m d h. other-block n i (get_or (drop (k + 1) taken) m d) c.loop-index.states c.give_group.new.states (apart m d h) c.give_group.ensures.before c.give_group.ensures.behind ∙ others m d h;
-      columns = c.give_group.ensures.columns ∙ ap (λ (s : List AggregateFunction). with_values (given_all s) (columns_of c.loop-index.columns)) here
-          ∙ ap (with_values (row i)) c.loop-index.invariant.columns ∙ rows-more (map row (take k taken)) (row i) (columns_of c.args.columns.now)
-          ∙ ap (λ (rs : List (List AnyValue)). with_rows rs (columns_of c.args.columns.now)) rows;
+      columns = c.give_group.ensures.columns ∙ ap (λ (s : List AggregateFunction). with_values (given_all s) (columns_of_unfinished c.loop-index.columns)) here
+          ∙ ap (with_values (row i)) c.loop-index.invariant.columns ∙ rows-more (map row (take k taken)) (row i) (columns_of_unfinished c.args.columns.now)
+          ∙ ap (λ (rs : List (List AnyValue)). with_rows rs (columns_of_unfinished c.args.columns.now)) rows;
       room = c.give_group.ensures.room (length taken - (k + 1)) (subst (λ (r : ℕ). HaveRoom r c.loop-index.columns) (omega (arith, lt)) c.loop-index.invariant.room);
     }

@@ -1,5 +1,5 @@
 use Rattle.std.proofs.Common.{◌∙◌, ◌+◌, ℕ, [], ◌∷◌, ap, subst, arith}
-use Rattle.pipe_groups.specs.Columns.{columns_of, HaveRoomFrom, with_values_at}
+use Rattle.pipe_groups.specs.Columns.{columns_of_unfinished, HaveRoomFrom, with_values_at}
 use Rattle.pipe_groups.proofs.ColumnFacts.{with_values_at-more}
 use Rattle.pipe_groups.proofs.unfinished.give_at.Goals as goal
 
@@ -13,7 +13,7 @@ pub returns-in-Pair-clause-columns : goal.returns-in-Pair-clause-columns
 returns-in-Pair-clause-columns c =
     rw c.in-Pair.is (c.place_at-in-Pair-2.ensures.columns
     ∙ ap (with_values_at (c.args.at + 1) (c.in-Pair.second ∷ [])) c.place_at-in-Pair.ensures.columns
-    ∙ with_values_at-more c.args.at (c.in-Pair.first ∷ []) (c.in-Pair.second ∷ []) (columns_of c.args.columns.now) (c.args.at + 1) (omega arith))
+    ∙ with_values_at-more c.args.at (c.in-Pair.first ∷ []) (c.in-Pair.second ∷ []) (columns_of_unfinished c.args.columns.now) (c.args.at + 1) (omega arith))
 
 pub returns-in-Pair-clause-room : goal.returns-in-Pair-clause-room
 returns-in-Pair-clause-room c =

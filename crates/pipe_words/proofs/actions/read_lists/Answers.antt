@@ -1,7 +1,7 @@
 use Rattle.std.proofs.Common.{◌∙◌, List, Option, Vec, Global, map, option_map, sym, ap, arith, rules}
 use Rattle.std.proofs.lemmas.List.{map_push}
 use Rattle.pipe_plan.specs.declared.event.SpillAction.{SpillAction}
-use Rattle.pipe_words.specs.Actions.{list_of}
+use Rattle.pipe_words.specs.Actions.{listed_actions}
 use Rattle.pipe_words.proofs.ActionFacts.{lent_list}
 use Rattle.pipe_words.proofs.EachFacts.{given-all, given-first, given-more, given-none}
 use Rattle.pipe_words.proofs.actions.read_lists.Goals as goal
@@ -18,13 +18,13 @@ loop-i-init c = record {
 
 pub returns-in_default-clause-lists : goal.returns-in_default-clause-lists
 returns-in_default-clause-lists c =
-    let none = ap list_of (sym c.as_bytes.ensures.value) ∙ sym c.in_ok-list.ensures ∙ ap actions_in c.in_default.is in
+    let none = ap listed_actions (sym c.as_bytes.ensures.value) ∙ sym c.in_ok-list.ensures ∙ ap actions_in c.in_default.is in
     sym (given-none lent_list c.args.parts.now c.loop-i.i _ (map (λ v. v.items) c.loop-i.lists.items)
     c.loop-i-test.true none c.loop-i.invariant.given)
 
 pub loop-i-preserved : goal.loop-i-preserved
 loop-i-preserved c =
-    let one = ap list_of (sym c.as_bytes.ensures.value) ∙ sym c.in_ok-list.ensures ∙ ap actions_in c.in-Some.is in
+    let one = ap listed_actions (sym c.as_bytes.ensures.value) ∙ sym c.in_ok-list.ensures ∙ ap actions_in c.in-Some.is in
     let grew = ap (map (λ (v : Vec SpillAction Global). v.items)) c.in_ok-push.ensures.items ∙ map_push (λ (v : Vec SpillAction Global). v.items) c.loop-i.lists.items c.in-Some.list in
     record {
       given = given-more lent_list c.args.parts.now c.loop-i.i _ c.in-Some.list.items (map (λ v. v.items) c.loop-i.lists.items) _

@@ -2,9 +2,9 @@ use Rattle.std.proofs.Common.{◌≡◌, ◌∙◌, ◌++◌, ℕ, [], List, len
 use Rattle.std.proofs.lemmas.List.{length-map}
 use Rattle.pipe_columns.specs.declared.any_value.AnyValue.{AnyValue}
 use Rattle.pipe_columns.specs.Frame.{all_have_height, ColumnData, columns_from, FrameData}
-use Rattle.pipe_groups.specs.Columns.{column_of, columns_of, HaveKeys, with_rows}
+use Rattle.pipe_groups.specs.Columns.{column_of_unfinished, columns_of_unfinished, HaveKeys, with_rows}
 use Rattle.pipe_groups.specs.Given.{IsFrameOfGroups}
-use Rattle.pipe_groups.specs.Groups.{Group, group_of, keys_of, Seen}
+use Rattle.pipe_groups.specs.Groups.{Group, group_of, group_keys, Seen}
 use Rattle.pipe_groups.specs.Shape.{IsShape}
 use Rattle.pipe_groups.proofs.ColumnRows.{length-from}
 use Rattle.pipe_groups.proofs.FrameFacts.{all-high, frame-of-groups, given-are, given-fit, givens, is_there, keys-fit}
@@ -16,7 +16,7 @@ key_columns-requires-clause-keys c = keys-each c.self.inside c.args.self.now c.s
 
 pub give_all-requires-clause-columns : goal.give_all-requires-clause-columns
 give_all-requires-clause-columns c =
-    sym (length-map c.in_ok-given.given.items column_of) ∙ ap (λ (cs : List ColumnData). length cs) c.in_ok-given.ensures.columns
+    sym (length-map c.in_ok-given.given.items column_of_unfinished) ∙ ap (λ (cs : List ColumnData). length cs) c.in_ok-given.ensures.columns
     ∙ length-from 0 (drop (length c.args.self.now.shape.key_types) c.args.self.now.shape.fields) []
 
 pub finish_all-requires-clause-fit : goal.finish_all-requires-clause-fit
@@ -25,10 +25,10 @@ finish_all-requires-clause-fit c =
     let taken : List ℕ = c.args.taken.now in
     let gs : List Group = map (group_of now.groups) taken in
     let shape : IsShape now.shape = shape-is c.self.inside now c.self.view_is c.self.invariant in
-    let keys : HaveKeys now.shape.key_types (take (length now.shape.key_types) now.shape.fields) (keys_of gs) (columns_of c.in_ok-keys.keys.items) =
-    subst (λ (ks : List (List ℕ)). HaveKeys now.shape.key_types (take (length now.shape.key_types) now.shape.fields) ks (columns_of c.in_ok-keys.keys.items))
+    let keys : HaveKeys now.shape.key_types (take (length now.shape.key_types) now.shape.fields) (group_keys gs) (columns_of_unfinished c.in_ok-keys.keys.items) =
+    subst (λ (ks : List (List ℕ)). HaveKeys now.shape.key_types (take (length now.shape.key_types) now.shape.fields) ks (columns_of_unfinished c.in_ok-keys.keys.items))
     (keys-taken c.self.inside now c.self.view_is c.self.invariant taken) c.in_ok-keys.ensures in
-    keys-fit now.shape shape gs c.requires.gives (columns_of c.in_ok-keys.keys.items) keys
+    keys-fit now.shape shape gs c.requires.gives (columns_of_unfinished c.in_ok-keys.keys.items) keys
 
 pub finish_all-requires-2-clause-fit : goal.finish_all-requires-2-clause-fit
 finish_all-requires-2-clause-fit c =
@@ -36,10 +36,10 @@ finish_all-requires-2-clause-fit c =
     let taken : List ℕ = c.args.taken.now in
     let gs : List Group = map (group_of now.groups) taken in
     let shape : IsShape now.shape = shape-is c.self.inside now c.self.view_is c.self.invariant in
-    let given : columns_of c.give_all.new.columns.items ≡ with_rows (givens gs) (columns_from 0 (drop (length now.shape.key_types) now.shape.fields) []) =
-    c.give_all.ensures.columns ∙ ap (λ (rs : List (List AnyValue)). with_rows rs (columns_of c.in_ok-given.given.items)) (givens-taken c.self.inside now c.self.view_is c.self.invariant taken)
+    let given : columns_of_unfinished c.give_all.new.columns.items ≡ with_rows (givens gs) (columns_from 0 (drop (length now.shape.key_types) now.shape.fields) []) =
+    c.give_all.ensures.columns ∙ ap (λ (rs : List (List AnyValue)). with_rows rs (columns_of_unfinished c.in_ok-given.given.items)) (givens-taken c.self.inside now c.self.view_is c.self.invariant taken)
     ∙ ap (with_rows (givens gs)) c.in_ok-given.ensures.columns in
-    given-fit now.shape shape gs c.requires.gives (columns_of c.give_all.new.columns.items) given
+    given-fit now.shape shape gs c.requires.gives (columns_of_unfinished c.give_all.new.columns.items) given
 
 pub finish_all-requires-2-clause-room : goal.finish_all-requires-2-clause-room
 finish_all-requires-2-clause-room c =
@@ -48,16 +48,16 @@ finish_all-requires-2-clause-room c =
     let gs : List Group = map (group_of now.groups) taken in
     let fields = drop (length now.shape.key_types) now.shape.fields in
     let shape : IsShape now.shape = shape-is c.self.inside now c.self.view_is c.self.invariant in
-    let given : columns_of c.give_all.new.columns.items ≡ with_rows (givens gs) (columns_from 0 fields []) =
-    c.give_all.ensures.columns ∙ ap (λ (rs : List (List AnyValue)). with_rows rs (columns_of c.in_ok-given.given.items)) (givens-taken c.self.inside now c.self.view_is c.self.invariant taken)
+    let given : columns_of_unfinished c.give_all.new.columns.items ≡ with_rows (givens gs) (columns_from 0 fields []) =
+    c.give_all.ensures.columns ∙ ap (λ (rs : List (List AnyValue)). with_rows rs (columns_of_unfinished c.in_ok-given.given.items)) (givens-taken c.self.inside now c.self.view_is c.self.invariant taken)
     ∙ ap (with_rows (givens gs)) c.in_ok-given.ensures.columns in
     let after : length c.give_all.new.columns.items ≡ length fields =
-    sym (length-map c.give_all.new.columns.items column_of) ∙ ap (λ (cs : List ColumnData). length cs) (given ∙ given-are now.shape shape gs c.requires.gives) ∙ length-from 0 fields (givens gs) in
+    sym (length-map c.give_all.new.columns.items column_of_unfinished) ∙ ap (λ (cs : List ColumnData). length cs) (given ∙ given-are now.shape shape gs c.requires.gives) ∙ length-from 0 fields (givens gs) in
     let before : length c.in_ok-given.given.items ≡ length fields =
-    sym (length-map c.in_ok-given.given.items column_of) ∙ ap (λ (cs : List ColumnData). length cs) c.in_ok-given.ensures.columns ∙ length-from 0 fields [] in
+    sym (length-map c.in_ok-given.given.items column_of_unfinished) ∙ ap (λ (cs : List ColumnData). length cs) c.in_ok-given.ensures.columns ∙ length-from 0 fields [] in
     let keys : length c.finish_all.new.finished.items ≡ length c.in_ok-keys.keys.items =
-    ap (λ (cs : List ColumnData). length cs) (c.finish_all.ensures.columns ∙ ap (λ (cs : List ColumnData). cs ++ columns_of c.in_ok-keys.keys.items) c.in_ok-columns.ensures.items)
-    ∙ length-map c.in_ok-keys.keys.items column_of in
+    ap (λ (cs : List ColumnData). length cs) (c.finish_all.ensures.columns ∙ ap (λ (cs : List ColumnData). cs ++ columns_of_unfinished c.in_ok-keys.keys.items) c.in_ok-columns.ensures.items)
+    ∙ length-map c.in_ok-keys.keys.items column_of_unfinished in
     omega (
       arith,
       after,
@@ -79,12 +79,12 @@ unwrap-requires c =
     let taken : List ℕ = c.args.taken.now in
     let gs : List Group = map (group_of now.groups) taken in
     let shape : IsShape now.shape = shape-is c.self.inside now c.self.view_is c.self.invariant in
-    let front : List ColumnData = columns_of c.in_ok-keys.keys.items in
-    let back : List ColumnData = columns_of c.give_all.new.columns.items in
+    let front : List ColumnData = columns_of_unfinished c.in_ok-keys.keys.items in
+    let back : List ColumnData = columns_of_unfinished c.give_all.new.columns.items in
     let given : back ≡ with_rows (givens gs) (columns_from 0 (drop (length now.shape.key_types) now.shape.fields) []) =
-    c.give_all.ensures.columns ∙ ap (λ (rs : List (List AnyValue)). with_rows rs (columns_of c.in_ok-given.given.items)) (givens-taken c.self.inside now c.self.view_is c.self.invariant taken)
+    c.give_all.ensures.columns ∙ ap (λ (rs : List (List AnyValue)). with_rows rs (columns_of_unfinished c.in_ok-given.given.items)) (givens-taken c.self.inside now c.self.view_is c.self.invariant taken)
     ∙ ap (with_rows (givens gs)) c.in_ok-given.ensures.columns in
-    let keys : HaveKeys now.shape.key_types (take (length now.shape.key_types) now.shape.fields) (keys_of gs) front =
+    let keys : HaveKeys now.shape.key_types (take (length now.shape.key_types) now.shape.fields) (group_keys gs) front =
     subst (λ (ks : List (List ℕ)). HaveKeys now.shape.key_types (take (length now.shape.key_types) now.shape.fields) ks front)
     (keys-taken c.self.inside now c.self.view_is c.self.invariant taken) c.in_ok-keys.ensures in
     let all : c.finish_all-2.new.finished.items ≡ front ++ back =
@@ -98,12 +98,12 @@ returns-clause-frame c =
     let taken : List ℕ = c.args.taken.now in
     let gs : List Group = map (group_of now.groups) taken in
     let shape : IsShape now.shape = shape-is c.self.inside now c.self.view_is c.self.invariant in
-    let front : List ColumnData = columns_of c.in_ok-keys.keys.items in
-    let back : List ColumnData = columns_of c.give_all.new.columns.items in
+    let front : List ColumnData = columns_of_unfinished c.in_ok-keys.keys.items in
+    let back : List ColumnData = columns_of_unfinished c.give_all.new.columns.items in
     let given : back ≡ with_rows (givens gs) (columns_from 0 (drop (length now.shape.key_types) now.shape.fields) []) =
-    c.give_all.ensures.columns ∙ ap (λ (rs : List (List AnyValue)). with_rows rs (columns_of c.in_ok-given.given.items)) (givens-taken c.self.inside now c.self.view_is c.self.invariant taken)
+    c.give_all.ensures.columns ∙ ap (λ (rs : List (List AnyValue)). with_rows rs (columns_of_unfinished c.in_ok-given.given.items)) (givens-taken c.self.inside now c.self.view_is c.self.invariant taken)
     ∙ ap (with_rows (givens gs)) c.in_ok-given.ensures.columns in
-    let keys : HaveKeys now.shape.key_types (take (length now.shape.key_types) now.shape.fields) (keys_of gs) front =
+    let keys : HaveKeys now.shape.key_types (take (length now.shape.key_types) now.shape.fields) (group_keys gs) front =
     subst (λ (ks : List (List ℕ)). HaveKeys now.shape.key_types (take (length now.shape.key_types) now.shape.fields) ks front)
     (keys-taken c.self.inside now c.self.view_is c.self.invariant taken) c.in_ok-keys.ensures in
     let all : c.finish_all-2.new.finished.items ≡ front ++ back =

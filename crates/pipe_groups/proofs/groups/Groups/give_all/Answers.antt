@@ -5,7 +5,7 @@ use Rattle.pipe_columns.proofs.FrameFacts.{whole}
 use Rattle.pipe_running.specs.declared.function.AggregateFunction.{AggregateFunction}
 use Rattle.pipe_running.specs.GroupStates.{given_all}
 use Rattle.pipe_groups.specs.declared.unfinished.Unfinished.{Unfinished}
-use Rattle.pipe_groups.specs.Columns.{columns_of, states_at, with_rows}
+use Rattle.pipe_groups.specs.Columns.{columns_of_unfinished, states_at, with_rows}
 use Rattle.pipe_groups.specs.Groups.{group_of}
 use Rattle.pipe_groups.proofs.TakenFacts.{blocks-give, blocks-long, blocks-within}
 use Rattle.pipe_groups.proofs.groups.Groups.give_all.Goals as goal
@@ -35,5 +35,5 @@ returns-clause-columns c =
     let rows : map (λ i. given_all (states_at c.len.result i c.deref_mut.result.now)) taken ≡ _ =
     ap (λ (ss : List AggregateFunction). map (λ i. given_all (states_at c.len.result i ss)) taken) c.deref_mut.ensures.value
     ∙ blocks-give c.self.inside c.args.self.now c.self.view_is c.self.invariant taken c.requires.within c.requires.gives c.len.result width in
-    ap columns_of back ∙ c.give_groups.ensures ∙ ap (λ (rs : List (List AnyValue)). with_rows rs (columns_of c.deref_mut-2.result.now)) rows
-    ∙ ap (λ (us : List Unfinished). with_rows (map (λ i. given_all (group_of c.args.self.now.groups i).states) taken) (columns_of us)) c.deref_mut-2.ensures.value
+    ap columns_of_unfinished back ∙ c.give_groups.ensures ∙ ap (λ (rs : List (List AnyValue)). with_rows rs (columns_of_unfinished c.deref_mut-2.result.now)) rows
+    ∙ ap (λ (us : List Unfinished). with_rows (map (λ i. given_all (group_of c.args.self.now.groups i).states) taken) (columns_of_unfinished us)) c.deref_mut-2.ensures.value

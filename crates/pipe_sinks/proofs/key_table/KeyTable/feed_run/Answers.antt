@@ -3,7 +3,7 @@ use Rattle.pipe_columns.specs.Key.{code}
 use Rattle.pipe_inputs.specs.ChunkRows.{row_at}
 use Rattle.pipe_spill.specs.declared.spill_row.SpillRow.{SpillRow}
 use Rattle.pipe_groups.specs.GroupRuns.{keep_no_text}
-use Rattle.pipe_groups.specs.Groups.{keys_of}
+use Rattle.pipe_groups.specs.Groups.{group_keys}
 use Rattle.pipe_groups.specs.Holds.{HoldFewer, Holds}
 use Rattle.pipe_keyed.specs.Keyed.{IsAt}
 use Rattle.pipe_sinks.specs.KeyRuns.{IsRun, run_rows}
@@ -70,7 +70,7 @@ invariant_of-self c =
 pub returns-clause-stay : goal.returns-clause-stay
 returns-clause-stay c =
     let t : Table = table_in c.self.inside in
-    subst (λ (x : Table). KeysStay x (table_of c.feed_run.new.self)) c.self.view_is (keys-stay t (table_of c.feed_run.new.self) (ap keys_of c.feed_run.ensures.groups.0 ∙ keys-set t.groups c.args.index _ refl))
+    subst (λ (x : Table). KeysStay x (table_of c.feed_run.new.self)) c.self.view_is (keys-stay t (table_of c.feed_run.new.self) (ap group_keys c.feed_run.ensures.groups.0 ∙ keys-set t.groups c.args.index _ refl))
 
 pub returns-clause-holds : goal.returns-clause-holds
 returns-clause-holds c =

@@ -1,7 +1,7 @@
 use Rattle.std.proofs.Common.{◌≡◌, take}
-use Rattle.pipe_groups.specs.Groups.{keys_of}
+use Rattle.pipe_groups.specs.Groups.{group_keys}
 use Rattle.pipe_tables.specs.Parts.{marks_in}
 use Rattle.pipe_tables.proofs.parts.Parts.of.Given as goal
 
 abbrev pub invariant-loop-index : goal.invariant-loop-index
-invariant-loop-index l = l.chains.marks ≡ marks_in l.partitions (keys_of (take l.index l.keyed.groups))
+invariant-loop-index l = l.chains.marks ≡ marks_in l.partitions (group_keys (take l.index l.keyed.groups))

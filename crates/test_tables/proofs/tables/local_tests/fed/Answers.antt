@@ -17,7 +17,7 @@ use Rattle.pipe_spill.specs.declared.spill_row.SpillRow.{SpillRow}
 use Rattle.pipe_groups.specs.Shape.{IsShape, shape_of}
 use Rattle.pipe_plan.specs.declared.limits.Limits.{Limits}
 use Rattle.pipe_tables.specs.After.{IsAfter, waiting_of}
-use Rattle.pipe_tables.specs.LocalTable.{Local, with_row}
+use Rattle.pipe_tables.specs.LocalTable.{Local, local_with_row}
 use Rattle.pipe_keyed.specs.Tables.{TakesOne}
 use Rattle.pipe_tables.proofs.AfterFacts.{after-next, after-none, after-room}
 use Rattle.pipe_tables.proofs.ChunkValues.{chunk-values}
@@ -65,8 +65,8 @@ loop-row-preserved c =
     let n = c.loop-row.row in
     let some : n < length rows = omega (arith, count q c.args.chunk.now.frame rows refl, c.height-height.ensures.height, c.loop-row-test.true) in
     let shape : IsShape (shape_of q) = record { query = q; of_query = refl; groupable = c.query.ensures.groupable } in
-    let made : c.take.new.table ≡ with_row (spilled (key_types q) (row_at rows n)) c.loop-row.table =
-    c.in_ok-take.ensures ∙ ap (λ (rs : List Row). with_row (spilled (key_types q) (row_at rs n)) c.loop-row.table) c.in_ok-rows.ensures.rows in
+    let made : c.take.new.table ≡ local_with_row (spilled (key_types q) (row_at rows n)) c.loop-row.table =
+    c.in_ok-take.ensures ∙ ap (λ (rs : List Row). local_with_row (spilled (key_types q) (row_at rs n)) c.loop-row.table) c.in_ok-rows.ensures.rows in
     subst (λ (t : Local). IsAfter c.args.limits.now (shape_of q) (take (n + 1) rows) t) (sym made)
     (after-next c.args.limits.now (shape_of q) rows n c.loop-row.table c.requires.generic c.requires.limits shape all some c.loop-row.invariant)
 

@@ -9,7 +9,7 @@ use Rattle.pipe_spill.specs.SpillRow.{HasValues, spilled}
 use Rattle.pipe_spill.proofs.SpilledRows.{spilled_is_row}
 use Rattle.pipe_groups.specs.Shape.{Shape}
 use Rattle.pipe_tables.specs.Buffers.{is_taken_lent}
-use Rattle.pipe_tables.specs.LocalTable.{with_row}
+use Rattle.pipe_tables.specs.LocalTable.{local_with_row}
 use Rattle.test_tables.proofs.tables.local_tests.take.Goals as goal
 
 pub insert-requires-clause-typed : goal.insert-requires-clause-typed
@@ -22,9 +22,9 @@ insert-requires-clause-typed c =
 pub returns-in_ok-push-in-Done : goal.returns-in_ok-push-in-Done
 returns-in_ok-push-in-Done c =
     c.insert.ensures (ap is_taken_lent c.in-Done.is)
-    ∙ ap (λ (h : Shape). with_row (spilled h.key_types (row_at c.args.rows.now c.args.row)) c.args.table.now) c.requires.shape
+    ∙ ap (λ (h : Shape). local_with_row (spilled h.key_types (row_at c.args.rows.now c.args.row)) c.args.table.now) c.requires.shape
 
 pub returns-in_ok-push-in-Payload : goal.returns-in_ok-push-in-Payload
 returns-in_ok-push-in-Payload c =
     c.insert.ensures (ap is_taken_lent c.in-Payload.is)
-    ∙ ap (λ (h : Shape). with_row (spilled h.key_types (row_at c.args.rows.now c.args.row)) c.args.table.now) c.requires.shape
+    ∙ ap (λ (h : Shape). local_with_row (spilled h.key_types (row_at c.args.rows.now c.args.row)) c.args.table.now) c.requires.shape
