@@ -20,7 +20,7 @@ use std::alloc::{AllocError, Global};
 
 /// The field that a pair of a name and a type's name is.
 fn field(alloc: Global, json: &Value) -> Result<Option<Field>, AllocError>
-    ensures { IfOk result (λ o. o ≡ spec.field_of (view json.now)) }
+    ensures { IfOk result (λ o. o ≡ spec.json_field (view json.now)) }
 {
     let Some((name, dtype)) = pair(json) else {
         return Ok(None);
@@ -38,7 +38,7 @@ fn field(alloc: Global, json: &Value) -> Result<Option<Field>, AllocError>
 /// The fields of a list of pairs.
 fn fields(alloc: Global, list: &[Value]) -> Result<Option<Vec<Field>>, AllocError>
     ensures { IfOk result
-        (λ o. option_map (λ v. v.items) o ≡ spec.fields_of (items_view list.now)) }
+        (λ o. option_map (λ v. v.items) o ≡ spec.json_fields (items_view list.now)) }
 {
     let mut fields = Vec::new(alloc);
     for value in list {
@@ -93,7 +93,7 @@ fn add_member(
     name: &str,
 ) -> Result<Option<Vec<Node>>, AllocError>
     ensures { IfOk result
-        (λ o. AreAdded (spec.list_of (get name.now (view json.now))) arena.old arena.new
+        (λ o. AreAdded (spec.json_exprs (get name.now (view json.now))) arena.old arena.new
         (option_map (λ v. v.items) o)) }
 {
     let Some(member) = json.get(name) else {
