@@ -132,6 +132,7 @@ module _ (r : Run) (chunks : List DataChunk) (query : QueryTree) (alike : AreAli
       let sent : (λ w. payloads other w p) ≡ (λ w. payloads r w p) = λ i w. payloads-alike w p i in
       record {
         names = are.names;
+        some = are.some;
         rows = are.rows ∙ ap (λ (f : ℕ → List (List Row)). map (λ part. flat_map (λ (n : PieceName). slice_index_or (f n.worker) n.number []) part) are.names) sent;
         apart = are.apart;
         pieces = subst (λ (f : ℕ → List (List Row)). All (λ (n : PieceName). (n.worker < r.limits.workers) × (n.number < length (f n.worker))) (joined_lists are.names)) sent are.pieces;

@@ -33,6 +33,7 @@ impl Naming for Brand {
         payload_limit = 0;
       };
       actions = [];
+      rules = [];
       is_open = false;
       stores = [];
     } };

@@ -54,16 +54,16 @@ sole-suited sink_kind.Text types typed suited = sole-of is_string narrow-string 
 
 -- ---- the run
 
-pub typed-begun : {A V : Type 0} (seen : A → StoreSeen) (items : V → List SpillAction) (q asked : Query) (l limits : Limits) (lists : List V) (stores now : List A) (n : ℕ) (sinks : List Run) (chunks : List DataChunk)
+pub typed-begun : {A V : Type 0} (seen : A → StoreSeen) (items : V → List SpillAction) (q asked : Query) (l limits : Limits) (lists : List V) (rules : List SpillAction) (stores now : List A) (n : ℕ) (sinks : List Run) (chunks : List DataChunk)
     → q ≡ asked → l ≡ limits → n ≡ length lists → now ≡ stores → limits_fit limits n (map (λ s. (seen s).held) now) ≡ true → first_fault asked ≡ None
     → suits_keys limits.sink (key_types (query_tree asked)) ≡ true → is_generic limits.sink ≡ false → length sinks ≡ limits.workers → All (λ s. s ≡ record { query = q; partitions = limits.partitions; taken = [] }) sinks
-    → chunks ≡ [] → IsTypedRun (record { query = q; limits = l; actions = map items lists; stores = map seen stores }) chunks sinks 0
-typed-begun seen items q asked l limits lists stores now n sinks chunks query copied same alike fit faultless suited typed count unused none =
-    let x : Setting = record { query = q; limits = limits; actions = map items lists; stores = map seen stores } in
-    subst (λ (l : Limits). IsTypedRun (record { query = q; limits = l; actions = map items lists; stores = map seen stores }) chunks sinks 0) (sym copied) (subst (λ (cs : List DataChunk). IsTypedRun x cs sinks 0) (sym none) (record {
+    → chunks ≡ [] → IsTypedRun (record { query = q; limits = l; actions = map items lists; rules = rules; stores = map seen stores }) chunks sinks 0
+typed-begun seen items q asked l limits lists rules stores now n sinks chunks query copied same alike fit faultless suited typed count unused none =
+    let x : Setting = record { query = q; limits = limits; actions = map items lists; rules = rules; stores = map seen stores } in
+    subst (λ (l : Limits). IsTypedRun (record { query = q; limits = l; actions = map items lists; rules = rules; stores = map seen stores }) chunks sinks 0) (sym copied) (subst (λ (cs : List DataChunk). IsTypedRun x cs sinks 0) (sym none) (record {
       typed = typed;
       begin = record {
-        fit = fits-setting seen items q limits lists stores now n same alike ∙ fit;
+        fit = fits-setting seen items q limits lists rules stores now n same alike ∙ fit;
         faultless = ap first_fault query ∙ faultless;
         suited = ap (λ (q : Query). suits_keys limits.sink (key_types (query_tree q))) query ∙ suited;
       };

@@ -1,6 +1,6 @@
 //! A run before its first chunk.
 
-ghost use Rattle.std.specs.Prelude.{◌≡◌, [], IfErr, IfOk, None, OnOk, map, true, vec_len};
+ghost use Rattle.std.specs.Prelude.{◌≡◌, ◌==◌, ◌&&◌, [], IfErr, IfOk, None, OnOk, map, true, vec_len};
 ghost use Rattle.pipe_aggs.specs.Faults.{first_fault};
 ghost use Rattle.pipe_aggs.specs.QueryTrees.{query_tree};
 ghost use Rattle.pipe_model.specs.Output.{key_types};
@@ -39,6 +39,81 @@ impl<'a, S: SpillStore + Drop + Send> GroupByRun<'a, S> {
           query = query.now;
           limits = limits.now;
           actions = map (λ v. v.items) actions.items;
+          rules = [];
+          stores = stores_seen S.held S.told S.faults S.sure stores.items;
+        }) }
+        ensures chunks { IfOk result (λ r. r.chunks ≡ []) }
+        ensures counted { IfOk result (λ r. NoneFell
+            (stores_seen S.held S.told S.faults S.sure stores.items) r.stores) }
+        ensures cause { IfErr result (λ e. IsBeginCause
+            (limits_fit limits.now (vec_len actions) (map (λ s. S.held s) stores.items))
+            (first_fault query.now)
+            (suits_keys limits.now.sink (key_types (query_tree query.now))) e.0) }
+        ensures back { IfErr result (λ e. e.1.items ≡ stores.items) }
+    {
+        GroupByRun::begun(rt, alloc, query, limits, actions, Vec::new(alloc), stores)
+    }
+
+    /// Such a run in which each worker has a rule: the action that follows each of its turns past its
+    /// list. Another number of rules than of workers is refused with `Limits` too.
+    pub fn begin_by_rules<H: Wait>(
+        rt: &H,
+        alloc: Global,
+        query: &'a Query,
+        limits: &Limits,
+        actions: Vec<Vec<SpillAction>>,
+        rules: Vec<SpillAction>,
+        stores: Vec<S>,
+    ) -> Result<GroupByRun<'a, S>, (PipeError, Vec<S>)>
+        ensures fit { OnOk result
+            (limits_fit limits.now (vec_len actions) (map (λ s. S.held s) stores.items) ≡ true) }
+        ensures each { OnOk result (vec_len rules ≡ limits.now.workers) }
+        ensures faultless { OnOk result (first_fault query.now ≡ None) }
+        ensures suited { OnOk result
+            (suits_keys limits.now.sink (key_types (query_tree query.now)) ≡ true) }
+        ensures setting { IfOk result (λ r. r.setting ≡ record {
+          query = query.now;
+          limits = limits.now;
+          actions = map (λ v. v.items) actions.items;
+          rules = rules.items;
+          stores = stores_seen S.held S.told S.faults S.sure stores.items;
+        }) }
+        ensures chunks { IfOk result (λ r. r.chunks ≡ []) }
+        ensures counted { IfOk result (λ r. NoneFell
+            (stores_seen S.held S.told S.faults S.sure stores.items) r.stores) }
+        ensures cause { IfErr result (λ e. IsBeginCause
+            (limits_fit limits.now (vec_len actions) (map (λ s. S.held s) stores.items)
+            && (vec_len rules == limits.now.workers))
+            (first_fault query.now)
+            (suits_keys limits.now.sink (key_types (query_tree query.now))) e.0) }
+        ensures back { IfErr result (λ e. e.1.items ≡ stores.items) }
+    {
+        if rules.len() != limits.workers {
+            return Err((PipeError::Limits, stores));
+        }
+        GroupByRun::begun(rt, alloc, query, limits, actions, rules, stores)
+    }
+
+    /// Such a run with any number of rules.
+    fn begun<H: Wait>(
+        rt: &H,
+        alloc: Global,
+        query: &'a Query,
+        limits: &Limits,
+        actions: Vec<Vec<SpillAction>>,
+        rules: Vec<SpillAction>,
+        stores: Vec<S>,
+    ) -> Result<GroupByRun<'a, S>, (PipeError, Vec<S>)>
+        ensures fit { OnOk result
+            (limits_fit limits.now (vec_len actions) (map (λ s. S.held s) stores.items) ≡ true) }
+        ensures faultless { OnOk result (first_fault query.now ≡ None) }
+        ensures suited { OnOk result
+            (suits_keys limits.now.sink (key_types (query_tree query.now)) ≡ true) }
+        ensures setting { IfOk result (λ r. r.setting ≡ record {
+          query = query.now;
+          limits = limits.now;
+          actions = map (λ v. v.items) actions.items;
+          rules = rules.items;
           stores = stores_seen S.held S.told S.faults S.sure stores.items;
         }) }
         ensures chunks { IfOk result (λ r. r.chunks ≡ []) }
@@ -51,14 +126,14 @@ impl<'a, S: SpillStore + Drop + Send> GroupByRun<'a, S> {
         ensures back { IfErr result (λ e. e.1.items ≡ stores.items) }
     {
         if !is_generic(limits.sink) {
-            return match TypedRun::begin(alloc, query, limits, actions, stores) {
+            return match TypedRun::begin(alloc, query, limits, actions, rules, stores) {
                 Ok(run) => Ok(GroupByRun {
                     kind: Kind::Typed(run),
                 }),
                 Err(refusal) => Err(refusal),
             };
         }
-        match GenericRun::begin(rt, alloc, query, limits, actions, stores) {
+        match GenericRun::begin(rt, alloc, query, limits, actions, rules, stores) {
             Ok(run) => Ok(GroupByRun {
                 kind: Kind::Generic(run),
             }),

@@ -46,6 +46,7 @@ impl<'a, S: SpillStore + Drop> TypedRun<'a, S> {
         query: &'a Query,
         limits: &Limits,
         actions: Vec<Vec<SpillAction>>,
+        rules: Vec<SpillAction>,
         stores: Vec<S>,
     ) -> Result<TypedRun<'a, S>, (PipeError, Vec<S>)>
         requires typed { is_generic limits.now.sink ≡ false }
@@ -58,6 +59,7 @@ impl<'a, S: SpillStore + Drop> TypedRun<'a, S> {
           query = query.now;
           limits = limits.now;
           actions = map (λ v. v.items) actions.items;
+          rules = rules.items;
           stores = stores_seen S.held S.told S.faults S.sure stores.items;
         }) }
         ensures chunks { IfOk result (λ r. r.chunks ≡ []) }
@@ -81,6 +83,7 @@ impl<'a, S: SpillStore + Drop> TypedRun<'a, S> {
             query,
             limits: copy_of(limits),
             actions,
+            rules,
             stores,
             sinks,
             chunks: Vec::new(alloc),

@@ -22,6 +22,7 @@ pub(crate) struct TypedRun<'a, S: SpillStore + Drop> {
     pub(crate) query: CheckedQuery<'a>,
     pub(crate) limits: Limits,
     pub(crate) actions: Vec<Vec<SpillAction>>,
+    pub(crate) rules: Vec<SpillAction>,
     pub(crate) stores: Vec<S>,
     pub(crate) sinks: Vec<PausedSink>,
     pub(crate) chunks: Vec<Snapshot<DataChunk>>,
@@ -41,6 +42,7 @@ impl<'a, S: SpillStore + Drop> Model for TypedRun<'a, S> {
       query = r.query;
       limits = r.limits;
       actions = map (λ v. v.items) r.actions.items;
+      rules = r.rules.items;
       stores = stores_seen S.held S.told S.faults S.sure r.stores.items;
     }) (map (λ c. c.value) r.chunks.items) };
 
@@ -48,6 +50,7 @@ impl<'a, S: SpillStore + Drop> Model for TypedRun<'a, S> {
       query = r.query;
       limits = r.limits;
       actions = map (λ v. v.items) r.actions.items;
+      rules = r.rules.items;
       stores = stores_seen S.held S.told S.faults S.sure r.stores.items;
     }) (map (λ c. c.value) r.chunks.items) r.sinks.items r.rows × (r.journal ≡ []) };
 }

@@ -22,6 +22,7 @@ pub(crate) fn run_typed<S: SpillStore + Drop, H: Threads + Sync>(
     query: &Query,
     limits: &Limits,
     actions: Vec<Vec<SpillAction>>,
+    rules: Vec<SpillAction>,
     stores: Vec<S>,
 ) -> (Result<GroupByOutput, PipeError>, Vec<S>)
     requires typed { is_generic limits.now.sink ≡ false }
@@ -29,10 +30,11 @@ pub(crate) fn run_typed<S: SpillStore + Drop, H: Threads + Sync>(
       query = query.now;
       limits = limits.now;
       actions = map (λ v. v.items) actions.items;
+      rules = rules.items;
       stores = stores_seen S.held S.told S.faults S.sure stores.items;
     }) chunks.items result.0 (stores_seen S.held S.told S.faults S.sure result.1.items) }
 {
-    let run = match TypedRun::begin(alloc, query, limits, actions, stores) {
+    let run = match TypedRun::begin(alloc, query, limits, actions, rules, stores) {
         Ok(run) => run,
         Err((error, stores)) => return (Err(error), stores),
     };

@@ -15,6 +15,7 @@ pub mod AllRows
 pub mod Fronts
 pub mod Counting
 pub mod Naming
+pub mod FrameRows
 pub mod ByPartition
 pub mod Dealing
 pub mod KeptKeys

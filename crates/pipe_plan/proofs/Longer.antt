@@ -37,6 +37,7 @@ goes-on r s on = λ i. record {
   query = sym on.query i;
   limits = sym on.limits i;
   actions = sym on.actions i;
+  rules = sym on.rules i;
   is_open = s.is_open;
   stores = s.stores;
 }

@@ -2,8 +2,8 @@
 use Rattle.std.proofs.Common.{◌≡◌, ◌≢◌, ℕ, ◌<◌, ◌≤◌, ◌==◌, Bool, true, false, ◌&&◌, List, [], ◌∷◌, ◌++◌, length, map, refl, ap, sym, ◌∙◌, subst, arith, append_assoc, ⊎_elim}
 use Rattle.std.specs.Prelude.{if◌then◌else◌, nat_lt}
 use Rattle.std.specs.List.{AllByRecursion, flat_map, IsDistinct}
-use Rattle.std.proofs.lemmas.Bool.{cases_eq, ne_eqb}
-use Rattle.std.proofs.lemmas.List.{append-nil, map-append}
+use Rattle.std.proofs.lemmas.Bool.{cases_eq, ltb-true, ne_eqb}
+use Rattle.std.proofs.lemmas.List.{append-nil, length-map, map-append}
 use Rattle.std.proofs.lemmas.List.Elements.{All-from_recursion, All-head, All-tail}
 use Rattle.std.proofs.lemmas.List.Folds.{flat_map-map}
 use Rattle.pipe_columns.specs.Row.{Row}
@@ -41,6 +41,7 @@ Arrived r events n = (n.worker < r.limits.workers) × (n.number < arrivals (even
 record AreNamed (r : Run) (p : ℕ) (before : List PartitionEvent) (s : Replayed) : Type 0 where
   waiting : List PieceName
   frames : List (List PieceName)
+  some : AllByRecursion (λ part. 0 < length part) frames
   waiting_rows : s.waiting ≡ map (piece_rows r p) waiting
   frame_rows : s.frames ≡ map (λ part. flat_map (piece_rows r p) part) frames
   apart : IsDistinct same_piece (joined_lists frames ++ waiting)
@@ -84,6 +85,7 @@ named-event r p before s (event.Arrive v) lt named =
     record {
       waiting = named.waiting ++ name ∷ [];
       frames = named.frames;
+      some = named.some;
       waiting_rows = ap (λ (ps : List (List Row)). ps ++ piece_rows r p name ∷ []) named.waiting_rows ∙ sym (map-append (piece_rows r p) named.waiting (name ∷ []));
       frame_rows = named.frame_rows;
       apart = subst (IsDistinct same_piece) longer (distinct-push same_piece old name named.apart (each-more (Arrived r before) (λ n. same_piece n name ≡ false) old (not_next r before v) named.arrived));
@@ -93,32 +95,44 @@ named-event r p before s (event.Arrive v) lt named =
 named-event r p before s (event.Merge v) lt named = record {
   waiting = [];
   frames = named.frames;
+  some = named.some;
   waiting_rows = refl;
   frame_rows = named.frame_rows;
   apart = subst (IsDistinct same_piece) (sym (append-nil (joined_lists named.frames))) (distinct-front same_piece (joined_lists named.frames) named.waiting named.apart);
   arrived = subst (AllByRecursion (Arrived r (before ++ event.Merge v ∷ []))) (sym (append-nil (joined_lists named.frames)))
       (each-front (Arrived r (before ++ event.Merge v ∷ [])) (joined_lists named.frames) named.waiting (still-arrived r before (event.Merge v) (joined_lists named.frames ++ named.waiting) named.arrived));
 }
-named-event r p before s (event.Dump v) lt named =
-    let put : Replayed = record s { frames = s.frames ++ joined_lists s.waiting ∷ []; waiting = [] } in
-    let names = joined_lists named.frames ++ named.waiting in
-    let still = still-arrived r before (event.Dump v) names named.arrived in
-    let all : joined_lists (named.frames ++ named.waiting ∷ []) ++ [] ≡ names =
-    append-nil (joined_lists (named.frames ++ named.waiting ∷ [])) ∙ joined-append named.frames (named.waiting ∷ []) ∙ ap (λ (l : List PieceName). joined_lists named.frames ++ l) (append-nil named.waiting) in
-    elim (nat_lt r.limits.payload_limit (length s.waiting)) as (λ b. AreNamed r p (before ++ event.Dump v ∷ []) (if b then put else s)) [
-      | true ↦ record {
-        waiting = [];
-        frames = named.frames ++ named.waiting ∷ [];
-        waiting_rows = refl;
-        frame_rows =
-            ap (λ (fs : List (List Row)). fs ++ joined_lists s.waiting ∷ []) named.frame_rows
-            ∙ ap (λ (l : List Row). map (λ part. flat_map (piece_rows r p) part) named.frames ++ l ∷ []) (ap joined_lists named.waiting_rows ∙ flat_map-map (λ (piece : List Row). piece) (piece_rows r p) named.waiting)
-            ∙ sym (map-append (λ (part : List PieceName). flat_map (piece_rows r p) part) named.frames (named.waiting ∷ []));
-        apart = subst (IsDistinct same_piece) (sym all) named.apart;
-        arrived = subst (AllByRecursion (Arrived r (before ++ event.Dump v ∷ []))) (sym all) still;
-      }
-      | false ↦ record { waiting = named.waiting; frames = named.frames; waiting_rows = named.waiting_rows; frame_rows = named.frame_rows; apart = named.apart; arrived = still }
-    ]
+named-event r p before s (event.Dump v) lt named = by (nat_lt r.limits.payload_limit (length s.waiting)) refl where
+  put : Replayed
+  put = record s { frames = s.frames ++ joined_lists s.waiting ∷ []; waiting = [] }
+
+  names : List PieceName
+  names = joined_lists named.frames ++ named.waiting
+
+  still : AllByRecursion (Arrived r (before ++ event.Dump v ∷ [])) names
+  still = still-arrived r before (event.Dump v) names named.arrived
+
+  all : joined_lists (named.frames ++ named.waiting ∷ []) ++ [] ≡ names
+  all = append-nil (joined_lists (named.frames ++ named.waiting ∷ [])) ∙ joined-append named.frames (named.waiting ∷ []) ∙ ap (λ (l : List PieceName). joined_lists named.frames ++ l) (append-nil named.waiting)
+
+  long : nat_lt r.limits.payload_limit (length s.waiting) ≡ true → 0 < length named.waiting
+  long more =
+      omega (arith, ltb-true r.limits.payload_limit (length s.waiting) more, ap (λ (l : List (List Row)). length l) named.waiting_rows ∙ length-map named.waiting (piece_rows r p))
+
+  by : (b : Bool) → nat_lt r.limits.payload_limit (length s.waiting) ≡ b → AreNamed r p (before ++ event.Dump v ∷ []) (if b then put else s)
+  by true more = record {
+    waiting = [];
+    frames = named.frames ++ named.waiting ∷ [];
+    some = each-append (λ (part : List PieceName). 0 < length part) named.frames (named.waiting ∷ []) named.some (long more, tt);
+    waiting_rows = refl;
+    frame_rows =
+        ap (λ (fs : List (List Row)). fs ++ joined_lists s.waiting ∷ []) named.frame_rows
+        ∙ ap (λ (l : List Row). map (λ part. flat_map (piece_rows r p) part) named.frames ++ l ∷ []) (ap joined_lists named.waiting_rows ∙ flat_map-map (λ (piece : List Row). piece) (piece_rows r p) named.waiting)
+        ∙ sym (map-append (λ (part : List PieceName). flat_map (piece_rows r p) part) named.frames (named.waiting ∷ []));
+    apart = subst (IsDistinct same_piece) (sym all) named.apart;
+    arrived = subst (AllByRecursion (Arrived r (before ++ event.Dump v ∷ []))) (sym all) still;
+  }
+  by false less = record { waiting = named.waiting; frames = named.frames; some = named.some; waiting_rows = named.waiting_rows; frame_rows = named.frame_rows; apart = named.apart; arrived = still }
 
 -- all events
 named-from : (r : Run) (p : ℕ) (before : List PartitionEvent) (s : Replayed) (events : List PartitionEvent) → AreOfWorkers r events → AreNamed r p before s → AreNamed r p (before ++ events) (replay_from r p before s events)
@@ -132,9 +146,10 @@ named-from r p before s (e ∷ events) ours named =
 pub frames-apart : (r : Run) (p : ℕ) (journal : List PartitionEvent) → 0 < r.limits.buffer_size → IsWithin r p journal → AreOfPieces r p (replay r p journal).frames
 unfolding IsDistinct
 frames-apart r p journal some within =
-    let named = named-from r p [] nothing_yet journal within.workers (record { waiting = []; frames = []; waiting_rows = refl; frame_rows = refl; apart = tt; arrived = tt }) in
+    let named = named-from r p [] nothing_yet journal within.workers (record { waiting = []; frames = []; some = tt; waiting_rows = refl; frame_rows = refl; apart = tt; arrived = tt }) in
     record {
       names = named.frames;
+      some = All-from_recursion (λ (part : List PieceName). 0 < length part) named.frames named.some;
       rows = named.frame_rows;
       apart = distinct-front same_piece (joined_lists named.frames) named.waiting named.apart;
       pieces = All-from_recursion (IsPiece r p) (joined_lists named.frames)

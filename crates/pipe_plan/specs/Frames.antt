@@ -23,9 +23,11 @@ piece_rows r p n = slice_index_or (payloads r n.worker p) n.number []
 abbrev pub IsPiece : Run → ℕ → PieceName → Type 0
 IsPiece r p n = (n.worker < r.limits.workers) × (n.number < length (payloads r n.worker p))
 
--- each frame is pieces of the run joined, and no piece stands in two frames or twice in one
+-- each frame is pieces of the run joined, one or more, and no piece stands in two frames or twice in
+-- one
 pub record AreOfPieces (r : Run) (p : ℕ) (frames : List (List Row)) : Type 0 where
   pub names : List (List PieceName)
+  pub some : All (λ part. 0 < length part) names
   pub rows : frames ≡ map (λ part. flat_map (piece_rows r p) part) names
   pub apart : IsDistinct same_piece (joined_lists names)
   pub pieces : All (IsPiece r p) (joined_lists names)

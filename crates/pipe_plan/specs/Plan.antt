@@ -16,11 +16,15 @@ turns_before r w n = filter (is_turn_of r w) (range_with_len 0 n)
 abbrev pub height_at : Run → ℕ → ℕ
 height_at r i = slice_index_or (map (λ c. c.frame.height) r.chunks) i 0
 
--- the action after the turn at a position, by the turn's number; none past the worker's list
+-- the action after a worker's turn, by the turn's number: that of its list, past the list that of
+-- its rule, and none where it has no rule
+abbrev pub turn_action : List (List SpillAction) → List SpillAction → ℕ → ℕ → SpillAction
+turn_action actions rules w turn =
+    slice_index_or (slice_index_or actions w []) turn (slice_index_or rules w action.None)
+
+-- the action after the turn at a position
 abbrev pub action_at : Run → ℕ → SpillAction
-action_at r i =
-    slice_index_or (slice_index_or r.actions (i % r.limits.workers) [])
-    (i / r.limits.workers) action.None
+action_at r i = turn_action r.actions r.rules (i % r.limits.workers) (i / r.limits.workers)
 
 -- the event that an action asks of a worker, if any
 abbrev pub events_of : ℕ → SpillAction → List PartitionEvent

@@ -15,6 +15,7 @@ pub record GoesOn (r s : Run) : Type 0 where
   pub query : s.query ≡ r.query
   pub limits : s.limits ≡ r.limits
   pub actions : s.actions ≡ r.actions
+  pub rules : s.rules ≡ r.rules
 
 -- a run as it was when its first n chunks were fed
 abbrev pub run_until : Run → ℕ → Run

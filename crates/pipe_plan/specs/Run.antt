@@ -21,12 +21,14 @@ pub record StoreSeen : Type 0 where
 abbrev pub tells : StoreSeen → Bool
 tells s = is_some s.told
 
--- a run: chunks fed so far, query, limits, each worker's actions, if more may follow, stores
+-- a run: chunks fed so far, query, limits, each worker's actions and its rule for all turns past
+-- them, if more may follow, stores
 pub record Run : Type 0 where
   pub chunks : List DataChunk
   pub query : QueryTree
   pub limits : Limits
   pub actions : List (List SpillAction)
+  pub rules : List SpillAction
   pub is_open : Bool
   pub stores : List StoreSeen
 

@@ -56,6 +56,7 @@ run_of query limits actions chunks = record {
   query = query;
   limits = limits;
   actions = actions;
+  rules = [];
   is_open = false;
   stores = [];
 }

@@ -1,8 +1,9 @@
 //! Laws of journals: event by event, their frames, and what is held where the plans are whole.
 
-ghost use Rattle.std.specs.Prelude.{◌≡◌, ◌<◌, ◌≤◌, ℕ, List, [], ◌∷◌, ◌++◌, length, map, false, slice_get, Some};
+ghost use Rattle.std.specs.Prelude.{◌≡◌, ◌<◌, ◌≤◌, ℕ, All, List, [], ◌∷◌, ◌++◌, length, map, false, slice_get, Some};
 ghost use Rattle.std.specs.List.{flat_map, range_with_len};
 ghost use Rattle.pipe_columns.specs.Groups.{sorted_keys};
+ghost use Rattle.pipe_columns.specs.Row.{Row};
 ghost use Rattle.pipe_model.specs.Answer.{answer, answer_of, answer_row, groups, tuple_cmp};
 ghost use Rattle.pipe_model.specs.Counts.{CountAlike};
 ghost use Rattle.pipe_model.specs.Partitions.{rows_in};
@@ -32,6 +33,12 @@ pub fn one_event_more()
 pub fn frames_share_no_piece()
     ensures { (r : Run) (p : ℕ) (journal : List PartitionEvent) → 0 < r.limits.buffer_size
         → IsWithin r p journal → AreOfPieces r p (replay r p journal).frames }
+{}
+
+/// A frame that is pieces joined has rows.
+pub fn frames_have_rows()
+    ensures { (r : Run) (p : ℕ) (frames : List (List Row)) → 0 < r.limits.buffer_size
+        → AreOfPieces r p frames → All (λ rows. 0 < length rows) frames }
 {}
 
 /// Journals within the plans that hold as many events as the plans hold the plans whole.

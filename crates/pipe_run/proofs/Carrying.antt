@@ -41,7 +41,7 @@ module _ (x : Setting) (o : Bool) (before more : List DataChunk) (faults : List 
   onto = counted_from (run_over x o (before ++ more)) faults
 
   pub on : GoesOn from onto
-  on = record { more = more; chunks = refl; query = refl; limits = refl; actions = refl }
+  on = record { more = more; chunks = refl; query = refl; limits = refl; actions = refl; rules = refl }
 
   -- what stands for a replay of the one stands for that of the other
   stands-on : (p : ℕ) (made : Replayed) (s : PartitionSeen) → length faults ≡ length x.stores → StandsFor from p made s → StandsFor onto p made s

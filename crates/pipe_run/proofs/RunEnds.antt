@@ -63,6 +63,7 @@ module _ (r s : Run) (p : ℕ) (fronts : (w : ℕ) → IsFront (payloads r w p) 
   pub pieces-on : (frames : List (List Row)) → s.limits.workers ≡ r.limits.workers → AreOfPieces r p frames → AreOfPieces s p frames
   pieces-on frames workers are = record {
     names = are.names;
+    some = are.some;
     rows = are.rows ∙ frames-on are.names are.pieces;
     apart = are.apart;
     pieces = λ k d lt.
@@ -75,7 +76,7 @@ module _ (r s : Run) (p : ℕ) (fronts : (w : ℕ) → IsFront (payloads r w p) 
 -- so they are whole frames where no chunk may follow
 pub frames-shut : (x : Setting) (chunks : List DataChunk) (stores : List StoreSeen) → 0 < x.limits.buffer_size → HaveWholeFrames (run_over x true chunks) stores → HaveWholeFrames (run_over x false chunks) stores
 frames-shut x chunks stores some all =
-    let on : GoesOn (run_over x true chunks) (run_over x false chunks) = record { more = []; chunks = sym (append-nil chunks); query = refl; limits = refl; actions = refl } in
+    let on : GoesOn (run_over x true chunks) (run_over x false chunks) = record { more = []; chunks = sym (append-nil chunks); query = refl; limits = refl; actions = refl; rules = refl } in
     record {
       count = all.count;
       each = λ p lt.
@@ -282,9 +283,9 @@ finish-ends x chunks s (Err e) stores setting fed can fell answered cause back =
 -- ---- what its calls say of the setting
 
 -- whether its limits fit is what was asked of the same lists under other names
-pub fits-setting : {A V : Type 0} (seen : A → StoreSeen) (items : V → List SpillAction) (q : Query) (l : Limits) (lists : List V) (stores now : List A) (n : ℕ) → n ≡ length lists → now ≡ stores
-    → setting_fits (record { query = q; limits = l; actions = map items lists; stores = map seen stores }) ≡ limits_fit l n (map (λ s. (seen s).held) now)
-fits-setting {A = A} seen items q l lists stores now n same alike =
+pub fits-setting : {A V : Type 0} (seen : A → StoreSeen) (items : V → List SpillAction) (q : Query) (l : Limits) (lists : List V) (rules : List SpillAction) (stores now : List A) (n : ℕ) → n ≡ length lists → now ≡ stores
+    → setting_fits (record { query = q; limits = l; actions = map items lists; rules = rules; stores = map seen stores }) ≡ limits_fit l n (map (λ s. (seen s).held) now)
+fits-setting {A = A} seen items q l lists rules stores now n same alike =
     ap (λ k. limits_fit l k (map (λ (s : StoreSeen). s.held) (map seen stores))) (length-map lists items ∙ sym same)
     ∙ ap (λ (held : List ℕ). limits_fit l n held) (map-map (λ (s : StoreSeen). s.held) seen stores ∙ ap (λ (xs : List A). map (λ s. (seen s).held) xs) (sym alike))
 

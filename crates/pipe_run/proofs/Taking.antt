@@ -51,8 +51,8 @@ module _ (x : Setting) (o : Bool) (before more : List DataChunk) (closed : List 
   pub take-turns : is_generic x.limits.sink ≡ true → IsSound x.query → AreChunksOf (query_tree x.query) (before ++ more) → TakesTurns run
   take-turns generic sound chunks = turns-on x o before more (faults_of closed) same fed.run sound chunks generic
 
-  pub take-round : (n : ℕ) → n ≡ length before → IsRoundOf run (record { first = n; chunks = more; actions = x.actions; is_open = o })
-  take-round n is = record { taken = before; chunks = refl; first = is; actions = refl; is_open = refl }
+  pub take-round : (n : ℕ) → n ≡ length before → IsRoundOf run (record { first = n; chunks = more; actions = x.actions; rules = x.rules; is_open = o })
+  take-round n is = record { taken = before; chunks = refl; first = is; actions = refl; rules = refl; is_open = refl }
 
   pub take-ready : (shares : List SharesSeen) → is_generic x.limits.sink ≡ true → length shares ≡ x.limits.workers → AreResumed closed (map (λ (c : PausedWorker). c.picks) rests) shares → StandReady run (length before) rests shares
   take-ready shares generic count resumed = by closed refl where

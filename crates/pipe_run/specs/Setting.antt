@@ -8,11 +8,13 @@ use Rattle.pipe_plan.specs.declared.event.SpillAction.{SpillAction}
 use Rattle.pipe_plan.specs.declared.limits.Limits.{Limits}
 use Rattle.pipe_plan.specs.Run.{Run, StoreSeen}
 
--- its query, its limits, each worker's actions, and the stores as they were when it was begun
+-- its query, its limits, each worker's actions and rule, and the stores as they were when it was
+-- begun
 pub record Setting : Type 0 where
   pub query : Query
   pub limits : Limits
   pub actions : List (List SpillAction)
+  pub rules : List SpillAction
   pub stores : List StoreSeen
 
 -- the run over chunks; while it is open, more may follow
@@ -22,6 +24,7 @@ run_over s is_open chunks = record {
   query = query_tree s.query;
   limits = s.limits;
   actions = s.actions;
+  rules = s.rules;
   is_open = is_open;
   stores = s.stores;
 }

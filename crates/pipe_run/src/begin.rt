@@ -68,6 +68,7 @@ impl<'a, S: SpillStore + Drop + Send> GenericRun<'a, S> {
         query: &'a Query,
         limits: &Limits,
         actions: Vec<Vec<SpillAction>>,
+        rules: Vec<SpillAction>,
         stores: Vec<S>,
     ) -> Result<GenericRun<'a, S>, (PipeError, Vec<S>)>
         requires generic { is_generic limits.now.sink ≡ true }
@@ -78,6 +79,7 @@ impl<'a, S: SpillStore + Drop + Send> GenericRun<'a, S> {
           query = query.now;
           limits = limits.now;
           actions = map (λ v. v.items) actions.items;
+          rules = rules.items;
           stores = stores_seen S.held S.told S.faults S.sure stores.items;
         }) }
         ensures chunks { IfOk result (λ r. r.chunks ≡ []) }
@@ -93,7 +95,7 @@ impl<'a, S: SpillStore + Drop + Send> GenericRun<'a, S> {
             Ok(checked) => checked,
             Err(error) => return Err((error, stores)),
         };
-        match GenericRun::before_chunks(rt, alloc, checked, limits, actions, stores) {
+        match GenericRun::before_chunks(rt, alloc, checked, limits, actions, rules, stores) {
             Ok(run) => Ok(run),
             Err((AllocError, stores)) => Err((PipeError::Memory, stores)),
         }
@@ -106,6 +108,7 @@ impl<'a, S: SpillStore + Drop + Send> GenericRun<'a, S> {
         query: CheckedQuery<'a>,
         limits: &Limits,
         actions: Vec<Vec<SpillAction>>,
+        rules: Vec<SpillAction>,
         stores: Vec<S>,
     ) -> Result<GenericRun<'a, S>, (AllocError, Vec<S>)>
         requires limits { AreLimits limits.now }
@@ -117,6 +120,7 @@ impl<'a, S: SpillStore + Drop + Send> GenericRun<'a, S> {
           query = query.entry;
           limits = limits.now;
           actions = map (λ v. v.items) actions.items;
+          rules = rules.items;
           stores = stores_seen S.held S.told S.faults S.sure stores.items;
         }) }
         ensures chunks { IfOk result (λ r. r.chunks ≡ []) }
@@ -135,7 +139,7 @@ impl<'a, S: SpillStore + Drop + Send> GenericRun<'a, S> {
             room,
             rested,
         } = memory;
-        let begun = begun_of(query, limits, actions, former);
+        let begun = begun_of(query, limits, actions, rules, former);
         match opened(rt, alloc, &begun, stores) {
             Ok(closed) => Ok(GenericRun {
                 begun,
@@ -193,12 +197,14 @@ fn begun_of<'a, S: SpillStore + Drop>(
     query: CheckedQuery<'a>,
     limits: &Limits,
     actions: Vec<Vec<SpillAction>>,
+    rules: Vec<SpillAction>,
     former: Vec<Snapshot<S>>,
 ) -> Begun<'a, S>
     ensures { result ≡ record {
       query = query.entry;
       limits = limits.now;
       actions = map (λ v. v.items) actions.items;
+      rules = rules.items;
       stores = stores_seen S.held S.told S.faults S.sure (map (λ s. s.value) former.items);
     } }
 {
@@ -206,6 +212,7 @@ fn begun_of<'a, S: SpillStore + Drop>(
         query,
         limits: copy_of(limits),
         actions,
+        rules,
         former,
     }
 }

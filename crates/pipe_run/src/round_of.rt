@@ -64,7 +64,8 @@ fn round_named<
     // Called for what its clauses say.
     let _query = begun.query.query();
     let actions = begun.actions();
-    let round = Round::new(taken.len(), chunks, actions, is_open);
+    let rules = begun.rules();
+    let round = Round::new(taken.len(), chunks, actions, rules, is_open);
     let Ok((rooms, picks)) = make_rooms::<R>(alloc, &rested) else {
         return Err((RoundStop::Memory, closed));
     };

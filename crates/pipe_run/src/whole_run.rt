@@ -28,6 +28,7 @@ pub fn run_generic<S: SpillStore + Drop + Send, G: Gate + Sync, H: Threads + Wai
     query: &Query,
     limits: &Limits,
     actions: Vec<Vec<SpillAction>>,
+    rules: Vec<SpillAction>,
     stores: Vec<S>,
     gate: &G,
 ) -> (Result<GroupByOutput, PipeError>, Vec<S>)
@@ -36,6 +37,7 @@ pub fn run_generic<S: SpillStore + Drop + Send, G: Gate + Sync, H: Threads + Wai
       query = query.now;
       limits = limits.now;
       actions = map (λ v. v.items) actions.items;
+      rules = rules.items;
       stores = stores_seen S.held S.told S.faults S.sure stores.items;
     }) chunks.items result.0 (stores_seen S.held S.told S.faults S.sure result.1.items) }
 {
@@ -47,7 +49,7 @@ pub fn run_generic<S: SpillStore + Drop + Send, G: Gate + Sync, H: Threads + Wai
         Ok(rows) => rows,
         Err(error) => return (Err(error), stores),
     };
-    let run = match GenericRun::before_chunks(rt, alloc, checked, limits, actions, stores) {
+    let run = match GenericRun::before_chunks(rt, alloc, checked, limits, actions, rules, stores) {
         Ok(run) => run,
         Err((AllocError, stores)) => return (Err(PipeError::Memory), stores),
     };

@@ -6,7 +6,7 @@ use Rattle.std.proofs.lemmas.Option.{slice_get_read, slice_get_within}
 use Rattle.pipe_columns.specs.declared.data_chunk.DataChunk.{DataChunk}
 use Rattle.pipe_plan.specs.declared.event.SpillAction.{SpillAction}
 use Rattle.pipe_plan.specs.declared.event.SpillAction.TheVariants as action
-use Rattle.pipe_plan.specs.Plan.{action_at}
+use Rattle.pipe_plan.specs.Plan.{action_at, turn_action}
 use Rattle.pipe_plan.specs.Run.{is_turn_of, Run}
 use Rattle.pipe_tables.specs.LocalTable.{Local}
 use Rattle.pipe_global.specs.Shares.{SharesSeen}
@@ -106,12 +106,13 @@ module _ (r : Run) (round : RoundSeen) (of_run : IsRoundOf r round) (k : ℕ) (l
     chunk-is chunk is = ap (slice_get r.chunks) chunk-next ∙ chunk-at chunk is
 
     -- with its action
-    pub chunk-action : (a : SpillAction) → a ≡ slice_index_or (slice_index_or round.actions v []) ((round.first + k) / m) action.None → a ≡ action_at r (next_position r x)
+    pub chunk-action : (a : SpillAction) → a ≡ turn_action round.actions round.rules v ((round.first + k) / m) → a ≡ action_at r (next_position r x)
     chunk-action a is =
         is
-        ∙ ap (λ (l : List (List SpillAction)). slice_index_or (slice_index_or l v []) ((round.first + k) / m) action.None) (sym of_run.actions)
-        ∙ ap (λ i. slice_index_or (slice_index_or r.actions i []) ((round.first + k) / m) action.None) (worker ∙ sym own-rest)
-        ∙ ap (λ n. slice_index_or (slice_index_or r.actions ((round.first + k) % r.limits.workers) []) ((round.first + k) / n) action.None) count
+        ∙ ap (λ (l : List (List SpillAction)). turn_action l round.rules v ((round.first + k) / m)) (sym of_run.actions)
+        ∙ ap (λ (l : List SpillAction). turn_action r.actions l v ((round.first + k) / m)) (sym of_run.rules)
+        ∙ ap (λ i. turn_action r.actions r.rules i ((round.first + k) / m)) (worker ∙ sym own-rest)
+        ∙ ap (λ n. turn_action r.actions r.rules ((round.first + k) % r.limits.workers) ((round.first + k) / n)) count
         ∙ ap (λ n. action_at r n) (sym chunk-next)
 
     -- it is taken

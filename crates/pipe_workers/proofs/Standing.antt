@@ -43,7 +43,7 @@ worker-typed r w takes =
 
 -- a run goes on from its first chunks
 pub until-goes : (r : Run) (n : ℕ) → GoesOn (run_until r n) r
-until-goes r n = record { more = drop n r.chunks; chunks = sym (take-append-drop n r.chunks); query = refl; limits = refl; actions = refl }
+until-goes r n = record { more = drop n r.chunks; chunks = sym (take-append-drop n r.chunks); query = refl; limits = refl; actions = refl; rules = refl }
 
 -- the events of turns are no more than the plan's
 pub events-few : (r : Run) (w p n : ℕ) → is_generic r.limits.sink ≡ true → n ≤ length r.chunks → length (events_before r w p n) ≤ length (plan r w p)

@@ -7,19 +7,21 @@ use Rattle.pipe_workers.specs.Turns.{HasClosed, HasStopped, IsReady}
 use Rattle.pipe_workers.specs.Workers.{WorkerSeen}
 use Rattle.pipe_workers.specs.declared.stop.WorkerStop.{WorkerStop}
 
--- chunks from a position on, all workers' actions, and whether more chunks may follow
+-- chunks from a position on, all workers' actions and rules, and whether more chunks may follow
 pub record RoundSeen : Type 0 where
   pub first : ℕ
   pub chunks : List DataChunk
   pub actions : List (List SpillAction)
+  pub rules : List SpillAction
   pub is_open : Bool
 
--- a round is the last chunks of a run, and has its actions
+-- a round is the last chunks of a run, and has its actions and rules
 pub record IsRoundOf (r : Run) (x : RoundSeen) : Type 0 where
   pub taken : List DataChunk
   pub chunks : r.chunks ≡ taken ++ x.chunks
   pub first : x.first ≡ length taken
   pub actions : r.actions ≡ x.actions
+  pub rules : r.rules ≡ x.rules
   pub is_open : r.is_open ≡ x.is_open
 
 -- a worker, and why it stopped, if it did

@@ -68,7 +68,7 @@ rested r ps x shares run is made closed counted failed =
 
 -- the run of both goes on from the first
 on : (n m : ℕ) → GoesOn (first_of_two n) (both_of_two m)
-on n m = record { more = numbers_chunk ((2, 7) ∷ []) ∷ []; chunks = refl; query = refl; limits = refl; actions = refl }
+on n m = record { more = numbers_chunk ((2, 7) ∷ []) ∷ []; chunks = refl; query = refl; limits = refl; actions = refl; rules = refl }
 
 -- what stands for a replay of the one stands for that of the other
 stands-on : (n m : ℕ) (made : Replayed) (s : PartitionSeen) → StandsFor (first_of_two n) 0 made s → StandsFor (both_of_two m) 0 made s

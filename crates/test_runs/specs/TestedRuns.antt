@@ -34,6 +34,7 @@ tested_run query limits actions chunks stores = record {
   query = query_tree query;
   limits = limits;
   actions = actions;
+  rules = [];
   is_open = false;
   stores = map as_found stores;
 }

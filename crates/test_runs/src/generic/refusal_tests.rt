@@ -101,7 +101,8 @@ fn run_chunks<H: Threads + Wait + Sync>(
     let limits = limits_of((1, 1, 0, 1, 0));
     let lists = vec![in alloc; Vec::new(alloc)]?;
     let stores = stores_of(alloc, 1)?;
-    Ok(run_generic(rt, alloc, chunks, query, &limits, lists, stores, &OpenGate))
+    let rules = Vec::new(alloc);
+    Ok(run_generic(rt, alloc, chunks, query, &limits, lists, rules, stores, &OpenGate))
 }
 
 /// Two chunks that fit, and two that don't.

@@ -165,7 +165,8 @@ pub(crate) fn run_rows<S: SpillStore + Drop + Send, H: Threads + Wait + Sync>(
         lists.push(Vec::from_slice(alloc, actions)?)?;
     }
     let chunks = chunks_of(alloc, heights, rows)?;
-    Ok(run_generic(rt, alloc, chunks, query, &limits, lists, stores, &OpenGate))
+    let rules = Vec::new(alloc);
+    Ok(run_generic(rt, alloc, chunks, query, &limits, lists, rules, stores, &OpenGate))
 }
 
 /// Whether a column has exactly these numbers.

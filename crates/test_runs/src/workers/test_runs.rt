@@ -196,7 +196,7 @@ fn driven<R: Naming + Send + Sync, G: Gate + Sync, H: Threads + Wait + Sync>(
         return Err("GlobalTable::new wants memory".into());
     };
     let jobs = jobs_of(alloc, query, limits, &table, gate, shares)?;
-    let round = Round::new(0, chunks, actions, false);
+    let round = Round::new(0, chunks, actions, &[], false);
     let shares = shares_of(alloc, work_round(rt, jobs, &round))?;
     Ok(table.into_partitions(rt, shares))
 }

@@ -16,8 +16,8 @@ pub returns-in-Err : goal.returns-in-Err
 returns-in-Err g c =
     let S = g.row.S.Denot in
     let seen : S → StoreSeen = λ s. record { held = g.S.SpillStore.held s; told = g.S.SpillStore.told s; faults = g.S.SpillStore.faults s; sure = g.S.SpillStore.sure s } in
-    let x : Setting = record { query = c.args.query.now; limits = c.args.limits.now; actions = map (λ v. v.items) c.args.actions.items; stores = map seen c.args.stores.items } in
-    let fits = fits-setting seen (λ v. v.items) c.args.query.now c.args.limits.now c.args.actions.items c.args.stores.items c.args.stores.items (vec_len c.args.actions) (omega (arith, c.args.actions.ok.0)) refl in
+    let x : Setting = record { query = c.args.query.now; limits = c.args.limits.now; actions = map (λ v. v.items) c.args.actions.items; rules = c.args.rules.items; stores = map seen c.args.stores.items } in
+    let fits = fits-setting seen (λ v. v.items) c.args.query.now c.args.limits.now c.args.actions.items c.args.rules.items c.args.stores.items c.args.stores.items (vec_len c.args.actions) (omega (arith, c.args.actions.ok.0)) refl in
     begin-ends x c.args.chunks.items (map seen c.in-Err.stores.items) c.in-Err.error
     (subst (λ b. IsBeginCause b (first_fault c.args.query.now) (suits_keys c.args.limits.now.sink (key_types (query_tree c.args.query.now))) c.in-Err.error) (sym fits) c.in-Err.ensures.cause) (ap (λ (l : List S). map seen l) c.in-Err.ensures.back)
 
@@ -25,8 +25,8 @@ pub returns-in-Err-feed : goal.returns-in-Err-feed
 returns-in-Err-feed g c =
     let S = g.row.S.Denot in
     let seen : S → StoreSeen = λ s. record { held = g.S.SpillStore.held s; told = g.S.SpillStore.told s; faults = g.S.SpillStore.faults s; sure = g.S.SpillStore.sure s } in
-    let x : Setting = record { query = c.args.query.now; limits = c.args.limits.now; actions = map (λ v. v.items) c.args.actions.items; stores = map seen c.args.stores.items } in
-    let fits = fits-setting seen (λ v. v.items) c.args.query.now c.args.limits.now c.args.actions.items c.args.stores.items c.args.stores.items (vec_len c.args.actions) (omega (arith, c.args.actions.ok.0)) refl in
+    let x : Setting = record { query = c.args.query.now; limits = c.args.limits.now; actions = map (λ v. v.items) c.args.actions.items; rules = c.args.rules.items; stores = map seen c.args.stores.items } in
+    let fits = fits-setting seen (λ v. v.items) c.args.query.now c.args.limits.now c.args.actions.items c.args.rules.items c.args.stores.items c.args.stores.items (vec_len c.args.actions) (omega (arith, c.args.actions.ok.0)) refl in
     let begin : CanBegin x = record { fit = fits ∙ c.in-Ok.ensures.fit; faultless = c.in-Ok.ensures.faultless; suited = c.in-Ok.ensures.suited } in
     typed-refused x c.args.chunks.items c.in-Ok.run' (map seen c.in-Err-feed.stores.items) c.in-Err-feed.error begin c.in-Ok.ensures.setting c.in-Ok.ensures.chunks c.in-Ok.ensures.same
     c.in-Err-feed.ensures.cause c.in-Err-feed.ensures.untouched c.in-Err-feed.ensures.back
@@ -35,8 +35,8 @@ pub returns : goal.returns
 returns g c =
     let S = g.row.S.Denot in
     let seen : S → StoreSeen = λ s. record { held = g.S.SpillStore.held s; told = g.S.SpillStore.told s; faults = g.S.SpillStore.faults s; sure = g.S.SpillStore.sure s } in
-    let x : Setting = record { query = c.args.query.now; limits = c.args.limits.now; actions = map (λ v. v.items) c.args.actions.items; stores = map seen c.args.stores.items } in
-    let fits = fits-setting seen (λ v. v.items) c.args.query.now c.args.limits.now c.args.actions.items c.args.stores.items c.args.stores.items (vec_len c.args.actions) (omega (arith, c.args.actions.ok.0)) refl in
+    let x : Setting = record { query = c.args.query.now; limits = c.args.limits.now; actions = map (λ v. v.items) c.args.actions.items; rules = c.args.rules.items; stores = map seen c.args.stores.items } in
+    let fits = fits-setting seen (λ v. v.items) c.args.query.now c.args.limits.now c.args.actions.items c.args.rules.items c.args.stores.items c.args.stores.items (vec_len c.args.actions) (omega (arith, c.args.actions.ok.0)) refl in
     let begin : CanBegin x = record { fit = fits ∙ c.in-Ok.ensures.fit; faultless = c.in-Ok.ensures.faultless; suited = c.in-Ok.ensures.suited } in
     let chunks : List DataChunk = c.args.chunks.items in
     let first = c.in-Ok.run' in

@@ -33,8 +33,10 @@ drive-requires-clause-run g c = λ κs lives.
 
 pub drive-requires-clause-round : goal.drive-requires-clause-round
 drive-requires-clause-round g c = λ κs lives.
-    let at : c.new-round.result ≡ record { first = length c.args.taken.now; chunks = c.args.chunks.now; actions = c.args.begun.now.actions; is_open = c.args.is_open } =
-    c.new-round.ensures ∙ ap (λ (acts : List (List SpillAction)). record { first = length c.args.taken.now; chunks = c.args.chunks.now; actions = acts; is_open = c.args.is_open }) c.actions-actions.ensures in
+    let at : c.new-round.result ≡ record { first = length c.args.taken.now; chunks = c.args.chunks.now; actions = c.args.begun.now.actions; rules = c.args.begun.now.rules; is_open = c.args.is_open } =
+    c.new-round.ensures
+    ∙ ap (λ (acts : List (List SpillAction)). record { first = length c.args.taken.now; chunks = c.args.chunks.now; actions = acts; rules = c.rules-rules.result.now; is_open = c.args.is_open }) c.actions-actions.ensures
+    ∙ ap (λ (l : List SpillAction). record { first = length c.args.taken.now; chunks = c.args.chunks.now; actions = c.args.begun.now.actions; rules = l; is_open = c.args.is_open }) c.rules-rules.ensures in
     subst (λ (r : Run). IsRoundOf r c.new-round.result) (sym c.requires.run)
     (subst (λ (x : RoundSeen). IsRoundOf (Rattle.pipe_run.proofs.Taking.run c.args.begun.now c.args.is_open (map (λ s. s.value) c.args.taken.now) c.args.chunks.now c.args.closed.items c.args.rested.items c.requires.fed) x) (sym at) (take-round c.args.begun.now c.args.is_open (map (λ s. s.value) c.args.taken.now) c.args.chunks.now c.args.closed.items c.args.rested.items c.requires.fed (length c.args.taken.now) (sym (length-map c.args.taken.now (λ s. s.value)))))
 

@@ -20,16 +20,16 @@ pub returns-in-Err : goal.returns-in-Err
 returns-in-Err g c =
     let S = g.row.S.Denot in
     let seen : S → StoreSeen = λ s. record { held = g.S.SpillStore.held s; told = g.S.SpillStore.told s; faults = g.S.SpillStore.faults s; sure = g.S.SpillStore.sure s } in
-    let x : Setting = record { query = c.args.query.now; limits = c.args.limits.now; actions = map (λ v. v.items) c.args.actions.items; stores = map seen c.args.stores.items } in
-    let fits = fits-setting seen (λ v. v.items) c.args.query.now c.args.limits.now c.args.actions.items c.args.stores.items c.deref.result.now c.len.result (omega (arith, c.len.ensures, c.args.actions.ok.0)) c.deref.ensures.value in
+    let x : Setting = record { query = c.args.query.now; limits = c.args.limits.now; actions = map (λ v. v.items) c.args.actions.items; rules = c.args.rules.items; stores = map seen c.args.stores.items } in
+    let fits = fits-setting seen (λ v. v.items) c.args.query.now c.args.limits.now c.args.actions.items c.args.rules.items c.args.stores.items c.deref.result.now c.len.result (omega (arith, c.len.ensures, c.args.actions.ok.0)) c.deref.ensures.value in
     begin-ends x c.args.chunks.items (map seen c.args.stores.items) c.in-Err.error (subst (λ b. IsBeginCause b (first_fault c.args.query.now) (setting_suits x) c.in-Err.error) (sym fits) c.in-Err.ensures.cause) refl
 
 pub returns-in-Err-checked_rows : goal.returns-in-Err-checked_rows
 returns-in-Err-checked_rows g c =
     let S = g.row.S.Denot in
     let seen : S → StoreSeen = λ s. record { held = g.S.SpillStore.held s; told = g.S.SpillStore.told s; faults = g.S.SpillStore.faults s; sure = g.S.SpillStore.sure s } in
-    let x : Setting = record { query = c.args.query.now; limits = c.args.limits.now; actions = map (λ v. v.items) c.args.actions.items; stores = map seen c.args.stores.items } in
-    let fits = fits-setting seen (λ v. v.items) c.args.query.now c.args.limits.now c.args.actions.items c.args.stores.items c.deref.result.now c.len.result (omega (arith, c.len.ensures, c.args.actions.ok.0)) c.deref.ensures.value in
+    let x : Setting = record { query = c.args.query.now; limits = c.args.limits.now; actions = map (λ v. v.items) c.args.actions.items; rules = c.args.rules.items; stores = map seen c.args.stores.items } in
+    let fits = fits-setting seen (λ v. v.items) c.args.query.now c.args.limits.now c.args.actions.items c.args.rules.items c.args.stores.items c.deref.result.now c.len.result (omega (arith, c.len.ensures, c.args.actions.ok.0)) c.deref.ensures.value in
     let begin : CanBegin x = record { fit = fits ∙ c.in-Ok.ensures.fit; faultless = c.in-Ok.ensures.faultless; suited = c.in-Ok.ensures.suited } in
     let chunks : List DataChunk = c.args.chunks.items in
     let e = c.in-Err-checked_rows.error in
@@ -69,8 +69,8 @@ pub returns-in-Err-before_chunks : goal.returns-in-Err-before_chunks
 returns-in-Err-before_chunks g c =
     let S = g.row.S.Denot in
     let seen : S → StoreSeen = λ s. record { held = g.S.SpillStore.held s; told = g.S.SpillStore.told s; faults = g.S.SpillStore.faults s; sure = g.S.SpillStore.sure s } in
-    let x : Setting = record { query = c.args.query.now; limits = c.args.limits.now; actions = map (λ v. v.items) c.args.actions.items; stores = map seen c.args.stores.items } in
-    let fits = fits-setting seen (λ v. v.items) c.args.query.now c.args.limits.now c.args.actions.items c.args.stores.items c.deref.result.now c.len.result (omega (arith, c.len.ensures, c.args.actions.ok.0)) c.deref.ensures.value in
+    let x : Setting = record { query = c.args.query.now; limits = c.args.limits.now; actions = map (λ v. v.items) c.args.actions.items; rules = c.args.rules.items; stores = map seen c.args.stores.items } in
+    let fits = fits-setting seen (λ v. v.items) c.args.query.now c.args.limits.now c.args.actions.items c.args.rules.items c.args.stores.items c.deref.result.now c.len.result (omega (arith, c.len.ensures, c.args.actions.ok.0)) c.deref.ensures.value in
     let back : c.in-Err-before_chunks.stores.items ≡ c.args.stores.items = search rules in
     memory-ends x c.args.chunks.items (map seen c.in-Err-before_chunks.stores.items) (fits ∙ c.in-Ok.ensures.fit) (ap (λ (l : List S). map seen l) back)
 
@@ -78,8 +78,8 @@ pub returns-in-Err-feed : goal.returns-in-Err-feed
 returns-in-Err-feed g c =
     let S = g.row.S.Denot in
     let seen : S → StoreSeen = λ s. record { held = g.S.SpillStore.held s; told = g.S.SpillStore.told s; faults = g.S.SpillStore.faults s; sure = g.S.SpillStore.sure s } in
-    let x : Setting = record { query = c.args.query.now; limits = c.args.limits.now; actions = map (λ v. v.items) c.args.actions.items; stores = map seen c.args.stores.items } in
-    let fits = fits-setting seen (λ v. v.items) c.args.query.now c.args.limits.now c.args.actions.items c.args.stores.items c.deref.result.now c.len.result (omega (arith, c.len.ensures, c.args.actions.ok.0)) c.deref.ensures.value in
+    let x : Setting = record { query = c.args.query.now; limits = c.args.limits.now; actions = map (λ v. v.items) c.args.actions.items; rules = c.args.rules.items; stores = map seen c.args.stores.items } in
+    let fits = fits-setting seen (λ v. v.items) c.args.query.now c.args.limits.now c.args.actions.items c.args.rules.items c.args.stores.items c.deref.result.now c.len.result (omega (arith, c.len.ensures, c.args.actions.ok.0)) c.deref.ensures.value in
     let begin : CanBegin x = record { fit = fits ∙ c.in-Ok.ensures.fit; faultless = c.in-Ok.ensures.faultless; suited = c.in-Ok.ensures.suited } in
     let chunks : List DataChunk = c.args.chunks.items in
     let are : AreChunksOf (query_tree c.args.query.now) chunks = subst (λ (q : Query). AreChunksOf (query_tree q) chunks) c.in-Ok.ensures.query
@@ -87,7 +87,7 @@ returns-in-Err-feed g c =
     let can : CanRunOver x chunks = record { begin = begin; feed = can-feed x chunks are } in
     let first = c.in-Ok-before_chunks.run' in
     let setting : first.setting ≡ x = c.in-Ok-before_chunks.ensures.setting
-    ∙ ap {B = Setting} (λ (q : Query). record { query = q; limits = c.args.limits.now; actions = map (λ v. v.items) c.args.actions.items; stores = map seen c.args.stores.items }) c.in-Ok.ensures.query in
+    ∙ ap {B = Setting} (λ (q : Query). record { query = q; limits = c.args.limits.now; actions = map (λ v. v.items) c.args.actions.items; rules = c.args.rules.items; stores = map seen c.args.stores.items }) c.in-Ok.ensures.query in
     let fell : NoneFell x.stores first.stores = c.in-Ok-before_chunks.ensures.counted in
     feed-ends x chunks first (map seen c.in-Err-feed.stores.items) c.in-Err-feed.error can setting c.in-Ok-before_chunks.ensures.chunks fell c.in-Err-feed.ensures.cause c.in-Err-feed.ensures.back
 
@@ -95,8 +95,8 @@ pub returns : goal.returns
 returns g c =
     let S = g.row.S.Denot in
     let seen : S → StoreSeen = λ s. record { held = g.S.SpillStore.held s; told = g.S.SpillStore.told s; faults = g.S.SpillStore.faults s; sure = g.S.SpillStore.sure s } in
-    let x : Setting = record { query = c.args.query.now; limits = c.args.limits.now; actions = map (λ v. v.items) c.args.actions.items; stores = map seen c.args.stores.items } in
-    let fits = fits-setting seen (λ v. v.items) c.args.query.now c.args.limits.now c.args.actions.items c.args.stores.items c.deref.result.now c.len.result (omega (arith, c.len.ensures, c.args.actions.ok.0)) c.deref.ensures.value in
+    let x : Setting = record { query = c.args.query.now; limits = c.args.limits.now; actions = map (λ v. v.items) c.args.actions.items; rules = c.args.rules.items; stores = map seen c.args.stores.items } in
+    let fits = fits-setting seen (λ v. v.items) c.args.query.now c.args.limits.now c.args.actions.items c.args.rules.items c.args.stores.items c.deref.result.now c.len.result (omega (arith, c.len.ensures, c.args.actions.ok.0)) c.deref.ensures.value in
     let begin : CanBegin x = record { fit = fits ∙ c.in-Ok.ensures.fit; faultless = c.in-Ok.ensures.faultless; suited = c.in-Ok.ensures.suited } in
     let chunks : List DataChunk = c.args.chunks.items in
     let are : AreChunksOf (query_tree c.args.query.now) chunks = subst (λ (q : Query). AreChunksOf (query_tree q) chunks) c.in-Ok.ensures.query
@@ -104,7 +104,7 @@ returns g c =
     let can : CanRunOver x chunks = record { begin = begin; feed = can-feed x chunks are } in
     let first = c.in-Ok-before_chunks.run' in
     let setting : first.setting ≡ x = c.in-Ok-before_chunks.ensures.setting
-    ∙ ap {B = Setting} (λ (q : Query). record { query = q; limits = c.args.limits.now; actions = map (λ v. v.items) c.args.actions.items; stores = map seen c.args.stores.items }) c.in-Ok.ensures.query in
+    ∙ ap {B = Setting} (λ (q : Query). record { query = q; limits = c.args.limits.now; actions = map (λ v. v.items) c.args.actions.items; rules = c.args.rules.items; stores = map seen c.args.stores.items }) c.in-Ok.ensures.query in
     let fell : NoneFell x.stores first.stores = c.in-Ok-before_chunks.ensures.counted in
     let last = c.in-Ok-feed.run' in
     let fed : last.chunks ≡ chunks = c.in-Ok-feed.ensures.chunks ∙ ap (λ (l : List DataChunk). l ++ chunks) c.in-Ok-before_chunks.ensures.chunks in

@@ -1,7 +1,7 @@
-use Rattle.std.proofs.Common.{◌≡◌, ◌≢◌, ◌∙◌, ◌+◌, ◌%◌, ◌/◌, List, [], ap, sym}
+use Rattle.std.proofs.Common.{◌≡◌, ◌≢◌, ◌∙◌, ◌+◌, ◌%◌, ◌/◌, List, ap, sym}
 use Rattle.std.specs.List.{slice_index_or}
 use Rattle.pipe_columns.specs.declared.data_chunk.DataChunk.{DataChunk}
-use Rattle.pipe_plan.specs.declared.event.SpillAction.TheVariants as action
+use Rattle.pipe_plan.specs.Plan.{turn_action}
 use Rattle.pipe_workers.specs.Workers.{WorkerSeen}
 use Rattle.pipe_workers.proofs.Sinking.{chunk-action, chunk-is, chunk-passed, chunk-ready, chunk-taken}
 use Rattle.pipe_workers.proofs.groupby.GenericGroupby2.take_chunk.Goals as goal
@@ -42,7 +42,7 @@ sink-requires-clause-action g c =
     let worker : v ≡ x.shares.worker = c.worker-worker.ensures.is ∙ ap (λ (w : WorkerSeen). w.shares.worker) c.self.view_is in
     let mine : (c.args.round.now.first + c.args.number) % m ≡ v = ap (λ n. (n + c.args.number) % m) (sym c.first.ensures) ∙ c.if-position-workers.false in
     chunk-action g.R.Naming.run c.args.round.now c.requires.round c.args.number c.requires.there x c.workers-workers.ensures.takes_turns c.requires.ready m v c.workers-workers.ensures.is worker mine c.action-action.result
-    (c.action-action.ensures ∙ ap (λ n. slice_index_or (slice_index_or c.args.round.now.actions v []) ((n + c.args.number) / m) action.None) c.first.ensures)
+    (c.action-action.ensures ∙ ap (λ n. turn_action c.args.round.now.actions c.args.round.now.rules v ((n + c.args.number) / m)) c.first.ensures)
 
 pub returns-clause-ready : goal.returns-clause-ready
 returns-clause-ready g c =
