@@ -55,7 +55,8 @@ fn add_chunk(
         encode_row(key, &rows, row, types)?;
         match table.insert_lent(key, &rows, row) {
             LentEnd::Done => {}
-            LentEnd::Overflow | LentEnd::Memory => return Err(AllocError),
+            LentEnd::Overflow => unreachable!(),
+            LentEnd::Memory => return Err(AllocError),
         }
     }
     Ok(())
