@@ -102,10 +102,10 @@ fn run_by<S: SpillStore + Drop + Send, G: Gate + Sync, H: Threads + Wait + Sync>
       stores = stores_seen S.held S.told S.faults S.sure stores.items;
     }) chunks.items result.0 (stores_seen S.held S.told S.faults S.sure result.1.items) }
 {
-    if is_generic(limits.sink) {
-        return run_generic(
-            rt, alloc, chunks, query, limits, actions, rules, stores, gate,
-        );
+    if !is_generic(limits.sink) {
+        return run_typed(rt, alloc, chunks, query, limits, actions, rules, stores);
     }
-    run_typed(rt, alloc, chunks, query, limits, actions, rules, stores)
+    run_generic(
+        rt, alloc, chunks, query, limits, actions, rules, stores, gate,
+    )
 }
