@@ -19,7 +19,7 @@ use Rattle.pipe_model.specs.Output.{key_types, output_schema}
 use Rattle.pipe_model.specs.Partitions.{groups_in, rows_in}
 use Rattle.pipe_model.specs.Query.{QueryTree}
 use Rattle.pipe_model.specs.Groupable.{IsGroupable}
-use Rattle.pipe_model.specs.Rows.{HaveDistinctPlaces, group_keys}
+use Rattle.pipe_model.specs.Rows.{HaveDistinctPlaces, keys_of}
 use Rattle.pipe_spill.specs.KeyTypes.{AreOfTypes}
 use Rattle.pipe_spill.specs.SpillRow.{spilled}
 use Rattle.pipe_spill.specs.declared.spill_row.SpillRow.{SpillRow}
@@ -42,14 +42,14 @@ use Rattle.pipe_run.specs.Sources.{IsPlacedFrame}
 use Rattle.pipe_run.proofs.SourceFacts.{asked, both, mine}
 
 -- as many groups hold rows as the rows have keys
-pub count-groups : (q : QueryTree) (rs : List Row) (gs : List Group) → HoldRowsOf q gs rs → count_held gs ≡ length (sorted_keys tuple_cmp (group_keys rs))
+pub count-groups : (q : QueryTree) (rs : List Row) (gs : List Group) → HoldRowsOf q gs rs → count_held gs ≡ length (sorted_keys tuple_cmp (keys_of rs))
 count-groups q rs gs h =
     let types = key_types q in
-    let typed : All (AreOfTypes types) (group_keys rs) = All-map (AreOfTypes types) (λ (r : Row). r.key) rs (All-weaker (IsRowOf q) (λ r. AreOfTypes types r.key) (λ r t. t.key.fit) rs h.typed) in
+    let typed : All (AreOfTypes types) (keys_of rs) = All-map (AreOfTypes types) (λ (r : Row). r.key) rs (All-weaker (IsRowOf q) (λ r. AreOfTypes types r.key) (λ r t. t.key.fit) rs h.typed) in
     held-counted (prototypes q) gs (map (spilled types) rs) h.holds h.apart
     ∙ ap (λ (ks : List (List ℕ)). length (sorted_keys key_cmp ks)) (map-map (λ (r : SpillRow). r.key) (spilled types) rs ∙ sym (map-map (code types) (λ (r : Row). r.key) rs))
-    ∙ ap (λ (ks : List (List ℕ)). length ks) (sorted-codes types (group_keys rs) typed)
-    ∙ length-map (sorted_keys tuple_cmp (group_keys rs)) (code types)
+    ∙ ap (λ (ks : List (List ℕ)). length ks) (sorted-codes types (keys_of rs) typed)
+    ∙ length-map (sorted_keys tuple_cmp (keys_of rs)) (code types)
 
 -- groups that hold what a partition and the local rows of its keys stand for hold the rows of the partition
 hold-rows : (q : QueryTree) (rs : List Row) (locals : List SpillRow) (x : PartitionSeen) (gs : List Group) → IsGroupable q → All (IsRowOf q) rs → x.table.shape ≡ shape_of q → (part : StandsForPart q rs locals x)

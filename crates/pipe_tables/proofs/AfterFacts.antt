@@ -34,7 +34,7 @@ use Rattle.pipe_groups.proofs.HoldFacts.{holds-none, holds-row}
 use Rattle.pipe_groups.proofs.ShapeFacts.{shape-takes}
 use Rattle.pipe_tables.specs.After.{IsAfter, is_kept_of, kept_of, left_of, piece_for, pieces_for, spilled_to, waiting_of, with_all}
 use Rattle.pipe_tables.specs.Buffers.{buffer_of, buffered, fills, leaving, no_rows, rows_with}
-use Rattle.pipe_tables.specs.LocalTable.{holding, let_go, Local, overflowing, group_with_row}
+use Rattle.pipe_tables.specs.LocalTable.{holding, let_go, Local, overflowing, local_with_row}
 use Rattle.pipe_keyed.specs.Tables.{put_row, TakesOne}
 use Rattle.pipe_tables.proofs.CountFacts.{count-put, gain}
 use Rattle.pipe_tables.proofs.HeldKeys.{held-kept, keeps-stays}
@@ -243,10 +243,10 @@ module _ (l : Limits) (s : Shape) (taken : List Row) (x : Row) (t : Local) (gene
       apart p other = let not_q : p ≢ q = λ e. other (omega (arith, e)) in grind (arith, nat_tests)
 
   -- so it is with one row more
-  pub after-row : IsShape s → IsAfter l s (taken ++ x ∷ []) (group_with_row r t)
+  pub after-row : IsShape s → IsAfter l s (taken ++ x ∷ []) (local_with_row r t)
   after-row shape = by (stays l taken x) refl
     where
-      by : (b : Bool) → stays l taken x ≡ b → IsAfter l s (taken ++ x ∷ []) (group_with_row r t)
+      by : (b : Bool) → stays l taken x ≡ b → IsAfter l s (taken ++ x ∷ []) (local_with_row r t)
       by true is = subst (λ (u : Local). IsAfter l s (taken ++ x ∷ []) u) (sym (ap (λ b. if b then holding r t else overflowing r t) (keeps-stays l s taken x t generic all typed after ∙ is))) (after-kept shape is)
       by false is = subst (λ (u : Local). IsAfter l s (taken ++ x ∷ []) u) (sym (ap (λ b. if b then holding r t else overflowing r t) (keeps-stays l s taken x t generic all typed after ∙ is))) (after-sent is)
 
@@ -305,8 +305,8 @@ module _ (l : Limits) (s : Shape) (generic : is_generic l.sink ≡ true) (limits
   after-all taken [] t all more after = subst (λ (rows : List Row). IsAfter l s rows t) (sym (append-nil taken)) after
   after-all taken (x ∷ rows) t all more after =
       let typed = All-head (HasValues s.key_types s.input_types) x rows more in
-      subst (λ (ys : List Row). IsAfter l s ys (with_all (map (spilled s.key_types) rows) (group_with_row (spilled s.key_types x) t))) (append_assoc taken (x ∷ []) rows)
-      (after-all (taken ++ x ∷ []) rows (group_with_row (spilled s.key_types x) t) (typed-more taken x all typed) (All-tail (HasValues s.key_types s.input_types) x rows more)
+      subst (λ (ys : List Row). IsAfter l s ys (with_all (map (spilled s.key_types) rows) (local_with_row (spilled s.key_types x) t))) (append_assoc taken (x ∷ []) rows)
+      (after-all (taken ++ x ∷ []) rows (local_with_row (spilled s.key_types x) t) (typed-more taken x all typed) (All-tail (HasValues s.key_types s.input_types) x rows more)
       (after-row l s taken x t generic limits all typed after shape))
 
   -- and the pieces that left meanwhile
@@ -315,7 +315,7 @@ module _ (l : Limits) (s : Shape) (generic : is_generic l.sink ≡ true) (limits
   pieces-all taken [] t p all more after = ap (λ (ys : List Row). left_of l s.key_types ys p) (append-nil taken) ∙ sym (append-nil (left_of l s.key_types taken p))
   pieces-all taken (x ∷ rows) t p all more after =
       let typed = All-head (HasValues s.key_types s.input_types) x rows more in
-      let u = group_with_row (spilled s.key_types x) t in
+      let u = local_with_row (spilled s.key_types x) t in
       ap (λ (ys : List Row). left_of l s.key_types ys p) (sym (append_assoc taken (x ∷ []) rows))
       ∙ pieces-all (taken ++ x ∷ []) rows u p (typed-more taken x all typed) (All-tail (HasValues s.key_types s.input_types) x rows more) (after-row l s taken x t generic limits all typed after shape)
       ∙ ap (λ ps. ps ++ pieces_for p (map (spilled s.key_types) rows) u) (after-piece l s taken x t generic limits all typed after p)
@@ -358,7 +358,7 @@ after-room l s taken t all few after = subst (λ (h : Shape). HoldFewer h t.tabl
 
 -- a local table after the rows before a number takes the one there
 pub after-next : (l : Limits) (s : Shape) (rows : List Row) (n : ℕ) (t : Local) → is_generic l.sink ≡ true → AreLimits l → IsShape s → All (HasValues s.key_types s.input_types) rows → n < length rows
-    → IsAfter l s (take n rows) t → IsAfter l s (take (n + 1) rows) (group_with_row (spilled s.key_types (row_at rows n)) t)
+    → IsAfter l s (take n rows) t → IsAfter l s (take (n + 1) rows) (local_with_row (spilled s.key_types (row_at rows n)) t)
 after-next l s rows n t generic limits shape all lt after =
     let at : row_at rows n ≡ get_or rows n no_row = unwrap_or-slice_get rows n no_row in
     let typed : HasValues s.key_types s.input_types (row_at rows n) = rw at (all n no_row lt) in
