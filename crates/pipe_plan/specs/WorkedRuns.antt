@@ -131,6 +131,17 @@ merges_in_turn =
     run_of sum_by_number (generic 1 3 10000 2048 64) (replicate 5 action.EarlyMerge ∷ [])
     (replicate 5 (numbers_chunk ((1, 1) ∷ [])))
 
+-- the same chunks, and a merge after each by the worker's rule
+abbrev pub merges_by_rule : Run
+merges_by_rule = record merges_in_turn { actions = [] ∷ []; rules = action.EarlyMerge ∷ [] }
+
+-- two workers, whose chunks have key 1: a merge follows each turn of the first, and a dump each turn of
+-- the second but its first
+abbrev pub two_rules : Run
+two_rules = record (run_of sum_by_number (generic 2 1 10000 2048 64)
+    ([] ∷ (action.None ∷ []) ∷ []) (replicate 5 (numbers_chunk ((1, 1) ∷ []))))
+    { rules = action.EarlyMerge ∷ action.Dump ∷ [] }
+
 -- no aggregate, spill size 0, buffer 1: keys 1, 1, 2, then a dump
 abbrev pub keys_alone : Run
 keys_alone =

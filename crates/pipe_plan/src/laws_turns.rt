@@ -1,14 +1,16 @@
 //! Laws of turns: where a worker's chunks stand, and which rows it takes in them.
 
 ghost use Rattle.std.specs.Prelude.{◌≡◌, ◌+◌, ◌*◌, ◌/◌, ◌<◌, ◌≤◌, ℕ, List, [], ◌∷◌, ◌++◌, length, true, if◌then◌else◌, slice_get, Some};
-ghost use Rattle.std.specs.List.{filter, flat_map};
+ghost use Rattle.std.specs.List.{filter, flat_map, slice_index_or};
 ghost use Rattle.pipe_columns.specs.declared.data_chunk.DataChunk.{DataChunk};
 ghost use Rattle.pipe_columns.specs.Row.{Row};
 ghost use Rattle.pipe_model.specs.Rows.{chunk_rows};
 ghost use Rattle.pipe_plan.specs.Rounds.{IsFront, run_until};
 ghost use Rattle.pipe_plan.specs.Kept.{is_kept};
 ghost use Rattle.pipe_plan.specs.Overflow.{overflow};
-ghost use Rattle.pipe_plan.specs.Plan.{is_pick, picks_before, sent_before, turns_before};
+ghost use Rattle.pipe_plan.specs.declared.event.SpillAction.{SpillAction};
+ghost use Rattle.pipe_plan.specs.declared.event.SpillAction.TheVariants as action;
+ghost use Rattle.pipe_plan.specs.Plan.{is_pick, picks_before, sent_before, turn_action, turns_before};
 ghost use Rattle.pipe_plan.specs.Progress.{IsAtRow, rows_before, sent_of, turn_rows};
 ghost use Rattle.pipe_plan.specs.Run.{is_turn_of, of_worker, Run};
 ghost use Rattle.pipe_plan.specs.Whole.{kept_rows};
@@ -54,4 +56,16 @@ pub fn rows_kept_and_sent_by_turn()
         → sent_before r w p n ≡ length (overflow (run_until r n) w p) }
     ensures all { (r : Run) (w p : ℕ)
         → sent_before r w p (length r.chunks) ≡ length (overflow r w p) }
+{}
+
+/// The actions of a worker's list come first, and past them for ever the one that its rule says; none
+/// where it has no rule.
+pub fn rules_follow_lists()
+    ensures listed { (actions : List (List SpillAction)) (rules : List SpillAction) (w turn : ℕ)
+        → turn < length (slice_index_or actions w [])
+        → turn_action actions rules w turn
+        ≡ slice_index_or (slice_index_or actions w []) turn action.None }
+    ensures past { (actions : List (List SpillAction)) (rules : List SpillAction) (w turn : ℕ)
+        → length (slice_index_or actions w []) ≤ turn
+        → turn_action actions rules w turn ≡ slice_index_or rules w action.None }
 {}

@@ -8,7 +8,7 @@ ghost use Rattle.pipe_plan.specs.declared.event.PartitionEvent.TheVariants.{Arri
 ghost use Rattle.pipe_plan.specs.Overflow.{overflow_count};
 ghost use Rattle.pipe_plan.specs.Plan.{plan};
 ghost use Rattle.pipe_plan.specs.Replay.{replay};
-ghost use Rattle.pipe_plan.specs.WorkedRuns.{keys_alone, many_workers, merges_in_turn, numbers_chunk, row_at, text_keys, three_keys};
+ghost use Rattle.pipe_plan.specs.WorkedRuns.{keys_alone, many_workers, merges_by_rule, merges_in_turn, numbers_chunk, row_at, text_keys, three_keys, two_rules};
 
 /// Text keys of two partitions: the second key lies in partition 1, and is sent there.
 pub fn overflow_of_text_keys()
@@ -49,6 +49,18 @@ pub fn picks_in_turn()
     ensures first { plan merges_in_turn 0 0 ≡ Merge 0 ∷ Merge 0 ∷ [] }
     ensures second { plan merges_in_turn 0 1 ≡ Merge 0 ∷ Merge 0 ∷ [] }
     ensures third { plan merges_in_turn 0 2 ≡ Merge 0 ∷ [] }
+{}
+
+/// A rule does what a list of its action does that is as long as the run.
+pub fn merges_of_a_rule()
+    ensures { map (plan merges_by_rule 0) (range_with_len 0 3)
+        ≡ map (plan merges_in_turn 0) (range_with_len 0 3) }
+{}
+
+/// Each worker has its own rule, which begins where its list ends.
+pub fn rules_of_two_workers()
+    ensures first { plan two_rules 0 0 ≡ Merge 0 ∷ Merge 0 ∷ Merge 0 ∷ [] }
+    ensures second { plan two_rules 1 0 ≡ Dump 1 ∷ [] }
 {}
 
 /// Rows without an aggregate are spilled like others.
