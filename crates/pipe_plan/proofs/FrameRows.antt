@@ -1,7 +1,7 @@
 -- Frames that are pieces joined have rows, since each piece has.
-use Rattle.std.proofs.Common.{◌≡◌, ℕ, zero, suc, ◌+◌, ◌<◌, ◌≤◌, Bool, true, false, List, [], ◌∷◌, ◌++◌, length, take, drop, map, refl, sym, subst, arith, All, length-append, if◌then◌else◌}
-use Rattle.std.specs.List.{flat_map, slice_index_or}
-use Rattle.std.proofs.lemmas.List.Elements.{All-append, All-cons, All-head, All-nil, All-same, All-tail}
+use Rattle.std.proofs.Common.{ℕ, zero, suc, ◌<◌, Bool, true, false, List, [], ◌∷◌, ◌++◌, length, take, drop, map, arith, All, length-append, if◌then◌else◌}
+use Rattle.std.specs.List.{flat_map}
+use Rattle.std.proofs.lemmas.List.Elements.{All-cons, All-head, All-nil, All-same, All-tail}
 use Rattle.pipe_columns.specs.Pieces.{pieces, pieces_within}
 use Rattle.pipe_columns.specs.Row.{Row}
 use Rattle.pipe_plan.specs.Frames.{AreOfPieces, IsPiece, piece_rows, PieceName}
