@@ -70,7 +70,7 @@ impl Groups {
     }
 
     /// Puts what the running aggregates of some groups give below the values of the columns. No
-    /// group is left.
+    /// group is left, and the memory of all is given back.
     pub(crate) fn give_all(&mut self, taken: &[usize], columns: &mut Vec<Unfinished>)
         requires within { All (λ i. i < length self.old.groups) taken.now }
         requires once { IsDistinct nat_eq taken.now }
@@ -84,9 +84,10 @@ impl Groups {
         ensures emptied { HasGroups self.old self.new [] }
     {
         give_groups(&mut self.states, self.prototypes.len(), taken, columns);
-        self.bytes.clear();
-        self.entries.clear();
-        self.states.clear();
+        let alloc = *self.entries.allocator();
+        self.bytes = Vec::new(alloc);
+        self.entries = Vec::new(alloc);
+        self.states = Vec::new(alloc);
         self.held = 0;
     }
 }

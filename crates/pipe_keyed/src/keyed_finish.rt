@@ -15,7 +15,8 @@ use pipe_groups::PlacedGroups;
 use std::alloc::AllocError;
 
 impl<M: Marking> KeyedGroups<M> {
-    /// The frame of the groups that hold rows, in the order of their keys, under a slice.
+    /// The frame of the groups that hold rows, in the order of their keys, under a slice. No group is
+    /// left, nor their memory.
     pub fn finalize(&mut self, slice: &mut Option<(usize, usize)>) -> Result<DataFrame, AllocError>
         requires apart { IsDistinct bytes_eq (group_keys self.old.groups) }
         requires gives { All (CanGive self.old.shape) (held_groups self.old.groups) }
@@ -28,7 +29,7 @@ impl<M: Marking> KeyedGroups<M> {
         ensures slice_err { OnErr result (slice.new ≡ slice.old) }
     {
         let frame = self.groups.finalize(slice)?;
-        self.chains.clear();
+        self.chains = self.chains.split();
         Ok(frame)
     }
 
@@ -42,7 +43,7 @@ impl<M: Marking> KeyedGroups<M> {
         ensures err { OnErr result (HasGroups self.old self.new self.old.groups) }
     {
         let placed = self.groups.finalize_placed()?;
-        self.chains.clear();
+        self.chains = self.chains.split();
         Ok(placed)
     }
 }

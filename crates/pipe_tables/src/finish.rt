@@ -13,7 +13,7 @@ use std::alloc::AllocError;
 
 impl AggHashTable {
     /// Gives the groups in the order of their keys, under a slice, of which less is then left. None
-    /// is left. Where memory is wanting, all stays as it was.
+    /// is left, nor their memory. Where memory is wanting, all stays as it was.
     pub fn finalize(&mut self, slice: &mut Option<(usize, usize)>) -> Result<DataFrame, AllocError>
         ensures frame { IfOk result (λ f. IsFrameOfGroups self.old.shape
             (sliced slice.old (in_order self.old.groups)) f) }
@@ -26,6 +26,7 @@ impl AggHashTable {
     {
         let frame = self.keyed.finalize(slice)?;
         self.parts = None;
+        self.hints = self.hints.split();
         Ok(frame)
     }
 
@@ -42,6 +43,7 @@ impl AggHashTable {
     {
         let placed = self.keyed.finalize_placed()?;
         self.parts = None;
+        self.hints = self.hints.split();
         Ok(placed)
     }
 }
