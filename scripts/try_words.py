@@ -1,5 +1,6 @@
 #!/usr/bin/env python3
 """Runs a built program with faulty words and files, a word that is no UTF-8 among them, and says where a status or a line is another.
+Standard input is a pipe, a file and nothing in turn.
 
 usage: scripts/try_words.py [PROGRAM], where PROGRAM is ~/.local/bin/group_tool if it is left out.
 """
@@ -40,23 +41,62 @@ WORDS = [
     (["--", QUERY, "good.csv"], (0, b"")),
     ([QUERY, "quote.csv"], (0, b"")),
 ]
-FILES = {"good.csv": "k,v\n1,5\n", "empty.csv": "", "quote.csv": 'k,v\n1,"5'}
+FILES = {"good.csv": b"k,v\n1,5\n", "empty.csv": b"", "quote.csv": b'k,v\n1,"5'}
+# What standard input has where the words name all that is read.
+UNREAD = b"k,v\n2,6\n"
+# Texts by themselves, with what becomes of them.
+TEXTS = [
+    (b"k,v\n1,5\n", (0, b"")),
+    (b'k,v\n1,"5', (0, b"")),
+    (b"", (4, b"file 1: header\n")),
+    (b"k,w\n1,5\n", (4, b"file 1: header\n")),
+    (b"k,v\n1,5\n2,12x\n", (4, b"file 1 row 2 column 2: field\n")),
+    (b"k,v\n1,5\n2\n", (4, b"file 1 row 2: width\n")),
+]
+
+
+def fed(text, folder):
+    """The ways in which standard input has a text: a pipe, a file, and nothing where the text is empty."""
+    path = os.path.join(folder, "fed.txt")
+    with open(path, "wb") as file:
+        file.write(text)
+    yield "a pipe", {"input": text}
+    with open(path, "rb") as file:
+        yield "a file", {"stdin": file}
+    if not text:
+        yield "nothing", {"stdin": subprocess.DEVNULL}
+
+
+def trials(folder):
+    """Each run: its words, how it is fed, and its status and line."""
+    for words, due in WORDS:
+        for text in (UNREAD, b""):
+            for name, how in fed(text, folder):
+                yield words, name, how, due
+    for text, due in TEXTS:
+        with open(os.path.join(folder, "text.csv"), "wb") as file:
+            file.write(text)
+        yield [QUERY, "text.csv"], "nothing", {"stdin": subprocess.DEVNULL}, due
+        for words in ([QUERY], [QUERY, "-"]):
+            for name, how in fed(text, folder):
+                yield words, name, how, due
 
 
 def main():
     program = program_of(sys.argv[1:])
-    wrong = 0
+    wrong = count = 0
     with tempfile.TemporaryDirectory() as folder:
         for name, text in FILES.items():
-            with open(os.path.join(folder, name), "w", encoding="ascii") as file:
+            with open(os.path.join(folder, name), "wb") as file:
                 file.write(text)
-        for words, (status, line) in WORDS:
-            run = subprocess.run([program, *words], cwd=folder, stdin=subprocess.DEVNULL, capture_output=True, check=False)
+        for words, name, how, (status, line) in trials(folder):
+            run = subprocess.run([program, *words], cwd=folder, **how, capture_output=True, check=False)
             answer = b"k,s,c,f\n1,5,1,5\n" if status == 0 else b""
+            count += 1
             if (run.returncode, run.stderr, run.stdout) != (status, line, answer):
-                print(f"{words}: status {run.returncode}, {run.stderr}, {run.stdout}")
+                print(f"{words}, fed by {name}: status {run.returncode}, {run.stderr}, {run.stdout}")
                 wrong += 1
-    print(f"try_words: {len(WORDS) - wrong} of {len(WORDS)} as due")
+    print(f"try_words: {count - wrong} of {count} as due")
     return 1 if wrong else 0
 
 
