@@ -55,6 +55,7 @@ pub fn begin_run<'a, S: SpillStore + Drop + Send, H: Wait>(
       query = query.now;
       limits = limits.now;
       actions = map (λ v. v.items) actions.items;
+      rules = [];
       stores = stores_seen S.held S.told S.faults S.sure stores.items;
     }) }
     ensures chunks { IfOk result (λ r. r.chunks ≡ []) }
