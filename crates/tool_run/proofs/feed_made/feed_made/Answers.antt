@@ -1,4 +1,4 @@
-use Rattle.std.proofs.Common.{rules, true, ◌≡◌, ◌∙◌, ◌+◌, ◌<◌, ◌≤◌, ◌^◌, ap, arith, sym}
+use Rattle.std.proofs.Common.{rules, true, ◌≡◌, ◌∙◌, ◌+◌, ◌<◌, ◌≤◌, ◌^◌, ap, sym}
 use Rattle.pipe_run.specs.Feeding.{chunks_reached}
 use Rattle.pipe_run.specs.Setting.{Setting}
 use Rattle.tool_made.specs.Made.{chunk_count}
