@@ -1,5 +1,5 @@
 -- How a run over generated rows ends.
-use Rattle.std.proofs.Common.{◌≡◌, ◌<◌, ℕ, false, List, refl, subst, arith, inl, inr, Option, None}
+use Rattle.std.proofs.Common.{◌≡◌, ◌<◌, ℕ, true, false, List, [], refl, subst, arith, inl, inr, Option, None}
 use Rattle.std.specs.Prelude.{◌⊎◌, IsTrue}
 use Rattle.std.specs.List.{All, slice_index_or}
 use Rattle.pipe_aggs.specs.declared.query.Query.{Query}
@@ -14,6 +14,7 @@ use Rattle.pipe_plan.specs.Run.{StoreSeen}
 use Rattle.pipe_run.specs.Answered.{HaveWholeFrames, IsAnswered}
 use Rattle.pipe_run.specs.Fed.{FedSeen}
 use Rattle.pipe_run.specs.Finish.{IsFinishCause}
+use Rattle.pipe_run.specs.Refusals.{AllHaveFields}
 use Rattle.pipe_run.specs.Setting.{run_over, Setting}
 use Rattle.pipe_run.specs.declared.error.PipeError.{PipeError}
 use Rattle.pipe_run.specs.declared.error.PipeError.TheVariants as pipe_error
@@ -63,7 +64,11 @@ lines-begun old new told p m files journals stores text has (inr front) = inr (t
 
 -- ---- a run that stopped
 
-module _ (p : PlanSeen) (q : Query) (m : Made) (is : query_tree q ≡ made_tree) (new stores : List StoreSeen) (s : FedSeen) (began : Began p q new s) (back : run.HaveFront s.setting stores) where
+-- one that was fed nothing
+pub made-none : (m : Made) → run.AreFedMade m true []
+made-none m = record { rest = made m; is = refl }
+
+module _ (p : PlanSeen) (q : Query) (m : Made) (is : query_tree q ≡ made_tree) (new stores : List StoreSeen) (s : FedSeen) (began : Began p q new s) (back : run.HaveFront s.setting (run.AreFedMade m) stores) where
   whole : HaveWholeFrames (asked_run p made_tree back.is_open back.chunks new) stores
   whole =
       let begun : HaveWholeFrames (asked_run p (query_tree q) back.is_open back.chunks new) stores = subst (λ (x : Setting). HaveWholeFrames (run_over x back.is_open back.chunks) stores) began.setting back.frames in
@@ -72,9 +77,12 @@ module _ (p : PlanSeen) (q : Query) (m : Made) (is : query_tree q ≡ made_tree)
   have : HaveFrames (asked_run p made_tree back.is_open back.chunks new) stores
   have = whole-are (asked_run p made_tree back.is_open back.chunks new) stores whole
 
+  fit : AllHaveFields made_tree.schema back.chunks
+  fit = subst (λ (t : QueryTree). AllHaveFields t.schema back.chunks) is (subst (λ (x : Setting). AllHaveFields x.query.schema back.chunks) began.setting back.fit)
+
   -- its stores have whole frames
-  pub made-front : HaveFront p made_tree stores
-  made-front = record { made = new; are_made = began.new; chunks = back.chunks; is_open = back.is_open; frames = whole }
+  pub made-front : HaveFront p made_tree (run.AreFedMade m) stores
+  made-front = record { made = new; are_made = began.new; count = began.count; chunks = back.chunks; is_open = back.is_open; fed = back.fed; fit = fit; frames = whole }
 
   -- without a folder they are sound
   pub made-sound : All (λ (x : StoreSeen). IsTrue x.sure → x.faults ≡ 0) stores → p.spill_dir ≡ None → All IsSoundStore stores

@@ -28,7 +28,7 @@ use Rattle.pipe_run.specs.declared.error.PipeError.TheVariants as pipe_error
 use Rattle.pipe_run.specs.declared.output.GroupByOutput.{GroupByOutput}
 use Rattle.pipe_source.specs.CsvChunks.{misfit, Stop, too_large}
 use Rattle.pipe_source.specs.Reader.{chunks_left, ReaderState}
-use Rattle.tool_run.specs.Answering.{IsAnsweredFrom, IsRunEnd}
+use Rattle.tool_run.specs.Answering.{AreFedOf, IsAnsweredFrom, IsRunEnd}
 use Rattle.tool_run.specs.Answering as run
 use Rattle.tool_run.specs.Reading.{are_few, end_of}
 use Rattle.tool_run.specs.declared.error.FileRunError.{FileRunError}
@@ -37,7 +37,7 @@ use Rattle.tool_words.specs.Asked.{asks, does_keep}
 use Rattle.pipe_run.specs.Refusals.{AllHaveFields, lies_between, limits_fit, suits_keys}
 use Rattle.pipe_run.specs.Setting.{run_over, Setting}
 use Rattle.pipe_run.specs.WholeRun.{setting_fits}
-use Rattle.pipe_run.proofs.RunEnds.{untouched-frames}
+use Rattle.pipe_run.proofs.RunEnds.{untouched-in}
 use Rattle.pipe_words.specs.Plans.{CanRun, PlanSeen}
 use Rattle.tool_answer.specs.declared.fault.ToolFault.TheVariants as fault
 use Rattle.tool_answer.specs.Asking.{asked_run, has_folder, input_chunks}
@@ -45,12 +45,11 @@ use Rattle.pipe_plan.specs.Stores.{stores_seen}
 use Rattle.tool_answer.specs.Ended.{HasFailed, HasUntold, IsMade, IsSoundStore}
 use Rattle.tool_answer.specs.Faults.{EndsFor, IsCaused}
 use Rattle.tool_answer.specs.Inside.{CanCome, file_fault, IsOfRun}
-use Rattle.tool_answer.specs.Headline.{HasRunTo, HaveFront}
+use Rattle.tool_answer.specs.Headline.{AreFedInput, HasRunTo, HaveFront}
 use Rattle.narrow_query.specs.Names.{covers}
 use Rattle.narrow_query.specs.Narrowed.{narrowed_query}
 use Rattle.narrow_columns.specs.Wanted.{chosen}
-use Rattle.narrow_runs.specs.Widened.{widened_chunks}
-use Rattle.tool_answer.proofs.NarrowFacts.{AreRead, end-same, few-same, IsReader, whole-answered, whole-frames, whole-read}
+use Rattle.tool_answer.proofs.NarrowFacts.{AreFedWhole, AreRead, end-same, fed-whole, few-same, IsReader, none-whole, whole-answered, whole-frames, whole-read}
 
 -- how the run of a plan is begun
 abbrev pub setting_of : PlanSeen → Query → List StoreSeen → Setting
@@ -58,6 +57,7 @@ setting_of p q made = record {
   query = q;
   limits = p.limits;
   actions = p.actions;
+  rules = [];
   stores = made;
 }
 
@@ -128,20 +128,39 @@ pub fields-narrow : (p : PlanSeen) (q now : Query) (ws : List Bool) (made : List
 fields-narrow p q now ws made s schema fields is setting same read =
     read ∙ ap (chosen ws) same ∙ sym (ap (λ (x : Setting). x.query.schema) setting ∙ ap (λ (k : Query). k.schema) is)
 
--- a run that was fed nothing
-pub begun-front : (s : FedSeen) (stores : List StoreSeen) → s.chunks ≡ [] → HaveWholeFrames (run_over s.setting true s.chunks) stores → run.HaveFront s.setting stores
-begun-front s stores none frames = record {
+-- what a run over the wanted columns left: whole frames over chunks that it was fed
+pub record Left (p : PlanSeen) (q : Query) (ws : List Bool) (told : Option Files) (s : FedSeen) (stores : List StoreSeen) : Type 0 where
+  pub chunks : List DataChunk
+  pub is_open : Bool
+  pub wide : AreFedWhole p (query_tree q) ws told is_open chunks
+  pub frames : HaveWholeFrames (run_over s.setting is_open chunks) stores
+
+-- one that was fed nothing
+pub left-none : (p : PlanSeen) (q : Query) (ws : List Bool) (told : Option Files) (s : FedSeen) (stores : List StoreSeen) → s.chunks ≡ [] → HaveWholeFrames (run_over s.setting true s.chunks) stores → Left p q ws told s stores
+left-none p q ws told s stores none frames = record {
   chunks = s.chunks;
   is_open = true;
-  fit = subst (AllHaveFields s.setting.query.schema) (sym none) (All-nil (λ (c : DataChunk). FitsSchema s.setting.query.schema c.frame));
+  wide = none-whole p (query_tree q) ws told s.chunks none;
   frames = frames;
 }
 
+-- one that was fed what a reader gave
+pub left-read : (p : PlanSeen) (q : Query) (ws : List Bool) (made stores : List StoreSeen) (s : FedSeen) (told : Option Files) (first : ReaderState) → Began p (narrowed_query ws q) made s → IsReader p (query_tree q) ws first
+    → run.HaveFront s.setting (AreFedOf told first) stores → Left p q ws told s stores
+left-read p q ws made stores s told first began reader back =
+    let fit : AllHaveFields (chosen ws q.schema) back.chunks = subst (λ (x : Setting). AllHaveFields x.query.schema back.chunks) began.setting back.fit in
+    record {
+      chunks = back.chunks;
+      is_open = back.is_open;
+      wide = fed-whole p (query_tree q) ws told first back.is_open back.chunks reader fit back.fed;
+      frames = back.frames;
+    }
+
 -- stores as they are made have the frames of no run
-pub front-made : {S : Type 0} (held : S → ℕ) (told : S → Option (List (List ℕ))) (faults : S → ℕ) (sure : S → Bool) (p : PlanSeen) (q : Query) (items now : List S)
-    → CanRun p → All (IsMade p.spill_dir) (stores_seen held told faults sure items) → length items ≡ p.limits.partitions → now ≡ items
-    → HaveFront p (query_tree q) (stores_seen held told faults sure now)
-front-made {S = S} held told faults sure p q items now can new count same =
+pub front-made : {S : Type 0} (held : S → ℕ) (told : S → Option (List (List ℕ))) (faults : S → ℕ) (sure : S → Bool) (p : PlanSeen) (q : Query) (Fed : Bool → List DataChunk → Type 0) (items now : List S)
+    → CanRun p → All (IsMade p.spill_dir) (stores_seen held told faults sure items) → length items ≡ p.limits.partitions → Fed true [] → now ≡ items
+    → HaveFront p (query_tree q) Fed (stores_seen held told faults sure now)
+front-made {S = S} held told faults sure p q Fed items now can new count none same =
     let made : List StoreSeen = stores_seen held told faults sure items in
     let fit : setting_fits (setting_of p q made) ≡ true =
     ap (λ l. limits_fit p.limits (length p.actions) l) (map-map items)
@@ -149,9 +168,12 @@ front-made {S = S} held told faults sure p q items now can new count same =
     rw same (record {
       made = made;
       are_made = new;
+      count = length-map items _ ∙ count;
       chunks = [];
-      is_open = false;
-      frames = untouched-frames (setting_of p q made) [] fit;
+      is_open = true;
+      fed = none;
+      fit = All-nil (λ (c : DataChunk). FitsSchema q.schema c.frame);
+      frames = untouched-in (setting_of p q made) true [] fit;
     })
   where
     map-map : (xs : List S) → map (λ (s : StoreSeen). s.held) (stores_seen held told faults sure xs) ≡ map held xs
@@ -248,47 +270,45 @@ ends-for (Some files) first p q ws stop reader ends = sym (ap end_of (reader.lef
 rose-above : (before now : ℕ) → Rose before now → 0 < now
 rose-above before now rose = omega (arith, rose)
 
-module _ (p : PlanSeen) (q : Query) (ws : List Bool) (covered : covers ws (query_tree q) ≡ true) (made stores : List StoreSeen) (s : FedSeen) (began : Began p (narrowed_query ws q) made s) (back : run.HaveFront s.setting stores) where
+module _ (p : PlanSeen) (q : Query) (ws : List Bool) (covered : covers ws (query_tree q) ≡ true) (made stores : List StoreSeen) (s : FedSeen) (began : Began p (narrowed_query ws q) made s) (told : Option Files) (left : Left p q ws told s stores) where
   -- whole chunks of those that the run was fed
   abbrev wide : List DataChunk
-  wide = widened_chunks ws q.schema back.chunks
-
-  fit : AllHaveFields (chosen ws q.schema) back.chunks
-  fit = subst (λ (x : Setting). AllHaveFields x.query.schema back.chunks) began.setting back.fit
+  wide = left.wide.whole
 
   -- what a run over the wanted columns leaves is what one over all leaves
-  whole : HaveWholeFrames (asked_run p (query_tree q) back.is_open wide made) stores
-  whole = whole-frames p q ws covered made stores back.is_open back.chunks fit (subst (λ (x : Setting). HaveWholeFrames (run_over x back.is_open back.chunks) stores) began.setting back.frames)
+  whole : HaveWholeFrames (asked_run p (query_tree q) left.is_open wide made) stores
+  whole = whole-frames p q ws covered made stores left.is_open left.chunks wide left.wide.wanted left.wide.fit
+      (subst (λ (x : Setting). HaveWholeFrames (run_over x left.is_open left.chunks) stores) began.setting left.frames)
 
-  have : HaveFrames (asked_run p (query_tree q) back.is_open wide made) stores
-  have = whole-are (asked_run p (query_tree q) back.is_open wide made) stores whole
+  have : HaveFrames (asked_run p (query_tree q) left.is_open wide made) stores
+  have = whole-are (asked_run p (query_tree q) left.is_open wide made) stores whole
 
-  pub run-front : HaveFront p (query_tree q) stores
-  run-front = record { made = made; are_made = began.new; chunks = wide; is_open = back.is_open; frames = whole }
+  pub run-front : HaveFront p (query_tree q) (AreFedInput p (query_tree q) told) stores
+  run-front = record { made = made; are_made = began.new; count = began.count; chunks = wide; is_open = left.is_open; fed = left.wide.fed; fit = left.wide.fit; frames = whole }
 
   pub run-sound : All (λ (x : StoreSeen). IsTrue x.sure → x.faults ≡ 0) stores → p.spill_dir ≡ None → All IsSoundStore stores
-  run-sound never = all-sound p (query_tree q) back.is_open wide made stores began.new began.count have never
+  run-sound never = all-sound p (query_tree q) left.is_open wide made stores began.new began.count have never
 
-  pub run-caused : (told : Option Files) (first : ReaderState) (never : All (λ (x : StoreSeen). IsTrue x.sure → x.faults ≡ 0) stores) (reader : IsReader p (query_tree q) ws first)
+  pub run-caused : (first : ReaderState) (never : All (λ (x : StoreSeen). IsTrue x.sure → x.faults ≡ 0) stores) (reader : IsReader p (query_tree q) ws first)
       (e : FileRunError) → IsRunEnd s told first stores e → IsCaused (file_fault e) (asks p (query_tree q)) told stores
-  run-caused told first never reader (run_error.Read (csv_error.Missing file)) end = ends-for told first p (query_tree q) ws (misfit (missing file)) reader end
-  run-caused told first never reader (run_error.Read (csv_error.Header file)) end = ends-for told first p (query_tree q) ws (misfit (header file)) reader end
-  run-caused told first never reader (run_error.Read (csv_error.Width file row)) end = ends-for told first p (query_tree q) ws (misfit (width file row)) reader end
-  run-caused told first never reader (run_error.Read (csv_error.Field file row column)) end = ends-for told first p (query_tree q) ws (misfit (field file row column)) reader end
-  run-caused told first never reader (run_error.Read csv_error.TooLarge) end = ends-for told first p (query_tree q) ws too_large reader end
-  run-caused told first never reader (run_error.Read csv_error.Input) end = tt
-  run-caused told first never reader (run_error.Read csv_error.Memory) end = tt
-  run-caused told first never reader (run_error.Run (pipe_error.Store k)) end =
-      store-caused p (query_tree q) back.is_open wide made stores began.new began.count have never k end.0 (rose-above _ _ end.1)
-  run-caused told first never reader (run_error.Run (pipe_error.Damaged k n)) end =
-      frame-caused p (query_tree q) back.is_open wide made stores began.new began.count have never k n end.0
+  run-caused first never reader (run_error.Read (csv_error.Missing file)) end = ends-for told first p (query_tree q) ws (misfit (missing file)) reader end
+  run-caused first never reader (run_error.Read (csv_error.Header file)) end = ends-for told first p (query_tree q) ws (misfit (header file)) reader end
+  run-caused first never reader (run_error.Read (csv_error.Width file row)) end = ends-for told first p (query_tree q) ws (misfit (width file row)) reader end
+  run-caused first never reader (run_error.Read (csv_error.Field file row column)) end = ends-for told first p (query_tree q) ws (misfit (field file row column)) reader end
+  run-caused first never reader (run_error.Read csv_error.TooLarge) end = ends-for told first p (query_tree q) ws too_large reader end
+  run-caused first never reader (run_error.Read csv_error.Input) end = tt
+  run-caused first never reader (run_error.Read csv_error.Memory) end = tt
+  run-caused first never reader (run_error.Run (pipe_error.Store k)) end =
+      store-caused p (query_tree q) left.is_open wide made stores began.new began.count have never k end.0 (rose-above _ _ end.1)
+  run-caused first never reader (run_error.Run (pipe_error.Damaged k n)) end =
+      frame-caused p (query_tree q) left.is_open wide made stores began.new began.count have never k n end.0
       (subst (λ (x : Setting). (slice_index_or x.stores k no_store).told ≡ None) began.setting end.1.untold) end.1.last
-  run-caused told first never reader (run_error.Run pipe_error.Memory) end = tt
-  run-caused told first never reader (run_error.Run pipe_error.Limits) end = absurd end
-  run-caused told first never reader (run_error.Run (pipe_error.Query f)) end = absurd end
-  run-caused told first never reader (run_error.Run pipe_error.Sink) end = absurd end
-  run-caused told first never reader (run_error.Run (pipe_error.Schema i)) end = absurd end
-  run-caused told first never reader (run_error.Run pipe_error.TooLarge) end = absurd end
+  run-caused first never reader (run_error.Run pipe_error.Memory) end = tt
+  run-caused first never reader (run_error.Run pipe_error.Limits) end = absurd end
+  run-caused first never reader (run_error.Run (pipe_error.Query f)) end = absurd end
+  run-caused first never reader (run_error.Run pipe_error.Sink) end = absurd end
+  run-caused first never reader (run_error.Run (pipe_error.Schema i)) end = absurd end
+  run-caused first never reader (run_error.Run pipe_error.TooLarge) end = absurd end
 
 -- an error of a run that was begun is one that can come
 pub end-comes : (s : FedSeen) (told : Option Files) (first : ReaderState) (stores : List StoreSeen) (e : FileRunError) → IsRunEnd s told first stores e → CanCome e

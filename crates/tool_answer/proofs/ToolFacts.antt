@@ -283,7 +283,7 @@ told-ran f a told journals stores status left (inl is) ran = left-ran f a told j
 told-ran f a told journals stores status left (inr is) ran = absurd (false≢true (subst (λ (n : ℕ). IsTrue (is_answer n)) is ran))
 
 pub left-any : (f : ToolFault) (a : Asked) (told : Option Files) (journals : List (List PartitionEvent)) (stores : List StoreSeen) → IsLeft f a told journals stores
-    → HasNoRun journals stores ⊎ HasStopped a journals stores ⊎ HasRun a told journals stores
+    → HasNoRun journals stores ⊎ HasStopped a told journals stores ⊎ HasRun a told journals stores
 left-any (fault.Refused r) a told journals stores left = inl left
 left-any (fault.Missing file) a told journals stores left = inr (inl left)
 left-any (fault.Header file) a told journals stores left = inr (inl left)

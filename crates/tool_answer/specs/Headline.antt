@@ -7,11 +7,14 @@ use Rattle.pipe_io.specs.Output.{WroteFront}
 use Rattle.pipe_model.specs.Answer.{answer}
 use Rattle.pipe_model.specs.Query.{QueryTree}
 use Rattle.pipe_plan.specs.declared.event.PartitionEvent.{PartitionEvent}
+use Rattle.pipe_plan.specs.Rounds.{IsFront}
 use Rattle.pipe_plan.specs.Run.{StoreSeen}
 use Rattle.pipe_run.specs.Answered.{HaveWholeFrames, IsAnswered}
+use Rattle.pipe_run.specs.Refusals.{AllHaveFields}
 use Rattle.pipe_run.specs.declared.output.GroupByOutput.{GroupByOutput}
 use Rattle.pipe_words.specs.Plans.{PlanSeen}
 use Rattle.tool_made.specs.MadeQuery.{made_tree}
+use Rattle.tool_run.specs.Answering.{AreFedMade}
 use Rattle.tool_run.specs.Reading.{are_few}
 use Rattle.tool_words.specs.Asked.{Asked, asks, makes, refused}
 use Rattle.tool_answer.specs.Asking.{asked_run, input_chunks}
@@ -88,19 +91,36 @@ HasRun (refused r) told journals stores = ⊥
 HasRun (asks p q) told journals stores = (text : List ℕ) × HasAnswer p q told journals stores text
 HasRun (makes p m) told journals stores = (text : List ℕ) × HasMadeLines p m journals stores text
 
--- stores have whole frames of a run that stopped, and no others
-pub record HaveFront (p : PlanSeen) (q : QueryTree) (stores : List StoreSeen) : Type 0 where
+-- the chunks that a run was fed of the files, where they are told: the first that they give, and all
+-- of them where no more may follow
+abbrev pub AreFedInput :
+    PlanSeen → QueryTree → Option Files → Bool → List DataChunk → Type 0
+AreFedInput p q told true chunks =
+    IfSome told (λ files. IsFront chunks (input_chunks files p q).chunks)
+AreFedInput p q told false chunks = AreInput p q told chunks
+
+-- stores have whole frames of a run that stopped, over chunks that were fed so and fit its query, and
+-- no others
+pub record HaveFront
+    (p : PlanSeen) (q : QueryTree) (Fed : Bool → List DataChunk → Type 0)
+    (stores : List StoreSeen) : Type 0 where
   pub made : List StoreSeen
   pub are_made : All (IsMade p.spill_dir) made
+  pub count : length made ≡ p.limits.partitions
   pub chunks : List DataChunk
   pub is_open : Bool
+  pub fed : Fed is_open chunks
+  pub fit : AllHaveFields q.schema chunks
   pub frames : HaveWholeFrames (asked_run p q is_open chunks made) stores
 
 -- the run of what is asked for stopped: there are no journals
-abbrev pub HasStopped : Asked → List (List PartitionEvent) → List StoreSeen → Type 0
-HasStopped (refused r) journals stores = ⊥
-HasStopped (asks p q) journals stores = (journals ≡ []) × HaveFront p q stores
-HasStopped (makes p m) journals stores = (journals ≡ []) × HaveFront p made_tree stores
+abbrev pub HasStopped :
+    Asked → Option Files → List (List PartitionEvent) → List StoreSeen → Type 0
+HasStopped (refused r) told journals stores = ⊥
+HasStopped (asks p q) told journals stores =
+    (journals ≡ []) × HaveFront p q (AreFedInput p q told) stores
+HasStopped (makes p m) told journals stores =
+    (journals ≡ []) × HaveFront p made_tree (AreFedMade m) stores
 
 -- no run was begun: there are neither journals nor stores
 abbrev pub HasNoRun : List (List PartitionEvent) → List StoreSeen → Type 0

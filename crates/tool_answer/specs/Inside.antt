@@ -27,17 +27,17 @@ pub record RanSeen : Type 0 where
 abbrev pub IsLeft :
     ToolFault → Asked → Option Files → List (List PartitionEvent) → List StoreSeen → Type 0
 IsLeft (fault.Refused r) a told journals stores = HasNoRun journals stores
-IsLeft (fault.Missing file) a told journals stores = HasStopped a journals stores
-IsLeft (fault.Header file) a told journals stores = HasStopped a journals stores
-IsLeft (fault.Width file row) a told journals stores = HasStopped a journals stores
-IsLeft (fault.Field file row column) a told journals stores = HasStopped a journals stores
-IsLeft fault.InputFailed a told journals stores = HasStopped a journals stores
+IsLeft (fault.Missing file) a told journals stores = HasStopped a told journals stores
+IsLeft (fault.Header file) a told journals stores = HasStopped a told journals stores
+IsLeft (fault.Width file row) a told journals stores = HasStopped a told journals stores
+IsLeft (fault.Field file row column) a told journals stores = HasStopped a told journals stores
+IsLeft fault.InputFailed a told journals stores = HasStopped a told journals stores
 IsLeft fault.OutputFailed a told journals stores = HasRun a told journals stores
-IsLeft fault.TooLarge a told journals stores = HasStopped a journals stores
-IsLeft (fault.Store p) a told journals stores = HasStopped a journals stores
-IsLeft (fault.Damaged p n) a told journals stores = HasStopped a journals stores
+IsLeft fault.TooLarge a told journals stores = HasStopped a told journals stores
+IsLeft (fault.Store p) a told journals stores = HasStopped a told journals stores
+IsLeft (fault.Damaged p n) a told journals stores = HasStopped a told journals stores
 IsLeft fault.Memory a told journals stores =
-    HasNoRun journals stores ⊎ HasStopped a journals stores ⊎ HasRun a told journals stores
+    HasNoRun journals stores ⊎ HasStopped a told journals stores ⊎ HasRun a told journals stores
 
 -- a fault that comes before anything is written
 abbrev pub IsBefore : ToolFault → Type 0

@@ -7,6 +7,7 @@ ghost use Rattle.pipe_io.specs.Files.{Files};
 ghost use Rattle.pipe_model.specs.Output.{key_types};
 ghost use Rattle.pipe_words.specs.Plans.{CanRun, plan_seen};
 ghost use Rattle.tool_made.specs.MadeQuery.{made_tree};
+ghost use Rattle.tool_run.specs.Answering.{AreFedMade};
 ghost use Rattle.tool_words.specs.Asked.{does_keep, makes};
 ghost use Rattle.pipe_plan.specs.Stores.{stores_seen};
 ghost use Rattle.tool_answer.specs.Ended.{IsMade, IsSoundStore};
@@ -52,7 +53,7 @@ pub fn run_rows<S: SpillStore + Drop + Send, G: Gate + Sync, H: Threads + Wait +
         (stores_seen S.held S.told S.faults S.sure result.1.items)) }
     ensures of_stores { IfErr result.0 (λ f. IsOfStores f) }
     ensures stopped { IfErr result.0 (λ _. HaveFront (plan_seen question.plan) made_tree
-        (stores_seen S.held S.told S.faults S.sure result.1.items)) }
+        (AreFedMade question.rows) (stores_seen S.held S.told S.faults S.sure result.1.items)) }
     ensures in_memory { question.plan.spill_dir ≡ None
         → All IsSoundStore (stores_seen S.held S.told S.faults S.sure result.1.items) }
 {

@@ -14,7 +14,7 @@ ghost use Rattle.tool_answer.specs.Asking.{files_asked};
 ghost use Rattle.tool_answer.specs.Ended.{IsMade, IsSoundStore};
 ghost use Rattle.tool_answer.specs.Faults.{IsCaused};
 ghost use Rattle.tool_answer.specs.Inside.{IsOfRun};
-ghost use Rattle.tool_answer.specs.Headline.{HasRunTo, HaveFront};
+ghost use Rattle.tool_answer.specs.Headline.{AreFedInput, HasRunTo, HaveFront};
 ghost use Rattle.tool_answer.specs.declared.fault.ToolFault.TheVariants as fault;
 
 use crate::fault::{ToolFault, file_fault};
@@ -55,6 +55,7 @@ pub fn begin_run<'a, S: SpillStore + Drop + Send, H: Wait>(
       query = query.now;
       limits = limits.now;
       actions = map (λ v. v.items) actions.items;
+      rules = [];
       stores = stores_seen S.held S.told S.faults S.sure stores.items;
     }) }
     ensures chunks { IfOk result (λ r. r.chunks ≡ []) }
@@ -101,7 +102,9 @@ pub fn run_question<
     ensures tried { TriedFront (I.tried input.old) (I.tried input.new)
         (files_asked (asks (plan_seen question.plan) (query_tree question.query))) }
     ensures stopped { IfErr result.0 (λ _. HaveFront (plan_seen question.plan)
-        (query_tree question.query) (stores_seen S.held S.told S.faults S.sure result.1.items)) }
+        (query_tree question.query)
+        (AreFedInput (plan_seen question.plan) (query_tree question.query) (I.told input.old))
+        (stores_seen S.held S.told S.faults S.sure result.1.items)) }
     ensures in_memory { question.plan.spill_dir ≡ None
         → All IsSoundStore (stores_seen S.held S.told S.faults S.sure result.1.items) }
 {

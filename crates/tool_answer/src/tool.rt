@@ -295,16 +295,16 @@ pub fn run_tool<
         → (Rose (O.faults output.old) (O.faults output.new) → ⊥)
         → (result.status ≡ DONE) ⊎ (result.status ≡ NO_MEMORY) }
 
-    // What is left of the run: nothing before it began, no journals where it stopped, and frames that
-    // are whole.
+    // What is left of the run: nothing before it began; no journals where it stopped, and frames that are
+    // whole, of the first chunks of the files or of the generated rows.
     ensures not_run { IsTrue (is_refused (asked words.now))
         → HasNoRun result.journals result.stores }
     ensures stopped { IsTrue (is_stopped result.status)
-        → HasStopped (asked words.now) result.journals result.stores }
+        → HasStopped (asked words.now) (I.told input.old) result.journals result.stores }
     ensures ran { IsTrue (is_answer result.status)
         → HasRun (asked words.now) (I.told input.old) result.journals result.stores }
     ensures memory_left { HasNoRun result.journals result.stores
-        ⊎ HasStopped (asked words.now) result.journals result.stores
+        ⊎ HasStopped (asked words.now) (I.told input.old) result.journals result.stores
         ⊎ HasRun (asked words.now) (I.told input.old) result.journals result.stores }
 
     // What is written where the output isn't due, and what is reported.

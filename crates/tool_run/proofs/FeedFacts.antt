@@ -31,7 +31,7 @@ use Rattle.pipe_source.specs.Reader.{chunks_left, ReaderState}
 use Rattle.pipe_source.specs.Rounds.{StopsWithin}
 use Rattle.tool_run.specs.declared.counted.Counted.{Counted}
 use Rattle.tool_run.specs.Answering.{HaveFront}
-use Rattle.tool_run.specs.Reading.{AreAll, are_few, EndsBy, end_of, stop_of}
+use Rattle.tool_run.specs.Reading.{AreAll, are_few, ComeFirst, EndsBy, end_of, stop_of}
 use Rattle.tool_run.specs.Rounds.{WereTaken, are_few_behind, EndsBehind, EndsWith, end_behind, HasNoneLeft}
 
 -- ---- what was read
@@ -48,6 +48,11 @@ taken-then (Some files) first old new taken more now is h g =
 pub taken-all : (told : Option Files) (first now : ReaderState) (taken : List DataChunk) → WereTaken told first taken now → HasNoneLeft told now → AreAll told first taken
 taken-all None first now taken h none = tt
 taken-all (Some files) first now taken h none = h ∙ ap (chunks_then taken) none ∙ ap (λ (cs : List DataChunk). record { chunks = cs; stop = None }) (append-nil taken)
+
+-- chunks that were taken come first
+pub taken-first : (told : Option Files) (first now : ReaderState) (taken : List DataChunk) → WereTaken told first taken now → ComeFirst told first taken
+taken-first None first now taken h = tt
+taken-first (Some files) first now taken h = record { rest = (chunks_left files now).chunks; is = ap (λ (r : CsvChunks). r.chunks) h }
 
 -- chunks are few behind others where all are
 few-then : (before : Counted) (taken more : List DataChunk) → before.chunks ≡ length taken → before.rows ≡ total_height taken → are_few (taken ++ more) ≡ are_few_behind before more
@@ -139,26 +144,27 @@ fell-none stores = record { count = refl; each = λ p within. omega arith }
 
 -- ---- what is left of the stores
 
--- whole frames of a run over chunks that fit
-pub front-of : (x now : Setting) (is_open : Bool) (chunks : List DataChunk) (stores : List StoreSeen) → now ≡ x → AllHaveFields x.query.schema chunks
-    → HaveWholeFrames (run_over now is_open chunks) stores → HaveFront x stores
-front-of x now is_open chunks stores same fit whole = record {
+-- whole frames of a run over chunks that were fed so
+pub front-of : (x now : Setting) (Fed : Bool → List DataChunk → Type 0) (is_open : Bool) (chunks : List DataChunk) (stores : List StoreSeen) → now ≡ x → Fed is_open chunks
+    → AllHaveFields x.query.schema chunks → HaveWholeFrames (run_over now is_open chunks) stores → HaveFront x Fed stores
+front-of x now Fed is_open chunks stores same fed fit whole = record {
   chunks = chunks;
   is_open = is_open;
+  fed = fed;
   fit = fit;
   frames = subst (λ (s : Setting). HaveWholeFrames (run_over s is_open chunks) stores) same whole;
 }
 
--- the chunks that a refused feed reached fit where all do
-pub reached-fit : (fields : List Field) (s : FedSeen) (chunks : List DataChunk) (err : PipeError) → AllHaveFields fields s.chunks → AllHaveFields fields (s.chunks ++ chunks) → AllHaveFields fields (chunks_reached s chunks err)
-reached-fit fields s chunks (pipe_error.Schema i) few all = few
-reached-fit fields s chunks pipe_error.TooLarge few all = few
-reached-fit fields s chunks (pipe_error.Store p) few all = all
-reached-fit fields s chunks pipe_error.Memory few all = all
-reached-fit fields s chunks pipe_error.Limits few all = few
-reached-fit fields s chunks (pipe_error.Query f) few all = few
-reached-fit fields s chunks pipe_error.Sink few all = few
-reached-fit fields s chunks (pipe_error.Damaged p n) few all = few
+-- what holds of the chunks before a refused feed, and of all with its own, holds of those that it reached
+pub reached-has : (P : List DataChunk → Type 0) (s : FedSeen) (chunks : List DataChunk) (err : PipeError) → P s.chunks → P (s.chunks ++ chunks) → P (chunks_reached s chunks err)
+reached-has P s chunks (pipe_error.Schema i) few all = few
+reached-has P s chunks pipe_error.TooLarge few all = few
+reached-has P s chunks (pipe_error.Store p) few all = all
+reached-has P s chunks pipe_error.Memory few all = all
+reached-has P s chunks pipe_error.Limits few all = few
+reached-has P s chunks (pipe_error.Query f) few all = few
+reached-has P s chunks pipe_error.Sink few all = few
+reached-has P s chunks (pipe_error.Damaged p n) few all = few
 
 -- ---- before the first round
 

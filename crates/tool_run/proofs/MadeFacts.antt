@@ -1,22 +1,23 @@
 -- A run that is fed generated rows, round by round.
-use Rattle.std.proofs.Common.{◌≡◌, ◌∙◌, ◌+◌, ◌<◌, ◌≤◌, ◌^◌, ◌++◌, ℕ, List, refl, ap, arith, length, subst, sym}
+use Rattle.std.proofs.Common.{◌≡◌, ◌∙◌, ◌+◌, ◌-◌, ◌<◌, ◌≤◌, ◌^◌, ◌++◌, ℕ, List, refl, ap, arith, length, subst, sym}
 use Rattle.std.specs.List.{All, range_with_len}
 use Rattle.std.proofs.lemmas.List.FromFn.{length-map-range_with_len}
 use Rattle.pipe_columns.specs.declared.data_chunk.DataChunk.{DataChunk}
 use Rattle.pipe_columns.specs.declared.schema.Field.{Field}
 use Rattle.pipe_columns.specs.Frame.{FitsSchema}
 use Rattle.pipe_model.specs.Rows.{total_height}
+use Rattle.pipe_plan.specs.Rounds.{IsFront}
 use Rattle.pipe_plan.specs.Run.{StoreSeen}
 use Rattle.pipe_run.specs.declared.error.PipeError.{PipeError}
 use Rattle.pipe_run.specs.Fed.{FedSeen}
 use Rattle.pipe_run.specs.Feeding.{chunks_reached, IsFeedCause, NoneFell}
 use Rattle.pipe_run.specs.Refusals.{AllHaveFields}
 use Rattle.pipe_run.specs.Finish.{IsFinishCause}
-use Rattle.tool_made.specs.Made.{chunk_count, made_chunk, made_from}
+use Rattle.tool_made.specs.Made.{chunk_count, made, made_chunk, made_from}
 use Rattle.tool_made.specs.MadeQuery.{made_schema}
 use Rattle.tool_made.specs.declared.made.Made.{Made}
 use Rattle.tool_made.proofs.Heights.{chunks-fit, few-chunks, first-rows, made-then}
-use Rattle.tool_run.proofs.FeedFacts.{feed-cause, reached-fit}
+use Rattle.tool_run.proofs.FeedFacts.{feed-cause, reached-has}
 
 -- chunks of one round more
 pub fed-then : (m : Made) (a b : ℕ) (old more now : List DataChunk) → old ≡ made_from m 0 a → more ≡ made_from m a b → now ≡ old ++ more → now ≡ made_from m 0 (a + b)
@@ -31,7 +32,19 @@ made-fit fields m n chunks same is =
 -- and so do those that a refused feed reached
 pub made-reached : (fields : List Field) (s : FedSeen) (m : Made) (a b : ℕ) (more : List DataChunk) (err : PipeError) → made_schema ≡ fields → s.chunks ≡ made_from m 0 a → more ≡ made_from m a b → AllHaveFields fields (chunks_reached s more err)
 made-reached fields s m a b more err same one two =
-    reached-fit fields s more err (made-fit fields m a s.chunks same one) (made-fit fields m (a + b) (s.chunks ++ more) same (fed-then m a b s.chunks more (s.chunks ++ more) one two refl))
+    reached-has (AllHaveFields fields) s more err (made-fit fields m a s.chunks same one) (made-fit fields m (a + b) (s.chunks ++ more) same (fed-then m a b s.chunks more (s.chunks ++ more) one two refl))
+
+-- they are the first of all
+pub made-first : (m : Made) (n : ℕ) (chunks : List DataChunk) → n ≤ chunk_count m → chunks ≡ made_from m 0 n → IsFront chunks (made m)
+made-first m n chunks within is =
+    let rest : List DataChunk = made_from m n (chunk_count m - n) in
+    let number : chunk_count m ≡ n + (chunk_count m - n) = omega (arith, within) in
+    record { rest = rest; is = ap (made_from m 0) number ∙ made-then m n (chunk_count m - n) ∙ ap (λ (cs : List DataChunk). cs ++ rest) (sym is) }
+
+-- and so are those that a refused feed reached
+pub reached-first : (s : FedSeen) (m : Made) (a b : ℕ) (more : List DataChunk) (err : PipeError) → a + b ≤ chunk_count m → s.chunks ≡ made_from m 0 a → more ≡ made_from m a b → IsFront (chunks_reached s more err) (made m)
+reached-first s m a b more err within one two =
+    reached-has (λ (cs : List DataChunk). IsFront cs (made m)) s more err (made-first m a s.chunks (omega (arith, within)) one) (made-first m (a + b) (s.chunks ++ more) within (fed-then m a b s.chunks more (s.chunks ++ more) one two refl))
 
 -- a feed of generated rows is refused for a store or for want of memory
 pub made-cause : (first s : FedSeen) (m : Made) (a b : ℕ) (more : List DataChunk) (stores : List StoreSeen) (err : PipeError)

@@ -2,6 +2,7 @@
 use Rattle.std.specs.Prelude.{◌≡◌, Bool, true, false, List, Option}
 use Rattle.pipe_columns.specs.declared.data_chunk.DataChunk.{DataChunk}
 use Rattle.pipe_io.specs.Files.{Files}
+use Rattle.pipe_plan.specs.Rounds.{IsFront}
 use Rattle.pipe_plan.specs.Run.{StoreSeen}
 use Rattle.pipe_run.specs.declared.output.GroupByOutput.{GroupByOutput}
 use Rattle.pipe_run.specs.Answered.{HaveWholeFrames, IsAnswered}
@@ -10,9 +11,11 @@ use Rattle.pipe_run.specs.Finish.{IsFinishCause}
 use Rattle.pipe_run.specs.Refusals.{AllHaveFields}
 use Rattle.pipe_run.specs.Setting.{run_over, Setting}
 use Rattle.pipe_source.specs.Reader.{ReaderState}
+use Rattle.tool_made.specs.Made.{made}
+use Rattle.tool_made.specs.declared.made.Made.{Made}
 use Rattle.tool_run.specs.declared.error.FileRunError.{FileRunError}
 use Rattle.tool_run.specs.declared.error.FileRunError.TheVariants as error
-use Rattle.tool_run.specs.Reading.{AreAll, are_few, EndsBy}
+use Rattle.tool_run.specs.Reading.{AreAll, are_few, ComeFirst, EndsBy}
 
 -- the run over all chunks that a reader had left, which fit its query, was answered
 pub record IsAnsweredFrom
@@ -31,9 +34,23 @@ abbrev pub IsRunEnd :
 IsRunEnd s told first stores (error.Read e) = EndsBy told first e
 IsRunEnd s told first stores (error.Run e) = IsFinishCause s stores e
 
--- stores have their former frames, and then whole frames of a run over chunks that fit its query
-pub record HaveFront (x : Setting) (stores : List StoreSeen) : Type 0 where
+-- the chunks that a run was fed of files, where they are told: the first that were left, and all of
+-- them where no more may follow
+abbrev pub AreFedOf : Option Files → ReaderState → Bool → List DataChunk → Type 0
+AreFedOf told first true chunks = ComeFirst told first chunks
+AreFedOf told first false chunks = AreAll told first chunks
+
+-- the chunks that a run was fed of generated rows: the first, and all of them where no more may follow
+abbrev pub AreFedMade : Made → Bool → List DataChunk → Type 0
+AreFedMade m true chunks = IsFront chunks (made m)
+AreFedMade m false chunks = chunks ≡ made m
+
+-- stores have their former frames, and then whole frames of a run over chunks that were fed so, which
+-- fit its query
+pub record HaveFront
+    (x : Setting) (Fed : Bool → List DataChunk → Type 0) (stores : List StoreSeen) : Type 0 where
   pub chunks : List DataChunk
   pub is_open : Bool
+  pub fed : Fed is_open chunks
   pub fit : AllHaveFields x.query.schema chunks
   pub frames : HaveWholeFrames (run_over x is_open chunks) stores

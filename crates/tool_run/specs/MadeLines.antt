@@ -29,5 +29,5 @@ made_lines rows out =
     named_number (codes "rows") rows
     ++ (named_number (codes "groups") out.frame.height
     ++ (named_number (codes "overflow") out.overflow
-    ++ (named_number (codes "all_arrivals") (all_arrivals out.journals)
+    ++ (named_number (codes "arrivals") (all_arrivals out.journals)
     ++ named_number (codes "picks") (picks out.journals))))

@@ -6,6 +6,7 @@ use Rattle.pipe_csv.specs.declared.csv_error.CsvError.{CsvError}
 use Rattle.pipe_csv.specs.declared.csv_error.CsvError.TheVariants as csv_error
 use Rattle.pipe_io.specs.Files.{Files}
 use Rattle.pipe_model.specs.Rows.{total_height}
+use Rattle.pipe_plan.specs.Rounds.{IsFront}
 use Rattle.pipe_source.specs.CsvChunks.{CsvChunks, misfit, Stop, too_large}
 use Rattle.pipe_source.specs.Reader.{chunks_left, ReaderState}
 
@@ -17,6 +18,11 @@ are_few chunks = nat_lt (total_height chunks) (2 ^ 32) && nat_lt (length chunks)
 abbrev pub AreAll : Option Files → ReaderState → List DataChunk → Type 0
 AreAll told first taken =
     IfSome told (λ files. chunks_left files first ≡ record { chunks = taken; stop = None })
+
+-- where files are told, these chunks are the first of those that were left
+abbrev pub ComeFirst : Option Files → ReaderState → List DataChunk → Type 0
+ComeFirst told first taken =
+    IfSome told (λ files. IsFront taken (chunks_left files first).chunks)
 
 -- why the reading of chunks ends early, if it does: too many come before where the files stop
 abbrev pub end_of : CsvChunks → Option Stop

@@ -9,7 +9,7 @@ ghost use Rattle.pipe_run.specs.Feeding.{NoneFell};
 ghost use Rattle.pipe_run.specs.Refusals.{AllHaveFields};
 ghost use Rattle.pipe_source.specs.Reader.{given_fields};
 ghost use Rattle.tool_run.specs.Reading.{AreAll, are_few};
-ghost use Rattle.tool_run.specs.Answering.{HaveFront, IsRunEnd};
+ghost use Rattle.tool_run.specs.Answering.{AreFedOf, HaveFront, IsRunEnd};
 ghost use Rattle.tool_run.specs.declared.error.FileRunError.TheVariants as error;
 
 use crate::counted::Counted;
@@ -58,6 +58,7 @@ pub(crate) fn feed_files<
         → Rose (I.faults input.old) (I.faults input.new)) }
     ensures tried { TriedFront (I.tried input.old) (I.tried input.new) reader.old.names }
     ensures back { IfErr result (λ e. HaveFront run.entry.setting
+        (AreFedOf (I.told input.old) reader.old)
         (stores_seen S.held S.told S.faults S.sure e.1.items)) }
 {
     let mut run = run;

@@ -6,7 +6,7 @@ ghost use Rattle.pipe_run.specs.Feeding.{NoneFell};
 ghost use Rattle.pipe_run.specs.Finish.{IsFinishCause};
 ghost use Rattle.tool_made.specs.Made.{made};
 ghost use Rattle.tool_made.specs.MadeQuery.{made_schema};
-ghost use Rattle.tool_run.specs.Answering.{HaveFront};
+ghost use Rattle.tool_run.specs.Answering.{AreFedMade, HaveFront};
 
 use pipe_global::Gate;
 use pipe_group_by::GroupByRun;
@@ -37,6 +37,7 @@ pub(crate) fn feed_made<'a, S: SpillStore + Drop + Send, G: Gate + Sync, H: Thre
     ensures cause { IfErr result (λ e. IsFinishCause run.entry
         (stores_seen S.held S.told S.faults S.sure e.1.items) e.0) }
     ensures back { IfErr result (λ e. HaveFront run.entry.setting
+        (AreFedMade rows.now)
         (stores_seen S.held S.told S.faults S.sure e.1.items)) }
 {
     let total = rows.chunks();

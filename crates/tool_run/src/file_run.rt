@@ -6,7 +6,7 @@ ghost use Rattle.pipe_plan.specs.Stores.{stores_seen};
 ghost use Rattle.pipe_io.specs.Tried.{TriedFront};
 ghost use Rattle.pipe_csv.specs.declared.csv_error.CsvError.TheVariants as csv_error;
 ghost use Rattle.pipe_source.specs.Reader.{given_fields};
-ghost use Rattle.tool_run.specs.Answering.{HaveFront, IsAnsweredFrom, IsRunEnd};
+ghost use Rattle.tool_run.specs.Answering.{AreFedOf, HaveFront, IsAnsweredFrom, IsRunEnd};
 ghost use Rattle.tool_run.specs.declared.error.FileRunError.TheVariants as error;
 
 use crate::error::FileRunError;
@@ -53,6 +53,7 @@ pub fn run_files<
         → Rose (I.faults input.old) (I.faults input.new)) }
     ensures tried { TriedFront (I.tried input.old) (I.tried input.new) reader.old.names }
     ensures back { IfErr result.0 (λ _. HaveFront run.entry.setting
+        (AreFedOf (I.told input.old) reader.old)
         (stores_seen S.held S.told S.faults S.sure result.1.items)) }
 {
     let run = match feed_files(rt, alloc, gate, run, input, reader, most, threads) {

@@ -7,7 +7,7 @@ ghost use Rattle.pipe_run.specs.Finish.{IsFinishCause};
 ghost use Rattle.pipe_run.specs.Setting.{run_over};
 ghost use Rattle.tool_made.specs.Made.{made};
 ghost use Rattle.tool_made.specs.MadeQuery.{made_schema};
-ghost use Rattle.tool_run.specs.Answering.{HaveFront};
+ghost use Rattle.tool_run.specs.Answering.{AreFedMade, HaveFront};
 
 use crate::feed_made::feed_made;
 use pipe_global::Gate;
@@ -39,6 +39,7 @@ pub fn run_made<'a, S: SpillStore + Drop + Send, G: Gate + Sync, H: Threads + Wa
     ensures cause { IfErr result.0 (λ e. IsFinishCause run.entry
         (stores_seen S.held S.told S.faults S.sure result.1.items) e) }
     ensures back { IfErr result.0 (λ _. HaveFront run.entry.setting
+        (AreFedMade rows.now)
         (stores_seen S.held S.told S.faults S.sure result.1.items)) }
 {
     let run = match feed_made(rt, alloc, gate, run, rows, most) {

@@ -4,8 +4,9 @@ use Rattle.pipe_model.specs.Query.{QueryTree}
 use Rattle.pipe_run.specs.Setting.{Setting}
 use Rattle.pipe_words.specs.Plans.{plan_seen}
 use Rattle.pipe_plan.specs.Stores.{stores_seen}
+use Rattle.tool_run.specs.Answering.{AreFedMade}
 use Rattle.tool_answer.specs.Headline.{HaveFront}
-use Rattle.tool_answer.proofs.MadeFacts.{begun-fault, end-begun, has-made, has-made-sound, made-caused, made-front, made-sound}
+use Rattle.tool_answer.proofs.MadeFacts.{begun-fault, end-begun, has-made, has-made-sound, made-caused, made-front, made-none, made-sound}
 use Rattle.tool_answer.proofs.RunFacts.{began-of, err-at, front-made, never-seen, ok-at, plan-fits}
 use Rattle.tool_answer.proofs.made_run.run_rows.Goals as goal
 
@@ -21,8 +22,8 @@ run_made-ended-requires-clause-fits g c = λ lives bounds.
 pub returns-in-Err-clause-stopped : goal.returns-in-Err-clause-stopped
 returns-in-Err-clause-stopped g c =
     let store = g.S.SpillStore in
-    subst (λ (t : QueryTree). HaveFront (plan_seen c.args.question.plan) t (stores_seen store.held store.told store.faults store.sure c.in-Err.stores.items)) c.requires.query
-    (front-made store.held store.told store.faults store.sure (plan_seen c.args.question.plan) c.args.question.query c.args.stores.items c.in-Err.stores.items c.requires.runs c.requires.made c.requires.count c.in-Err.ensures.back)
+    subst (λ (t : QueryTree). HaveFront (plan_seen c.args.question.plan) t (AreFedMade c.args.question.rows) (stores_seen store.held store.told store.faults store.sure c.in-Err.stores.items)) c.requires.query
+    (front-made store.held store.told store.faults store.sure (plan_seen c.args.question.plan) c.args.question.query (AreFedMade c.args.question.rows) c.args.stores.items c.in-Err.stores.items c.requires.runs c.requires.made c.requires.count (made-none c.args.question.rows) c.in-Err.ensures.back)
 
 pub returns-in-Ok-ended-clause-answered : goal.returns-in-Ok-ended-clause-answered
 returns-in-Ok-ended-clause-answered g c =

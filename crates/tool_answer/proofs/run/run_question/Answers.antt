@@ -7,8 +7,9 @@ use Rattle.pipe_io.proofs.TriedFacts.{front-none}
 use Rattle.pipe_words.specs.Plans.{plan_seen}
 use Rattle.pipe_plan.specs.Stores.{stores_seen}
 use Rattle.tool_words.specs.Asked.{files_named}
-use Rattle.tool_answer.proofs.NarrowFacts.{keeps-narrow, named-many, reader-is}
-use Rattle.tool_answer.proofs.RunFacts.{began-narrow, begun-front, end-comes, err-at, fault-of-run, front-made, has-run, has-run-sound, input-fault, never-seen, ok-at, plan-fits, run-caused, run-front, run-sound}
+use Rattle.tool_answer.specs.Headline.{AreFedInput}
+use Rattle.tool_answer.proofs.NarrowFacts.{fed-none, keeps-narrow, named-many, reader-is}
+use Rattle.tool_answer.proofs.RunFacts.{began-narrow, end-comes, err-at, fault-of-run, front-made, has-run, has-run-sound, input-fault, left-none, left-read, never-seen, ok-at, plan-fits, run-caused, run-front, run-sound}
 use Rattle.tool_answer.proofs.run.run_question.Goals as goal
 
 pub begin_run-requires-clause-fits : goal.begin_run-requires-clause-fits
@@ -29,12 +30,12 @@ reader_of-requires-clause-wanted g c =
 pub returns-in_default-clause-stopped : goal.returns-in_default-clause-stopped
 returns-in_default-clause-stopped g c =
     let store = g.S.SpillStore in
-    front-made store.held store.told store.faults store.sure (plan_seen c.args.question.plan) c.args.question.query c.args.stores.items c.args.stores.items c.requires.runs c.requires.made c.requires.count refl
+    front-made store.held store.told store.faults store.sure (plan_seen c.args.question.plan) c.args.question.query (AreFedInput (plan_seen c.args.question.plan) (query_tree c.args.question.query) (g.I.InputFiles.told c.args.input.now)) c.args.stores.items c.args.stores.items c.requires.runs c.requires.made c.requires.count (fed-none (plan_seen c.args.question.plan) (query_tree c.args.question.query) (g.I.InputFiles.told c.args.input.now)) refl
 
 pub returns-in-Err-clause-stopped : goal.returns-in-Err-clause-stopped
 returns-in-Err-clause-stopped g c =
     let store = g.S.SpillStore in
-    front-made store.held store.told store.faults store.sure (plan_seen c.args.question.plan) c.args.question.query c.args.stores.items c.in-Err.stores.items c.requires.runs c.requires.made c.requires.count c.in-Err.ensures.back
+    front-made store.held store.told store.faults store.sure (plan_seen c.args.question.plan) c.args.question.query (AreFedInput (plan_seen c.args.question.plan) (query_tree c.args.question.query) (g.I.InputFiles.told c.args.input.now)) c.args.stores.items c.in-Err.stores.items c.requires.runs c.requires.made c.requires.count (fed-none (plan_seen c.args.question.plan) (query_tree c.args.question.query) (g.I.InputFiles.told c.args.input.now)) c.in-Err.ensures.back
 
 pub returns-in_default-reader_of-clause-stopped : goal.returns-in_default-reader_of-clause-stopped
 returns-in_default-reader_of-clause-stopped g c =
@@ -43,7 +44,7 @@ returns-in_default-reader_of-clause-stopped g c =
     let n = c.in-Ok.narrowed in
     let covered : covers n.wanted.items (query_tree q) ≡ true = c.in-Ok.ensures.covered in
     let began = began-narrow store.held store.told store.faults store.sure (plan_seen c.args.question.plan) q n.query n.wanted.items c.args.stores.items c.in-Ok-begin_run.run' c.requires.made c.requires.count c.in-Ok.ensures.query c.in-Ok-begin_run.ensures.setting in
-    run-front (plan_seen c.args.question.plan) q n.wanted.items covered (stores_seen store.held store.told store.faults store.sure c.args.stores.items) (stores_seen store.held store.told store.faults store.sure c.into_stores.result.items) c.in-Ok-begin_run.run' began (begun-front c.in-Ok-begin_run.run' (stores_seen store.held store.told store.faults store.sure c.into_stores.result.items) c.in-Ok-begin_run.ensures.chunks c.into_stores.ensures.back)
+    run-front (plan_seen c.args.question.plan) q n.wanted.items covered (stores_seen store.held store.told store.faults store.sure c.args.stores.items) (stores_seen store.held store.told store.faults store.sure c.into_stores.result.items) c.in-Ok-begin_run.run' began (g.I.InputFiles.told c.args.input.now) (left-none (plan_seen c.args.question.plan) q n.wanted.items (g.I.InputFiles.told c.args.input.now) c.in-Ok-begin_run.run' (stores_seen store.held store.told store.faults store.sure c.into_stores.result.items) c.in-Ok-begin_run.ensures.chunks c.into_stores.ensures.back)
 
 pub returns-in_default-reader_of-clause-in_memory : goal.returns-in_default-reader_of-clause-in_memory
 returns-in_default-reader_of-clause-in_memory g c =
@@ -53,7 +54,7 @@ returns-in_default-reader_of-clause-in_memory g c =
     let covered : covers n.wanted.items (query_tree q) ≡ true = c.in-Ok.ensures.covered in
     let began = began-narrow store.held store.told store.faults store.sure (plan_seen c.args.question.plan) q n.query n.wanted.items c.args.stores.items c.in-Ok-begin_run.run' c.requires.made c.requires.count c.in-Ok.ensures.query c.in-Ok-begin_run.ensures.setting in
     let never = never-seen store.held store.told store.faults store.sure store.never_failed c.into_stores.result.items in
-    run-sound (plan_seen c.args.question.plan) q n.wanted.items covered (stores_seen store.held store.told store.faults store.sure c.args.stores.items) (stores_seen store.held store.told store.faults store.sure c.into_stores.result.items) c.in-Ok-begin_run.run' began (begun-front c.in-Ok-begin_run.run' (stores_seen store.held store.told store.faults store.sure c.into_stores.result.items) c.in-Ok-begin_run.ensures.chunks c.into_stores.ensures.back) never
+    run-sound (plan_seen c.args.question.plan) q n.wanted.items covered (stores_seen store.held store.told store.faults store.sure c.args.stores.items) (stores_seen store.held store.told store.faults store.sure c.into_stores.result.items) c.in-Ok-begin_run.run' began (g.I.InputFiles.told c.args.input.now) (left-none (plan_seen c.args.question.plan) q n.wanted.items (g.I.InputFiles.told c.args.input.now) c.in-Ok-begin_run.run' (stores_seen store.held store.told store.faults store.sure c.into_stores.result.items) c.in-Ok-begin_run.ensures.chunks c.into_stores.ensures.back) never
 
 pub returns-in-Ok-ended-clause-answered : goal.returns-in-Ok-ended-clause-answered
 returns-in-Ok-ended-clause-answered g c =
@@ -86,7 +87,7 @@ returns-clause-cause g c =
     let began = began-narrow store.held store.told store.faults store.sure (plan_seen c.args.question.plan) q n.query n.wanted.items c.args.stores.items c.in-Ok-begin_run.run' c.requires.made c.requires.count c.in-Ok.ensures.query c.in-Ok-begin_run.ensures.setting in
     let reader = reader-is (plan_seen c.args.question.plan) q n.wanted.items c.in-Ok-reader_of.reader n.schema c.in-Ok.ensures.schema c.in-Ok-reader_of.ensures.options c.in-Ok-reader_of.ensures.left in
     let never = never-seen store.held store.told store.faults store.sure store.never_failed c.run_files-ended.result.1.items in
-    rw c.file_fault.ensures (run-caused (plan_seen c.args.question.plan) q n.wanted.items covered (stores_seen store.held store.told store.faults store.sure c.args.stores.items) (stores_seen store.held store.told store.faults store.sure c.run_files-ended.result.1.items) c.in-Ok-begin_run.run' began (err-at c.run_files-ended.result.0 c.in-Err-ended.error _ c.in-Err-ended.is c.run_files-ended.ensures.back) (g.I.InputFiles.told c.args.input.now) c.in-Ok-reader_of.reader never reader c.in-Err-ended.error (err-at c.run_files-ended.result.0 c.in-Err-ended.error _ c.in-Err-ended.is c.run_files-ended.ensures.cause))
+    rw c.file_fault.ensures (run-caused (plan_seen c.args.question.plan) q n.wanted.items covered (stores_seen store.held store.told store.faults store.sure c.args.stores.items) (stores_seen store.held store.told store.faults store.sure c.run_files-ended.result.1.items) c.in-Ok-begin_run.run' began (g.I.InputFiles.told c.args.input.now) (left-read (plan_seen c.args.question.plan) q n.wanted.items (stores_seen store.held store.told store.faults store.sure c.args.stores.items) (stores_seen store.held store.told store.faults store.sure c.run_files-ended.result.1.items) c.in-Ok-begin_run.run' (g.I.InputFiles.told c.args.input.now) c.in-Ok-reader_of.reader began reader (err-at c.run_files-ended.result.0 c.in-Err-ended.error _ c.in-Err-ended.is c.run_files-ended.ensures.back)) c.in-Ok-reader_of.reader never reader c.in-Err-ended.error (err-at c.run_files-ended.result.0 c.in-Err-ended.error _ c.in-Err-ended.is c.run_files-ended.ensures.cause))
 
 pub returns-clause-of_run : goal.returns-clause-of_run
 returns-clause-of_run g c =
@@ -107,7 +108,8 @@ returns-clause-stopped g c =
     let n = c.in-Ok.narrowed in
     let covered : covers n.wanted.items (query_tree q) ≡ true = c.in-Ok.ensures.covered in
     let began = began-narrow store.held store.told store.faults store.sure (plan_seen c.args.question.plan) q n.query n.wanted.items c.args.stores.items c.in-Ok-begin_run.run' c.requires.made c.requires.count c.in-Ok.ensures.query c.in-Ok-begin_run.ensures.setting in
-    run-front (plan_seen c.args.question.plan) q n.wanted.items covered (stores_seen store.held store.told store.faults store.sure c.args.stores.items) (stores_seen store.held store.told store.faults store.sure c.run_files-ended.result.1.items) c.in-Ok-begin_run.run' began (err-at c.run_files-ended.result.0 c.in-Err-ended.error _ c.in-Err-ended.is c.run_files-ended.ensures.back)
+    let reader = reader-is (plan_seen c.args.question.plan) q n.wanted.items c.in-Ok-reader_of.reader n.schema c.in-Ok.ensures.schema c.in-Ok-reader_of.ensures.options c.in-Ok-reader_of.ensures.left in
+    run-front (plan_seen c.args.question.plan) q n.wanted.items covered (stores_seen store.held store.told store.faults store.sure c.args.stores.items) (stores_seen store.held store.told store.faults store.sure c.run_files-ended.result.1.items) c.in-Ok-begin_run.run' began (g.I.InputFiles.told c.args.input.now) (left-read (plan_seen c.args.question.plan) q n.wanted.items (stores_seen store.held store.told store.faults store.sure c.args.stores.items) (stores_seen store.held store.told store.faults store.sure c.run_files-ended.result.1.items) c.in-Ok-begin_run.run' (g.I.InputFiles.told c.args.input.now) c.in-Ok-reader_of.reader began reader (err-at c.run_files-ended.result.0 c.in-Err-ended.error _ c.in-Err-ended.is c.run_files-ended.ensures.back))
 
 pub returns-clause-in_memory : goal.returns-clause-in_memory
 returns-clause-in_memory g c =
@@ -116,8 +118,9 @@ returns-clause-in_memory g c =
     let n = c.in-Ok.narrowed in
     let covered : covers n.wanted.items (query_tree q) ≡ true = c.in-Ok.ensures.covered in
     let began = began-narrow store.held store.told store.faults store.sure (plan_seen c.args.question.plan) q n.query n.wanted.items c.args.stores.items c.in-Ok-begin_run.run' c.requires.made c.requires.count c.in-Ok.ensures.query c.in-Ok-begin_run.ensures.setting in
+    let reader = reader-is (plan_seen c.args.question.plan) q n.wanted.items c.in-Ok-reader_of.reader n.schema c.in-Ok.ensures.schema c.in-Ok-reader_of.ensures.options c.in-Ok-reader_of.ensures.left in
     let never = never-seen store.held store.told store.faults store.sure store.never_failed c.run_files-ended.result.1.items in
-    run-sound (plan_seen c.args.question.plan) q n.wanted.items covered (stores_seen store.held store.told store.faults store.sure c.args.stores.items) (stores_seen store.held store.told store.faults store.sure c.run_files-ended.result.1.items) c.in-Ok-begin_run.run' began (err-at c.run_files-ended.result.0 c.in-Err-ended.error _ c.in-Err-ended.is c.run_files-ended.ensures.back) never
+    run-sound (plan_seen c.args.question.plan) q n.wanted.items covered (stores_seen store.held store.told store.faults store.sure c.args.stores.items) (stores_seen store.held store.told store.faults store.sure c.run_files-ended.result.1.items) c.in-Ok-begin_run.run' began (g.I.InputFiles.told c.args.input.now) (left-read (plan_seen c.args.question.plan) q n.wanted.items (stores_seen store.held store.told store.faults store.sure c.args.stores.items) (stores_seen store.held store.told store.faults store.sure c.run_files-ended.result.1.items) c.in-Ok-begin_run.run' (g.I.InputFiles.told c.args.input.now) c.in-Ok-reader_of.reader began reader (err-at c.run_files-ended.result.0 c.in-Err-ended.error _ c.in-Err-ended.is c.run_files-ended.ensures.back)) never
 
 pub returns-in_default-clause-tried : goal.returns-in_default-clause-tried
 returns-in_default-clause-tried g c = front-none _ _ (files_named (plan_seen c.args.question.plan).words) refl

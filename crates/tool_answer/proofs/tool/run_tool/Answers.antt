@@ -117,11 +117,11 @@ returns-clause-memory_made g c =
 pub returns-clause-memory_left : goal.returns-clause-memory_left
 returns-clause-memory_left g c = elim c.match-fault.branch [
   | in-None w ↦
-      subst (λ (r : RanSeen). HasNoRun r.journals r.stores ⊎ HasStopped (asked c.args.words.now) r.journals r.stores ⊎ HasRun (asked c.args.words.now) (g.I.InputFiles.told c.args.input.now) r.journals r.stores) (sym c.fault.view_is)
+      subst (λ (r : RanSeen). HasNoRun r.journals r.stores ⊎ HasStopped (asked c.args.words.now) (g.I.InputFiles.told c.args.input.now) r.journals r.stores ⊎ HasRun (asked c.args.words.now) (g.I.InputFiles.told c.args.input.now) r.journals r.stores) (sym c.fault.view_is)
       (inr (inr (written-run (asked c.args.words.now) (g.I.InputFiles.told c.args.input.now) (g.O.Output.told c.args.output.now) (g.O.Output.told c.run.new.output) c.run.result.journals c.run.result.stores
       (c.run.ensures.written (sym (ap (λ (r : RanSeen). r.fault) c.fault.view_is) ∙ w.in-None.is)))))
   | in-Some w ↦
-      subst (λ (r : RanSeen). HasNoRun r.journals r.stores ⊎ HasStopped (asked c.args.words.now) r.journals r.stores ⊎ HasRun (asked c.args.words.now) (g.I.InputFiles.told c.args.input.now) r.journals r.stores) (sym c.fault.view_is)
+      subst (λ (r : RanSeen). HasNoRun r.journals r.stores ⊎ HasStopped (asked c.args.words.now) (g.I.InputFiles.told c.args.input.now) r.journals r.stores ⊎ HasRun (asked c.args.words.now) (g.I.InputFiles.told c.args.input.now) r.journals r.stores) (sym c.fault.view_is)
       (left-any w.in-Some.fault (asked c.args.words.now) (g.I.InputFiles.told c.args.input.now) c.run.result.journals c.run.result.stores
       (some-at c.run.result.fault w.in-Some.fault (λ f. IsLeft f (asked c.args.words.now) (g.I.InputFiles.told c.args.input.now) c.run.result.journals c.run.result.stores) (sym (ap (λ (r : RanSeen). r.fault) c.fault.view_is) ∙ w.in-Some.is) c.run.ensures.left))
 ]

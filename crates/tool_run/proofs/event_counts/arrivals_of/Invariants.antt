@@ -1,4 +1,4 @@
-use Rattle.std.proofs.Common.{◌≡◌, ◌≤◌, count_by, not, take}
+use Rattle.std.proofs.Common.{◌≡◌, ◌≤◌, count_by, take}
 use Rattle.tool_run.specs.MadeLines.{is_arrival}
 use Rattle.tool_run.proofs.event_counts.arrivals_of.Given as goal
 

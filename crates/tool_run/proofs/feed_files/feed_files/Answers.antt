@@ -11,8 +11,10 @@ use Rattle.pipe_run.specs.Feeding.{chunks_reached}
 use Rattle.pipe_run.specs.Refusals.{AllHaveFields}
 use Rattle.pipe_run.specs.Setting.{Setting}
 use Rattle.pipe_source.specs.Reader.{given_fields, ReaderState}
+use Rattle.tool_run.specs.Answering.{AreFedOf}
+use Rattle.tool_run.specs.Reading.{ComeFirst}
 use Rattle.tool_run.specs.Rounds.{WereTaken, EndsBehind, HasNoneLeft}
-use Rattle.tool_run.proofs.FeedFacts.{chunks-more, ends-behind, feed-cause, fell-none, fell-then, fit-more, fit-none, front-of, reached-fit, rows-more, taken-all, taken-none, taken-then}
+use Rattle.tool_run.proofs.FeedFacts.{chunks-more, ends-behind, feed-cause, fell-none, fell-then, fit-more, fit-none, front-of, reached-has, rows-more, taken-all, taken-first, taken-none, taken-then}
 use Rattle.tool_run.proofs.feed_files.feed_files.Goals as goal
 
 pub loop-init : goal.loop-init
@@ -52,7 +54,9 @@ returns-then-is_last-clause-tried g c = front-then _ _ _ c.args.reader.now.names
 pub returns-in-Err-clause-back : goal.returns-in-Err-clause-back
 returns-in-Err-clause-back g c =
     let inv = c.loop.invariant in
-    front-of c.args.run.setting c.loop.run.setting true c.loop.run.chunks _ inv.setting inv.fit c.into_stores.ensures.back
+    let told : Option Files = g.I.InputFiles.told c.args.input.now in
+    front-of c.args.run.setting c.loop.run.setting (AreFedOf told c.args.reader.now) true c.loop.run.chunks _ inv.setting
+    (taken-first told c.args.reader.now c.loop.reader c.loop.run.chunks inv.taken) inv.fit c.into_stores.ensures.back
 
 pub returns-in-Err-feed_lent-clause-back : goal.returns-in-Err-feed_lent-clause-back
 returns-in-Err-feed_lent-clause-back g c =
@@ -60,8 +64,16 @@ returns-in-Err-feed_lent-clause-back g c =
     let more : List DataChunk = c.in-Ok.read.0.items in
     let fields : List Field = c.args.run.setting.query.schema in
     let fit : AllHaveFields fields (c.loop.run.chunks ++ more) = fit-more fields (given_fields c.loop.reader) c.loop.run.chunks more inv.fields inv.fit c.in-Ok.ensures.fit in
-    front-of c.args.run.setting c.loop.run.setting true (chunks_reached c.loop.run more c.in-Err-feed_lent.error) _ inv.setting
-    (reached-fit fields c.loop.run more c.in-Err-feed_lent.error inv.fit fit) c.in-Err-feed_lent.ensures.back
+    let told : Option Files = g.I.InputFiles.told c.args.input.now in
+    let first = c.args.reader.now in
+    let now = c.read_round.new.reader in
+    let step : WereTaken told c.loop.reader more now = subst (λ (t : Option Files). WereTaken t c.loop.reader more now) inv.told c.in-Ok.ensures.taken in
+    let all : ComeFirst told first (c.loop.run.chunks ++ more) =
+    taken-first told first now (c.loop.run.chunks ++ more) (taken-then told first c.loop.reader now c.loop.run.chunks more (c.loop.run.chunks ++ more) refl inv.taken step) in
+    let fed : ComeFirst told first (chunks_reached c.loop.run more c.in-Err-feed_lent.error) =
+    reached-has (ComeFirst told first) c.loop.run more c.in-Err-feed_lent.error (taken-first told first c.loop.reader c.loop.run.chunks inv.taken) all in
+    front-of c.args.run.setting c.loop.run.setting (AreFedOf told first) true (chunks_reached c.loop.run more c.in-Err-feed_lent.error) _ inv.setting fed
+    (reached-has (AllHaveFields fields) c.loop.run more c.in-Err-feed_lent.error inv.fit fit) c.in-Err-feed_lent.ensures.back
 
 pub returns-in-Err-feed_lent-clause-cause : goal.returns-in-Err-feed_lent-clause-cause
 returns-in-Err-feed_lent-clause-cause g c =

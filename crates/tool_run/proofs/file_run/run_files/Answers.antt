@@ -4,6 +4,7 @@ use Rattle.std.proofs.Common.{rules, false}
 use Rattle.pipe_run.specs.Answered.{HaveWholeFrames}
 use Rattle.pipe_run.specs.Finish.{IsFinishCause}
 use Rattle.pipe_run.specs.Setting.{run_over}
+use Rattle.tool_run.specs.Answering.{AreFedOf}
 
 pub returns-in-Err-ended-clause-cause : goal.returns-in-Err-ended-clause-cause
 returns-in-Err-ended-clause-cause g c =
@@ -14,4 +15,4 @@ pub returns-in-Err-ended-clause-back : goal.returns-in-Err-ended-clause-back
 returns-in-Err-ended-clause-back g c =
     let run' = c.in-Ok.run' in
     let whole : HaveWholeFrames (run_over run'.setting false run'.chunks) _ = search rules in
-    front-of c.args.run.setting run'.setting false run'.chunks _ c.in-Ok.ensures.setting c.in-Ok.ensures.fit whole
+    front-of c.args.run.setting run'.setting (AreFedOf (g.I.InputFiles.told c.args.input.now) c.args.reader.now) false run'.chunks _ c.in-Ok.ensures.setting c.in-Ok.ensures.all c.in-Ok.ensures.fit whole
