@@ -8,8 +8,8 @@ pub record HeldBytes : Type 0 where
   pub calls : Calls
 
 -- its bytes, which are always told
-abbrev pub held_files : HeldBytes → Option (List ℕ)
-held_files s = Some s.bytes
+abbrev pub held_bytes : HeldBytes → Option (List ℕ)
+held_bytes s = Some s.bytes
 
 -- how many calls failed
 abbrev pub held_faults : HeldBytes → ℕ
