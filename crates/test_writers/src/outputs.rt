@@ -3,7 +3,7 @@
 ghost use Rattle.std.specs.Prelude.{◌≡◌, ◌<◌, ◌≤◌, is_some, length, IfOk, IsErrOf, None};
 ghost use Rattle.std.specs.Io.KnownBytes.{WriteAppends};
 ghost use Rattle.pipe_columns.specs.Causes.{HasCause};
-ghost use Rattle.pipe_io.specs.MemoryOutput.{held_faults, held_files};
+ghost use Rattle.pipe_io.specs.MemoryOutput.{held_faults, held_bytes};
 ghost use Rattle.pipe_io.specs.declared.output.OutputError.TheVariants as output_error;
 
 use pipe_io::{MemoryOutput, Output, OutputError};
@@ -18,7 +18,7 @@ use std::thread::yield_now;
 pub(crate) struct Bytewise(pub(crate) MemoryOutput);
 
 impl Output for Bytewise {
-    ghost told = { λ s. held_files s.0 };
+    ghost told = { λ s. held_bytes s.0 };
 
     ghost faults = { λ s. held_faults s.0 };
 
@@ -26,8 +26,8 @@ impl Output for Bytewise {
         requires { 0 < length piece.now }
         ensures some { IfOk result (λ n. 0 < n) }
         ensures bound { IfOk result (λ n. n ≤ length piece.now) }
-        ensures tells { is_some (held_files self.new.0) ≡ is_some (held_files self.old.0) }
-        ensures bytes { WriteAppends (held_files self.old.0) (held_files self.new.0) result piece.now }
+        ensures tells { is_some (held_bytes self.new.0) ≡ is_some (held_bytes self.old.0) }
+        ensures bytes { WriteAppends (held_bytes self.old.0) (held_bytes self.new.0) result piece.now }
         ensures cause { HasCause (held_faults self.old.0) (held_faults self.new.0)
             (IsErrOf result output_error.Failed) }
     {
