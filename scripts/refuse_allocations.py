@@ -3,7 +3,7 @@
 
 usage: scripts/refuse_allocations.py [CRATE..], where the crates are those with a file src/memory_tests.rt or src/plan_tests.rt if none is named.
 The tests of a crate are built once, without a proof (`refused_program.py` says how), and each of the memory tests runs by itself.
-A test of memory_tests or plan_tests may then end with the right answer, with an error that says that the call `wants memory`, or with one of an allocation that prepared the call; another answer fails the script.
+A test of memory_tests, plan_tests or kept_tests may then end with the right answer, with an error that says that the call `wants memory`, or with one of an allocation that prepared the call; another answer fails the script.
 A test is done where it gave the right answer at so many numbers on end as ENOUGH says: the allocations are then behind us. A test that makes a refused call again gives the right answer at the allocations of that call too, of which no call has as many.
 """
 
@@ -23,7 +23,7 @@ RIGHT, WANT, PREPARED = "the right answer", "want of memory", "want of memory be
 def memory_tests(program):
     """The names of the memory tests in a program."""
     told = subprocess.run([program, "--list"], stdin=subprocess.DEVNULL, capture_output=True, text=True, check=True).stdout
-    return re.findall(r"^((?:memory|plan)_tests::\w+): test$", told, re.M)
+    return re.findall(r"^((?:memory|plan|kept)_tests::\w+): test$", told, re.M)
 
 
 def ended(program, test):

@@ -2,3 +2,4 @@ pub mod Joined
 pub mod JoinedState
 pub mod Core
 pub mod CoreState
+pub mod Ended

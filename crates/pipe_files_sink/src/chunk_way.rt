@@ -1,5 +1,8 @@
 //! The ways by which chunks come to a writer.
 
+ghost use Rattle.std.specs.Prelude.{IsErrOf};
+ghost use Rattle.pipe_writers.specs.declared.write_error.WriteError.TheVariants as write_error;
+
 use crate::guarded_core::GuardedCore;
 use crossbeam_channel::{Receiver, SendError, Sender};
 use pipe_columns::{DataChunk, SinkResult};
@@ -60,7 +63,9 @@ fn send_chunk<H: Wait>(
     rt: &H,
     to: &Sender<Message, Global>,
     chunk: DataChunk,
-) -> Result<SinkResult, WriteError> {
+) -> Result<SinkResult, WriteError>
+    ensures { ¬ IsErrOf result write_error.Output }
+{
     match to.send(rt, Message::Chunk(chunk)) {
         Ok(()) => Ok(SinkResult::CanHaveMoreInput),
         Err(SendError::Disconnected(_)) => Ok(SinkResult::Finished),
@@ -93,7 +98,9 @@ impl<W: SinkWriter + Drop> ChunkWay<W> {
         &self,
         rt: &H,
         chunk: DataChunk,
-    ) -> Result<SinkResult, WriteError> {
+    ) -> Result<SinkResult, WriteError>
+        ensures { ¬ IsErrOf result write_error.Output }
+    {
         match self {
             ChunkWay::Thread(to) => send_chunk(rt, to, chunk),
             ChunkWay::Caller(shared) => Ok(write_chunk(rt, shared, chunk)),

@@ -1,7 +1,8 @@
 //! A second way into a sink of files.
 
-ghost use Rattle.std.specs.Prelude.{◌≡◌};
+ghost use Rattle.std.specs.Prelude.{◌≡◌, IsErrOf};
 ghost use Rattle.pipe_files_sink.specs.Joined.{IsWritable};
+ghost use Rattle.pipe_writers.specs.declared.write_error.WriteError.TheVariants as write_error;
 
 use crate::chunk_way::ChunkWay;
 use pipe_columns::{DataChunk, Schema, SinkResult};
@@ -12,7 +13,7 @@ use std::sync::Wait;
 #[derive(Drop)]
 pub struct FilesSender<W: SinkWriter + Drop, H> {
     rt: H,
-    pub(crate) schema: Schema,
+    schema: Schema,
     way: ChunkWay<W>,
 }
 
@@ -23,10 +24,12 @@ impl<W: SinkWriter + Drop, H: Wait> FilesSender<W, H> {
         FilesSender { rt, schema, way }
     }
 
-    /// Takes a chunk. It is `Finished` once the writing has ended.
+    /// Takes a chunk. It is `Finished` once the writing has ended; how that went only `finalize`
+    /// of the sink tells.
     pub fn sink(&mut self, chunk: DataChunk) -> Result<SinkResult, WriteError>
         requires { IsWritable self.old.schema chunk.frame }
-        ensures { self.new ≡ self.old }
+        ensures same { self.new ≡ self.old }
+        ensures cause { ¬ IsErrOf result write_error.Output }
     {
         self.way.hand_over(&self.rt, chunk)
     }

@@ -1,10 +1,13 @@
 //! A sink that writes what it takes beside its caller.
 
-ghost use Rattle.std.specs.Prelude.{◌≡◌, ◌<◌, ◌≤◌, [], List, None, IfOk, codes, is_some};
+ghost use Rattle.std.specs.Prelude.{◌≡◌, ◌<◌, ◌≤◌, [], List, None, IfOk, IfSome, IsErrOf, IsTrue, OnOk, codes, is_some, option_map};
 ghost use Rattle.pipe_columns.specs.Chunks.{frame_given};
+ghost use Rattle.pipe_columns.specs.declared.data_chunk.DataChunk.{DataChunk};
 ghost use Rattle.pipe_columns.specs.declared.schema.Field.{Field};
+ghost use Rattle.pipe_files_sink.specs.Ended.{HasFailed};
 ghost use Rattle.pipe_files_sink.specs.Joined.{IsWritable};
 ghost use Rattle.pipe_writers.specs.Writers.{IsFresh};
+ghost use Rattle.pipe_writers.specs.declared.write_error.WriteError.TheVariants as write_error;
 
 use crate::chunk_way::{ChunkWay, Message, write_messages};
 use crate::files_sender::FilesSender;
@@ -24,7 +27,7 @@ use std::{mem, thread};
 pub struct FilesSink<W: SinkWriter + Drop, H: Threads + Wait + Copy> {
     rt: H,
     alloc: Global,
-    pub(crate) schema: Schema,
+    schema: Schema,
     way: ChunkWay<W>,
     thread: Option<JoinHandle<GuardedCore<W>>>,
     ended: Option<GuardedCore<W>>,
@@ -136,7 +139,8 @@ impl<W: SinkWriter + Drop, H: Threads + Wait + Copy> FilesSink<W, H> {
 
     /// The writer after `finalize`; none before it.
     pub fn into_writer(self) -> Option<W>
-        ensures { is_some result ≡ is_some self.ended }
+        ensures ended { is_some result ≡ is_some self.ended }
+        ensures writer { IfSome result (λ w. IfSome self.ended (λ core. w ≡ core.core.writer)) }
     {
         let mut sink = self;
         let ended = sink.ended.take()?;
@@ -145,8 +149,12 @@ impl<W: SinkWriter + Drop, H: Threads + Wait + Copy> FilesSink<W, H> {
 
     /// Ends the writing, unless it has ended, and waits for its end.
     fn end(&mut self)
-        ensures { self.new.schema ≡ self.old.schema }
+        ensures schema { self.new.schema ≡ self.old.schema }
+        ensures again { IsTrue (is_some self.old.ended) → self.new ≡ self.old }
     {
+        if self.ended.is_some() {
+            return;
+        }
         match mem::replace(&mut self.way, ChunkWay::Ended) {
             ChunkWay::Thread(to) => {
                 let _ = to.send(&self.rt, Message::Finish);
@@ -177,11 +185,25 @@ impl<W: SinkWriter + Drop, H: Threads + Wait + Copy> Sink for FilesSink<W, H> {
 
     ghost gives = { λ fields chunks frame. frame ≡ record { height = 0; columns = [] } };
 
-    fn sink(&mut self, chunk: DataChunk) -> Result<SinkResult, WriteError> {
+    fn sink(&mut self, chunk: DataChunk) -> Result<SinkResult, WriteError>
+        requires { IsWritable self.old.schema chunk.frame }
+        ensures taken { OnOk result ((chunks : List DataChunk) → Unit {0} → Unit {0}) }
+        ensures purpose { self.new.schema ≡ self.old.schema }
+        ensures same { self.new ≡ self.old }
+        ensures cause { ¬ IsErrOf result write_error.Output }
+    {
         self.way.hand_over(&self.rt, chunk)
     }
 
-    fn finalize(&mut self) -> Result<FinalizedSink, WriteError> {
+    fn finalize(&mut self) -> Result<FinalizedSink, WriteError>
+        ensures given { IfOk result (λ r. (chunks : List DataChunk) → Unit {0}
+            → frame_given r ≡ record { height = 0; columns = [] }) }
+        ensures purpose { self.new.schema ≡ self.old.schema }
+        ensures ended { OnOk result (IsTrue (is_some self.new.ended)) }
+        ensures cause { IsErrOf result write_error.Output
+            → HasFailed W.faults (option_map (λ core. core.core.writer) self.new.ended) }
+        ensures again { IsTrue (is_some self.old.ended) → self.new ≡ self.old }
+    {
         self.end();
         match &self.ended {
             Some(core) => core.result()?,

@@ -1,6 +1,6 @@
 //! A core for chunks of which nothing is known.
 
-ghost use Rattle.std.specs.Prelude.{◌≡◌, ◌∷◌, ◌++◌, ◌↔◌, ◌≤◌, List, ℕ, None, [], false, true, is_some, IfErr, IsTrue};
+ghost use Rattle.std.specs.Prelude.{◌≡◌, ◌∷◌, ◌++◌, ◌↔◌, ◌<◌, ◌≤◌, List, ℕ, None, Some, [], false, true, is_some, IfErr, IsErrOf, IsTrue};
 ghost use Rattle.pipe_columns.specs.Causes.{HasCause};
 ghost use Rattle.pipe_columns.specs.declared.data_chunk.DataChunk.{DataChunk};
 ghost use Rattle.pipe_columns.specs.declared.sink.SinkResult.TheVariants as sink_result;
@@ -25,6 +25,7 @@ pub(crate) struct GuardedCore<W: SinkWriter> {
     fault: Option<WriteError>,
     ghost open: { ended ≡ false → IsOpen core.calls },
     ghost unrefused: { ended ≡ false → fault ≡ None },
+    ghost caused: { fault ≡ Some write_error.Output → 0 < W.faults core.writer },
 }
 
 /// Whether a writer takes a frame.
@@ -122,6 +123,7 @@ impl<W: SinkWriter> GuardedCore<W> {
     pub(crate) fn result(&self) -> Result<(), WriteError>
         ensures ok { (result ≡ Ok tt) ↔ (self.now.fault ≡ None) }
         ensures fault { IfErr result (λ e. self.now.fault ≡ Some e) }
+        ensures cause { IsErrOf result write_error.Output → 0 < W.faults self.now.core.writer }
     {
         match &self.fault {
             None => Ok(()),

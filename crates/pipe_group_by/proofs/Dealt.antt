@@ -1,5 +1,5 @@
 -- The turns of all workers are all chunks, each once.
-use Rattle.std.proofs.Common.{◌≡◌, ◌≢◌, ◌∙◌, ◌+◌, ◌-◌, ◌<◌, ◌≤◌, ◌==◌, ◌%◌, ℕ, zero, suc, Bool, true, false, List, [], ◌∷◌, ◌++◌, refl, sym, ap, arith}
+use Rattle.std.proofs.Common.{◌≡◌, ◌∙◌, ◌+◌, ◌-◌, ◌<◌, ◌≤◌, ◌==◌, ◌%◌, ℕ, zero, suc, Bool, true, false, List, [], ◌∷◌, ◌++◌, refl, sym, ap, arith}
 use Rattle.std.specs.List.{All, AllByRecursion, count_by, filter, flat_map, range_with_len, sum_by}
 use Rattle.std.proofs.lemmas.Bool.{eq-eqb, eqb-true, ne_eqb}
 use Rattle.std.proofs.lemmas.Grind.{flat_map-append}
@@ -18,7 +18,7 @@ use Rattle.pipe_model.proofs.RowPlaces.{rows-distinct}
 use Rattle.pipe_plan.proofs.Adding.{count-joined, sum_to, sum_to-one, sum_to-range, sum_to-zero}
 use Rattle.pipe_plan.proofs.ChunkRows.{each-more, range-append, range-before}
 use Rattle.pipe_plan.proofs.Filtering.{filter-no, filter-yes}
-use Rattle.pipe_sinks.specs.Runs.{placed_rows}
+use Rattle.pipe_sinks.specs.Runs.{HaveOwnIndexes, placed_rows}
 use Rattle.pipe_group_by.specs.Positions.{is_turn, numbered, turns_of}
 use Rattle.pipe_group_by.proofs.Numbering.{height-numbered}
 
@@ -126,10 +126,10 @@ turns-others : (n k m : ℕ) (chunks : List DataChunk) → m ≤ k → All (λ c
 turns-others n k m chunks le = others-joined n k chunks (range_with_len 0 m) (each-more (λ w. w < 0 + m) (λ w. w < k) (range_with_len 0 m) (λ w lt. omega arith) (range-before 0 m))
 
 -- so no chunk is in both
-pub turns-apart : (n k : ℕ) (chunks : List DataChunk) → All (λ c. All (λ d. c.chunk_index ≢ d.chunk_index) (turns_of n k chunks)) (turns_to n k chunks)
+pub turns-apart : (n k : ℕ) (chunks : List DataChunk) → All (λ c. All (λ d. HaveOwnIndexes c d) (turns_of n k chunks)) (turns_to n k chunks)
 turns-apart n k chunks =
-    All-weaker (λ (c : DataChunk). c.chunk_index % n < k) (λ (c : DataChunk). All (λ (d : DataChunk). c.chunk_index ≢ d.chunk_index) (turns_of n k chunks))
-    (λ c low. All-weaker (λ (d : DataChunk). d.chunk_index % n ≡ k) (λ (d : DataChunk). c.chunk_index ≢ d.chunk_index) (λ d is same. omega (arith, low, is, ap (λ j. j % n) same)) (turns_of n k chunks) (turns-own n k chunks))
+    All-weaker (λ (c : DataChunk). c.chunk_index % n < k) (λ (c : DataChunk). All (λ (d : DataChunk). HaveOwnIndexes c d) (turns_of n k chunks))
+    (λ c low. All-weaker (λ (d : DataChunk). d.chunk_index % n ≡ k) (λ (d : DataChunk). HaveOwnIndexes c d) (λ d is some more same. omega (arith, low, is, ap (λ j. j % n) same)) (turns_of n k chunks) (turns-own n k chunks))
     (turns_to n k chunks) (turns-others n k k chunks (omega arith))
 
 -- one more worker's turns

@@ -9,7 +9,7 @@ use Rattle.pipe_columns.specs.declared.data_chunk.DataChunk.{DataChunk}
 use Rattle.pipe_columns.specs.Frame.{FitsSchema}
 use Rattle.pipe_aggs.specs.QueryTrees.{query_tree}
 use Rattle.pipe_model.specs.Rows.{AreChunksOf, total_height}
-use Rattle.pipe_sinks.specs.Runs.{Run, Takes, with_taken}
+use Rattle.pipe_sinks.specs.Runs.{ComesBehind, Run, Takes, with_taken}
 use Rattle.pipe_group_by.specs.Positions.{is_turn, numbered, turns_of}
 use Rattle.pipe_group_by.proofs.Numbering.{all-rest, numbered-at, turn-no, turn-yes, turns-before, turns-height}
 
@@ -51,7 +51,7 @@ module _ (n w : ℕ) (first : Run) (before chunks : List DataChunk) (k : ℕ) (c
     pub turn-takes : AreChunksOf (query_tree first.query) (before ++ chunks) → Takes s c
     turn-takes asked = subst (λ (r : Run). Takes r c) (sym so) (record {
       fits = subst (λ (x : DataChunk). FitsSchema first.query.schema x.frame) (sym is) (All-get_or (λ (x : DataChunk). FitsSchema first.query.schema x.frame) chunks k c lt (all-rest (λ (x : DataChunk). FitsSchema first.query.schema x.frame) before chunks asked.columns));
-      later = All-weaker (λ (x : DataChunk). x.chunk_index < length front) (λ (x : DataChunk). x.chunk_index < c.chunk_index) (λ x low. omega (arith, low, index)) (turns_of n w front) (turns-before n w front);
+      later = All-weaker (λ (x : DataChunk). x.chunk_index < length front) (λ (x : DataChunk). ComesBehind c x) (λ x low some more. omega (arith, low, index)) (turns_of n w front) (turns-before n w front);
       few = omega (arith, heights, asked.rows, turns-height n w front);
     })
 

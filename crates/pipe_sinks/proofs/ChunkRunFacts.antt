@@ -26,7 +26,7 @@ use Rattle.pipe_groups.specs.Shape.{Shape, shape_of}
 use Rattle.pipe_keyed.specs.TakenRows.{spilled_first, TookFirstRows}
 use Rattle.pipe_sinks.specs.ChunkTaking.{AreKeysOf, TakesRows}
 use Rattle.pipe_sinks.specs.KeyRuns.{IsRun, run_rows}
-use Rattle.pipe_sinks.specs.Marks.{IsSole}
+use Rattle.pipe_sinks.specs.SoleKeys.{IsSole}
 use Rattle.pipe_sinks.specs.Runs.{IsKeyColumn}
 use Rattle.pipe_keyed.specs.Tables.{Table}
 use Rattle.pipe_keyed.proofs.TookFacts.{room-for, row-typed, rows-typed}

@@ -1,18 +1,18 @@
 -- The rows of chunks with indexes of their own: where they stand.
-use Rattle.std.proofs.Common.{◌≡◌, ◌≢◌, ◌∙◌, ℕ, zero, suc, ◌+◌, ◌<◌, ◌≤◌, ◌⊎◌, inl, inr, false, List, [], ◌∷◌, ◌++◌, length, map, refl, sym, ap, arith}
+use Rattle.std.proofs.Common.{◌≡◌, ◌≢◌, ◌∙◌, ℕ, zero, suc, ◌+◌, ◌<◌, ◌^◌, ◌≤◌, ◌⊎◌, inl, inr, false, List, [], ◌∷◌, ◌++◌, length, map, refl, sym, ap, arith}
 use Rattle.std.specs.List.{All, AllByRecursion, IsDistinct, range_with_len}
 use Rattle.std.specs.declared.cmp.Ordering.{Ordering}
 use Rattle.std.specs.declared.cmp.Ordering.TheVariants.{Less, Equal, Greater}
 use Rattle.std.specs.Cmp.{nat_cmp_is, nat_cmp_total, tied_itself}
 use Rattle.std.specs.Ordering.{eq_by_cmp, is_eq, nat_cmp, ordering_then}
 use Rattle.std.proofs.lemmas.Bool.{cases_lt}
-use Rattle.std.proofs.lemmas.List.{append_assoc, length-append, length-map, map-append}
-use Rattle.std.proofs.lemmas.List.Elements.{All-head, All-tail}
+use Rattle.std.proofs.lemmas.List.{append-nil, append_assoc, length-append, length-map, map-append}
+use Rattle.std.proofs.lemmas.List.Elements.{All-head, All-tail, All-weaker}
 use Rattle.std.proofs.lemmas.List.FromFn.{length-map-range_with_len}
 use Rattle.std.proofs.lemmas.List.Sums.{sum_by-cons}
 use Rattle.pipe_columns.specs.declared.data_chunk.DataChunk.{DataChunk}
 use Rattle.pipe_columns.specs.declared.place.Place.{Place}
-use Rattle.pipe_columns.specs.Frame.{FrameData}
+use Rattle.pipe_columns.specs.Frame.{FitsSchema, FrameData}
 use Rattle.pipe_columns.specs.Place.{place_cmp}
 use Rattle.pipe_columns.specs.Row.{Row}
 use Rattle.pipe_model.specs.Output.{key_types}
@@ -20,7 +20,7 @@ use Rattle.pipe_model.specs.Query.{QueryTree}
 use Rattle.pipe_model.specs.Rows.{chunk_rows, HaveDistinctPlaces, row_of, total_height}
 use Rattle.pipe_spill.specs.SpillRow.{spilled}
 use Rattle.pipe_sinks.specs.RunLayout.{spilled_rows}
-use Rattle.pipe_sinks.specs.Runs.{placed_rows}
+use Rattle.pipe_sinks.specs.Runs.{HaveOwnIndexes, placed_rows, Run, Takes}
 
 -- the rows of chunks and of others behind them
 pub placed-append : (q : QueryTree) (xs ys : List DataChunk) → placed_rows q (xs ++ ys) ≡ placed_rows q xs ++ placed_rows q ys
@@ -84,9 +84,11 @@ abbrev from_row : QueryTree → ℕ → FrameData → ℕ → ℕ → List Row
 from_row q i frame n len = map (λ m. row_of q i frame m) (range_with_len n len)
 
 -- a place in another chunk is none of a chunk's rows
-apart-chunk : (q : QueryTree) (p : Place) (i : ℕ) (frame : FrameData) (n len : ℕ) → (p.chunk ≡ i → ⊥) → Apart p (places (from_row q i frame n len))
+apart-chunk : (q : QueryTree) (p : Place) (i : ℕ) (frame : FrameData) (n len : ℕ) → (0 < len → p.chunk ≢ i) → Apart p (places (from_row q i frame n len))
 apart-chunk q p i frame n zero ne = tt
-apart-chunk q p i frame n (suc len) ne = (other-chunk p (record { chunk = i; row = n }) ne, apart-chunk q p i frame (n + 1) len ne)
+apart-chunk q p i frame n (suc len) ne =
+    let other : p.chunk ≢ i = ne (omega arith) in
+    (other-chunk p (record { chunk = i; row = n }) other, apart-chunk q p i frame (n + 1) len (λ _. other))
 
 -- nor is one before them
 apart-before : (q : QueryTree) (i : ℕ) (frame : FrameData) (m n len : ℕ) → m < n → Apart (record { chunk = i; row = m }) (places (from_row q i frame n len))
@@ -113,35 +115,57 @@ single-distinct q c =
     rw (map-append (λ (r : Row). r.place) own [])
     (distinct-append (places own) [] (chunk-distinct q c.chunk_index c.frame 0 c.frame.height) none-distinct (nothing-apart (places own)))
 
+-- a place is in no row of a chunk
+abbrev InNoRow : ℕ → DataChunk → Type 0
+InNoRow i d = 0 < d.frame.height → i ≢ d.chunk_index
+
 -- a place in no chunk of some is none of their rows
-apart-chunks : (q : QueryTree) (p : Place) (ys : List DataChunk) → All (λ d. p.chunk ≢ d.chunk_index) ys → Apart p (places (placed_rows q ys))
+apart-chunks : (q : QueryTree) (p : Place) (ys : List DataChunk) → All (λ d. InNoRow p.chunk d) ys → Apart p (places (placed_rows q ys))
 apart-chunks q p [] h = tt
 apart-chunks q p (d ∷ ds) h =
     rw (map-append (λ (r : Row). r.place) (chunk_rows q d.chunk_index d.frame) (placed_rows q ds))
     (apart-append p (places (chunk_rows q d.chunk_index d.frame)) (places (placed_rows q ds))
-    (apart-chunk q p d.chunk_index d.frame 0 d.frame.height (All-head (λ (x : DataChunk). p.chunk ≢ x.chunk_index) d ds h))
-    (apart-chunks q p ds (All-tail (λ (x : DataChunk). p.chunk ≢ x.chunk_index) d ds h)))
+    (apart-chunk q p d.chunk_index d.frame 0 d.frame.height (All-head (λ (x : DataChunk). InNoRow p.chunk x) d ds h))
+    (apart-chunks q p ds (All-tail (λ (x : DataChunk). InNoRow p.chunk x) d ds h)))
 
-rows-apart : (q : QueryTree) (i : ℕ) (frame : FrameData) (n len : ℕ) (ys : List DataChunk) → All (λ d. i ≢ d.chunk_index) ys → AllByRecursion (λ x. Apart x (places (placed_rows q ys))) (places (from_row q i frame n len))
+rows-apart : (q : QueryTree) (i : ℕ) (frame : FrameData) (n len : ℕ) (ys : List DataChunk) → (0 < len → All (λ d. InNoRow i d) ys) → AllByRecursion (λ x. Apart x (places (placed_rows q ys))) (places (from_row q i frame n len))
 rows-apart q i frame n zero ys h = tt
-rows-apart q i frame n (suc len) ys h = (apart-chunks q (record { chunk = i; row = n }) ys h, rows-apart q i frame (n + 1) len ys h)
+rows-apart q i frame n (suc len) ys h =
+    let here : All (λ d. InNoRow i d) ys = h (omega arith) in
+    (apart-chunks q (record { chunk = i; row = n }) ys here, rows-apart q i frame (n + 1) len ys (λ _. here))
 
 all-append : (ys : List Place) (xs more : List Place) → AllByRecursion (λ x. Apart x ys) xs → AllByRecursion (λ x. Apart x ys) more → AllByRecursion (λ x. Apart x ys) (xs ++ more)
 all-append ys [] more a b = b
 all-append ys (x ∷ xs) more a b = (a.0, all-append ys xs more a.1 b)
 
-chunks-apart : (q : QueryTree) (xs ys : List DataChunk) → All (λ c. All (λ d. c.chunk_index ≢ d.chunk_index) ys) xs → AllByRecursion (λ x. Apart x (places (placed_rows q ys))) (places (placed_rows q xs))
+chunks-apart : (q : QueryTree) (xs ys : List DataChunk) → All (λ c. All (λ d. HaveOwnIndexes c d) ys) xs → AllByRecursion (λ x. Apart x (places (placed_rows q ys))) (places (placed_rows q xs))
 chunks-apart q [] ys h = tt
 chunks-apart q (c ∷ cs) ys h =
-    let P : DataChunk → Type 0 = λ x. All (λ d. x.chunk_index ≢ d.chunk_index) ys in
+    let P : DataChunk → Type 0 = λ x. All (λ d. HaveOwnIndexes x d) ys in
+    let own : 0 < c.frame.height → All (λ d. InNoRow c.chunk_index d) ys =
+    λ some. All-weaker (λ (d : DataChunk). HaveOwnIndexes c d) (λ (d : DataChunk). InNoRow c.chunk_index d) (λ d apart. apart some) ys (All-head P c cs h) in
     rw (map-append (λ (r : Row). r.place) (chunk_rows q c.chunk_index c.frame) (placed_rows q cs))
     (all-append (places (placed_rows q ys)) (places (chunk_rows q c.chunk_index c.frame)) (places (placed_rows q cs))
-    (rows-apart q c.chunk_index c.frame 0 c.frame.height ys (All-head P c cs h))
+    (rows-apart q c.chunk_index c.frame 0 c.frame.height ys own)
     (chunks-apart q cs ys (All-tail P c cs h)))
 
 -- the rows of chunks and of others with other indexes
 pub distinct-both : (q : QueryTree) (xs ys : List DataChunk) → HaveDistinctPlaces (placed_rows q xs) → HaveDistinctPlaces (placed_rows q ys)
-    → All (λ c. All (λ d. c.chunk_index ≢ d.chunk_index) ys) xs → HaveDistinctPlaces (placed_rows q (xs ++ ys))
+    → All (λ c. All (λ d. HaveOwnIndexes c d) ys) xs → HaveDistinctPlaces (placed_rows q (xs ++ ys))
 distinct-both q xs ys d e apart =
     rw (placed-append q xs ys, map-append (λ (r : Row). r.place) (placed_rows q xs) (placed_rows q ys))
     (distinct-append (places (placed_rows q xs)) (places (placed_rows q ys)) d e (chunks-apart q xs ys apart))
+
+-- a chunk without rows adds none
+pub rowless-placed : (q : QueryTree) (taken : List DataChunk) (c : DataChunk) → c.frame.height ≡ 0 → placed_rows q (taken ++ c ∷ []) ≡ placed_rows q taken
+rowless-placed q taken c none =
+    let rows : chunk_rows q c.chunk_index c.frame ≡ [] = ap (λ n. from_row q c.chunk_index c.frame 0 n) none in
+    placed-append q taken (c ∷ []) ∙ ap (λ (rs : List Row). placed_rows q taken ++ (rs ++ [])) rows ∙ append-nil (placed_rows q taken)
+
+-- and comes behind all chunks
+pub rowless-taken : (r : Run) (c : DataChunk) → FitsSchema r.query.schema c.frame → c.frame.height ≡ 0 → total_height r.taken < 2 ^ 32 → Takes r c
+rowless-taken r c fits none few = record {
+  fits = fits;
+  later = λ k d lt some more. absurd (omega (arith, none, some));
+  few = omega (arith, none, few);
+}

@@ -1,5 +1,5 @@
 -- What a sink keeps of the chunks that it took, call by call.
-use Rattle.std.proofs.Common.{◌≡◌, ◌≢◌, ◌∙◌, ℕ, false, is_some, Result, Ok, Err, OnErr, ◌+◌, ◌<◌, ◌≤◌, ◌^◌, List, [], ◌∷◌, ◌++◌, map, Option, Some, None, sym, ap, subst, arith}
+use Rattle.std.proofs.Common.{◌≡◌, ◌∙◌, ℕ, false, is_some, Result, Ok, Err, OnErr, ◌+◌, ◌<◌, ◌≤◌, ◌^◌, List, [], ◌∷◌, ◌++◌, map, Option, Some, None, sym, ap, subst, arith}
 use Rattle.std.specs.List.{All, IsDistinct}
 use Rattle.std.proofs.lemmas.List.{append-nil}
 use Rattle.std.proofs.lemmas.List.Elements.{All-append, All-cons, All-nil, All-weaker}
@@ -19,9 +19,10 @@ use Rattle.pipe_groups.specs.Shape.{Shape, shape_of}
 use Rattle.pipe_groups.proofs.HoldFacts.{holds-joined, holds-none}
 use Rattle.pipe_keyed.specs.TakenRows.{spilled_first}
 use Rattle.pipe_sinks.specs.ChunkTaking.{TookChunk}
-use Rattle.pipe_sinks.specs.Marks.{IsSole}
+use Rattle.pipe_sinks.specs.SoleKeys.{IsSole}
 use Rattle.pipe_sinks.specs.RunLayout.{AreKept, AreTakenChunks, SinkHasTaken, HoldsChunks, spilled_rows}
 use Rattle.pipe_keyed.specs.Tables.{HasGroups, HoldFewTogether, Table}
+use Rattle.pipe_sinks.specs.Runs.{ComesBehind, HaveOwnIndexes}
 use Rattle.pipe_sinks.specs.Alike.{HoldAlike}
 use Rattle.pipe_sinks.proofs.PlacedFacts.{distinct-both, length-spilled, single-distinct, spilled-append}
 
@@ -73,14 +74,14 @@ single-taken q c fits typed few = record {
 }
 
 -- a chunk behind others has an index that none of them has
-pub later-apart : (taken : List DataChunk) (c : DataChunk) → All (λ d. d.chunk_index < c.chunk_index) taken → All (λ d. All (λ x. d.chunk_index ≢ x.chunk_index) (c ∷ [])) taken
-later-apart taken c later = All-weaker (λ (d : DataChunk). d.chunk_index < c.chunk_index) (λ (d : DataChunk). All (λ x. d.chunk_index ≢ x.chunk_index) (c ∷ []))
-    (λ d lt. All-cons (λ (x : DataChunk). d.chunk_index ≢ x.chunk_index) c [] (λ e. omega (arith, lt, e)) (All-nil (λ (x : DataChunk). d.chunk_index ≢ x.chunk_index))) taken later
+pub later-apart : (taken : List DataChunk) (c : DataChunk) → All (λ d. ComesBehind c d) taken → All (λ d. All (λ x. HaveOwnIndexes d x) (c ∷ [])) taken
+later-apart taken c later = All-weaker (λ (d : DataChunk). ComesBehind c d) (λ (d : DataChunk). All (λ x. HaveOwnIndexes d x) (c ∷ []))
+    (λ d behind. All-cons (λ (x : DataChunk). HaveOwnIndexes d x) c [] (λ some more e. let lt = behind more some in omega (arith, lt, e)) (All-nil (λ (x : DataChunk). HaveOwnIndexes d x))) taken later
 
 -- ---- chunks together
 
 module _ (q : QueryTree) (xs ys : List DataChunk) where
-  pub taken-both : AreTakenChunks q xs → AreTakenChunks q ys → All (λ c. All (λ d. c.chunk_index ≢ d.chunk_index) ys) xs → total_height xs + total_height ys < 2 ^ 32 → AreTakenChunks q (xs ++ ys)
+  pub taken-both : AreTakenChunks q xs → AreTakenChunks q ys → All (λ c. All (λ d. HaveOwnIndexes c d) ys) xs → total_height xs + total_height ys < 2 ^ 32 → AreTakenChunks q (xs ++ ys)
   taken-both a b apart few = record {
     columns = All-append (λ (c : DataChunk). FitsSchema q.schema c.frame) xs ys a.columns b.columns;
     typed = All-append (λ (c : DataChunk). HoldsTypes c.frame) xs ys a.typed b.typed;
@@ -178,7 +179,7 @@ module _ (q : QueryTree) (n : ℕ) (xs : List DataChunk) (t : Table) (given : Op
       pub run-few : HoldFewTogether t o
       run-few = both-few q xs ys t o (kept-none q xs t given none h.kept) holds few
 
-      pub run-both : (u : Table) (chunks : List DataChunk) → All (λ c. All (λ d. c.chunk_index ≢ d.chunk_index) ys) xs → AreJoined t.shape.prototypes t.groups o.groups u.groups → u.shape ≡ t.shape
+      pub run-both : (u : Table) (chunks : List DataChunk) → All (λ c. All (λ d. HaveOwnIndexes c d) ys) xs → AreJoined t.shape.prototypes t.groups o.groups u.groups → u.shape ≡ t.shape
           → chunks ≡ xs ++ ys → SinkHasTaken q n chunks u given
       run-both u chunks apart joined shape both = rw both (record {
         some = h.some;
@@ -200,7 +201,7 @@ module _ (q : QueryTree) (n : ℕ) (xs : List DataChunk) (t : Table) (given : Op
       pub shape-once : t.shape ≡ shape_of q
       shape-once = held.shape
 
-      pub run-once : AreTakenChunks q (c ∷ []) → (u : Table) (chunks : List DataChunk) → All (λ x. All (λ d. x.chunk_index ≢ d.chunk_index) (c ∷ [])) xs → TookChunk q c t u → chunks ≡ xs ++ c ∷ [] → SinkHasTaken q n chunks u given
+      pub run-once : AreTakenChunks q (c ∷ []) → (u : Table) (chunks : List DataChunk) → All (λ x. All (λ d. HaveOwnIndexes x d) (c ∷ [])) xs → TookChunk q c t u → chunks ≡ xs ++ c ∷ [] → SinkHasTaken q n chunks u given
       run-once taken u chunks apart took both = rw both (record {
         some = h.some;
         few = h.few;

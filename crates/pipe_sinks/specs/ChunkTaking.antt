@@ -1,14 +1,10 @@
 -- Of the proofs alone: a chunk whose rows a table takes.
-use Rattle.std.specs.Prelude.{◌≡◌, ◌<◌, ◌^◌, ℕ, All, List, length, Option, Some, None}
-use Rattle.std.specs.Borrow.{Bor}
-use Rattle.pipe_columns.specs.declared.any_value.AnyValue.{AnyValue}
+use Rattle.std.specs.Prelude.{◌≡◌, ◌<◌, ◌^◌, All, List}
 use Rattle.pipe_columns.specs.declared.data_chunk.DataChunk.{DataChunk}
-use Rattle.pipe_columns.specs.Frame.{value_at}
 use Rattle.pipe_columns.specs.Row.{Row}
 use Rattle.pipe_aggs.specs.declared.query.Query.{Query}
 use Rattle.pipe_aggs.specs.CheckedQuery.{input_types}
 use Rattle.pipe_aggs.specs.QueryTrees.{query_tree}
-use Rattle.pipe_inputs.specs.ChunkRows.{row_at}
 use Rattle.pipe_inputs.specs.RowTypes.{IsRowOf}
 use Rattle.pipe_model.specs.Output.{key_types}
 use Rattle.pipe_model.specs.Query.{QueryTree}
@@ -16,19 +12,9 @@ use Rattle.pipe_model.specs.Rows.{chunk_rows}
 use Rattle.pipe_spill.specs.SpillRow.{AreRows}
 use Rattle.pipe_groups.specs.Holds.{HoldFewer}
 use Rattle.pipe_groups.specs.Shape.{shape_of}
-use Rattle.pipe_sinks.specs.Marks.{IsSole}
+pub use Rattle.pipe_sinks.specs.SoleKeys.{AreGivenKeys, AreKeysOf, IsSole}
 use Rattle.pipe_keyed.specs.Tables.{Table}
 use Rattle.pipe_keyed.specs.TakenRows.{spilled_first, TookFirstRows}
-
--- values are the first ones of the keys of rows
-abbrev pub AreKeysOf : List Row → List AnyValue → Type 0
-AreKeysOf rows keys =
-    (n : ℕ) → n < length rows → value_at keys n ≡ value_at (row_at rows n).key 0
-
--- the values of the keys of a chunk, if they are given
-abbrev pub AreGivenKeys : QueryTree → DataChunk → Option (Bor (List AnyValue)) → Type 0
-AreGivenKeys q c None = Unit {0}
-AreGivenKeys q c (Some keys) = AreKeysOf (chunk_rows q c.chunk_index c.frame) keys.now
 
 -- what a table of a query needs to take the rows of a chunk
 pub record TakesRows (query : Query) (c : DataChunk) (rows : List Row) (t : Table) : Type 0 where

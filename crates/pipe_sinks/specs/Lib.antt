@@ -10,4 +10,5 @@ pub mod RunLayout
 pub mod Runs
 pub mod SinkNames
 pub mod Slices
+pub mod SoleKeys
 pub mod TableLayout

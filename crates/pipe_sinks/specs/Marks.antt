@@ -1,17 +1,12 @@
 -- Of the proofs alone: keys of one value, and the marks that they are found by.
-use Rattle.std.specs.Prelude.{◌≡◌, ◌-◌, ◌^◌, ◌==◌, ℕ, ℤ, pos, negsuc, nat_lt, Bool, true, false, if◌then◌else◌, List, [], ◌∷◌}
+use Rattle.std.specs.Prelude.{◌≡◌, ◌-◌, ◌^◌, ◌==◌, ℕ, ℤ, pos, negsuc, nat_lt, Bool, false, if◌then◌else◌, List, [], ◌∷◌}
 use Rattle.pipe_chains.specs.Hash.{hash_of}
 use Rattle.pipe_columns.specs.declared.any_value.AnyValue.{AnyValue}
 use Rattle.pipe_columns.specs.declared.any_value.AnyValue.TheVariants as av
 use Rattle.pipe_columns.specs.declared.data_type.DataType.{DataType}
-use Rattle.pipe_columns.specs.declared.data_type.DataType.TheVariants as dt
 use Rattle.pipe_columns.specs.Key.{code}
 use Rattle.pipe_spill.specs.KeyTypes.{AreOfTypes}
-
--- whether a type has numbers of more than 64 bits
-abbrev pub is_wide : DataType → Bool
-is_wide dt.Int128 = true
-is_wide t = false
+pub use Rattle.pipe_sinks.specs.SoleKeys.{is_wide, IsSole}
 
 -- whether a number lies between -2^64 and 2^64
 abbrev pub is_narrow : ℤ → Bool
@@ -29,12 +24,6 @@ mark_of av.Null = 0
 mark_of (av.Boolean b) = if b then 1 else 0
 mark_of (av.Int n) = number_mark n
 mark_of (av.Text s) = hash_of s
-
--- one key, of numbers of 64 bits at most or of texts
-pub record IsSole (types : List DataType) : Type 0 where
-  pub dtype : DataType
-  pub is : types ≡ dtype ∷ []
-  pub narrow : is_wide dtype ≡ false
 
 -- the code of a key of one value
 abbrev pub sole_code : List DataType → AnyValue → List ℕ

@@ -16,7 +16,7 @@ use Rattle.pipe_groups.specs.declared.placed_groups.PlacedGroups.{PlacedGroups}
 use Rattle.pipe_groups.specs.Holds.{Holds}
 use Rattle.pipe_groups.specs.QueryRows.{ArePlacedRows}
 use Rattle.pipe_groups.specs.Shape.{shape_of}
-use Rattle.pipe_sinks.specs.Marks.{IsSole}
+use Rattle.pipe_sinks.specs.SoleKeys.{IsSole}
 use Rattle.pipe_sinks.specs.Runs.{placed_rows}
 use Rattle.pipe_keyed.specs.Tables.{Table}
 

@@ -38,18 +38,26 @@ abbrev pub IsAnswer : Purpose → List DataChunk → FrameData → Type 0
 IsAnswer p chunks f =
     f ≡ answer_of (placed_rows (query_tree p.query) chunks) (query_tree p.query) p.partitions
 
+-- a chunk comes behind another, where both have rows
+abbrev pub ComesBehind : DataChunk → DataChunk → Type 0
+ComesBehind c d = 0 < c.frame.height → 0 < d.frame.height → d.chunk_index < c.chunk_index
+
+-- two chunks have indexes of their own, where both have rows
+abbrev pub HaveOwnIndexes : DataChunk → DataChunk → Type 0
+HaveOwnIndexes c d = 0 < c.frame.height → 0 < d.frame.height → c.chunk_index ≢ d.chunk_index
+
 -- a sink takes a chunk: it has the query's columns, comes behind all that were taken, and there are
 -- fewer than 2^32 rows with its own
 pub record Takes (r : Run) (c : DataChunk) : Type 0 where
   pub fits : FitsSchema r.query.schema c.frame
-  pub later : All (λ d. d.chunk_index < c.chunk_index) r.taken
+  pub later : All (λ d. ComesBehind c d) r.taken
   pub few : total_height r.taken + c.frame.height < 2 ^ 32
 
 -- two sinks may be combined: they are made for the same, no chunk of one has the index of one of the
 -- other, and they took fewer than 2^32 rows together
 pub record MayCombine (r other : Run) : Type 0 where
   pub same : purpose_of other ≡ purpose_of r
-  pub apart : All (λ c. All (λ d. c.chunk_index ≢ d.chunk_index) other.taken) r.taken
+  pub apart : All (λ c. All (λ d. HaveOwnIndexes c d) other.taken) r.taken
   pub few : total_height r.taken + total_height other.taken < 2 ^ 32
 
 -- a column holds the keys of a chunk's rows, in their order, one value each

@@ -6,7 +6,7 @@ ghost use Rattle.pipe_aggs.specs.QueryTrees.{query_tree};
 ghost use Rattle.pipe_groups.specs.Shape.{shape_of};
 ghost use Rattle.pipe_model.specs.Output.{key_types};
 ghost use Rattle.pipe_sinks.specs.Apart.{MayTakeOver, TookOver};
-ghost use Rattle.pipe_sinks.specs.Marks.{IsSole};
+ghost use Rattle.pipe_sinks.specs.SoleKeys.{IsSole};
 ghost use Rattle.pipe_sinks.specs.RunLayout.{HoldsChunks};
 ghost use Rattle.pipe_keyed.specs.Tables.{HasGroups};
 

@@ -6,7 +6,7 @@ ghost use Rattle.pipe_inputs.specs.ChunkRows.{row_at};
 ghost use Rattle.pipe_spill.specs.KeyTypes.{AreOfTypes};
 ghost use Rattle.pipe_groups.specs.Groups.{cover, HasGroups};
 ghost use Rattle.pipe_keyed.specs.Keyed.{IsAt};
-ghost use Rattle.pipe_sinks.specs.Marks.{IsSole};
+ghost use Rattle.pipe_sinks.specs.SoleKeys.{IsSole};
 
 use crate::by_value::ByValue;
 use crate::sole_mark::mark_of;

@@ -10,7 +10,7 @@ ghost use Rattle.pipe_model.specs.Output.{key_types};
 ghost use Rattle.pipe_keyed.specs.TakenRows.{TookFirstRows};
 ghost use Rattle.pipe_sinks.specs.ChunkTaking.{AreGivenKeys, AreKeysOf, TakesRows, TookChunk};
 ghost use Rattle.pipe_sinks.specs.KeyCuts.{AreCut};
-ghost use Rattle.pipe_sinks.specs.Marks.{IsSole};
+ghost use Rattle.pipe_sinks.specs.SoleKeys.{IsSole};
 ghost use Rattle.pipe_sinks.specs.Alike.{HoldAlike};
 
 use crate::key_table::KeyTable;

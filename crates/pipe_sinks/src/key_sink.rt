@@ -1,8 +1,9 @@
 //! The sink for one key: one body for keys of integers and of texts.
 
-ghost use Rattle.std.specs.Prelude.{◌≡◌, ◌<◌, ◌∷◌, ◌++◌, [], IfOk, List, OnErr, OnOk};
+ghost use Rattle.std.specs.Prelude.{◌≡◌, ◌<◌, ◌≤◌, ◌^◌, ◌∷◌, ◌++◌, [], IfOk, List, OnErr, OnOk};
 ghost use Rattle.pipe_columns.specs.Chunks.{frame_given};
 ghost use Rattle.pipe_columns.specs.declared.data_chunk.DataChunk.{DataChunk};
+ghost use Rattle.pipe_columns.specs.declared.sink.SinkResult.TheVariants as sink_result;
 ghost use Rattle.pipe_aggs.specs.QueryTrees.{query_tree};
 ghost use Rattle.pipe_model.specs.Output.{key_types};
 ghost use Rattle.pipe_sinks.specs.Runs.{IsAnswer, IsKeyColumn, MayCombine, Purpose, purpose_of, Takes, with_taken};
@@ -31,6 +32,7 @@ impl<'a, S> Model for KeySink<'a, S> {
 
 impl<'a, S: SoleKey> KeySink<'a, S> {
     /// A sink that took nothing, for the one key of a query, whose groups come out of so many partitions.
+    /// More than 2^32 of these can't be had.
     pub fn new(
         alloc: Global,
         query: &'a CheckedQuery<'a>,
@@ -38,8 +40,9 @@ impl<'a, S: SoleKey> KeySink<'a, S> {
     ) -> Result<KeySink<'a, S>, AllocError>
         requires some { 0 < partitions }
         requires key { key_types (query_tree query.now) ≡ S.dtype ∷ [] }
-        ensures { IfOk result
+        ensures made { IfOk result
             (λ s. s ≡ record { query = query.now; partitions = partitions; taken = [] }) }
+        ensures few { OnOk result (partitions ≤ 2 ^ 32) }
     {
         let run = SinkRun::new(alloc, query, partitions)?;
         Ok(KeySink {
@@ -79,6 +82,7 @@ impl<'a, S: SoleKey> KeySink<'a, S> {
         ensures taken { OnOk result ((chunks : List DataChunk) → self.old.taken ≡ chunks
             → self.new.taken ≡ chunks ++ (chunk.now ∷ [])) }
         ensures purpose { purpose_of self.new ≡ purpose_of self.old }
+        ensures answer { IfOk result (λ r. r ≡ sink_result.CanHaveMoreInput) }
         ensures err { OnErr result (self.new ≡ self.old) }
     {
         self.run.take(Some(key.values()), chunk)?;
@@ -106,6 +110,7 @@ impl<'a, S: SoleKey> Sink for KeySink<'a, S> {
         ensures taken { OnOk result ((chunks : List DataChunk) → self.old.taken ≡ chunks
             → self.new.taken ≡ chunks ++ (chunk ∷ [])) }
         ensures purpose { purpose_of self.new ≡ purpose_of self.old }
+        ensures answer { IfOk result (λ r. r ≡ sink_result.CanHaveMoreInput) }
         ensures err { OnErr result (self.new ≡ self.old) }
     {
         self.run.take(None, &chunk)?;

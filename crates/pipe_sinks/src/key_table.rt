@@ -13,7 +13,7 @@ ghost use Rattle.pipe_groups.specs.GroupRuns.{keep_no_text};
 ghost use Rattle.pipe_groups.specs.Holds.{HoldFewer, Holds};
 ghost use Rattle.pipe_groups.specs.QueryRows.{ArePlaced};
 ghost use Rattle.pipe_groups.specs.Shape.{shape_of};
-ghost use Rattle.pipe_sinks.specs.Marks.{IsSole};
+ghost use Rattle.pipe_sinks.specs.SoleKeys.{IsSole};
 ghost use Rattle.pipe_keyed.specs.Keyed.{IsAt};
 ghost use Rattle.pipe_sinks.specs.KeyRuns.{IsRun, run_rows};
 ghost use Rattle.pipe_keyed.specs.Tables.{HasGroups, HoldFewTogether, IsTable, TakesOne};

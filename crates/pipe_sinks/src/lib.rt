@@ -20,7 +20,7 @@ mod sole_mark;
 mod worked;
 
 pub use key_sink::KeySink;
-pub use laws::what_parts_keep;
+pub use laws::{chunks_without_rows_change_nothing, what_parts_keep};
 pub use paused::PausedSink;
 pub use sink_run::SinkRun;
 pub use slices::{compute_slices, default_slices};

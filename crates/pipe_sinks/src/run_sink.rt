@@ -2,7 +2,7 @@
 
 ghost use Rattle.std.specs.Prelude.{◌≡◌, ◌∷◌, ◌++◌, [], OnErr, OnOk};
 ghost use Rattle.pipe_aggs.specs.QueryTrees.{query_tree};
-ghost use Rattle.pipe_sinks.specs.ChunkTaking.{AreGivenKeys};
+ghost use Rattle.pipe_sinks.specs.SoleKeys.{AreGivenKeys};
 ghost use Rattle.pipe_sinks.specs.Runs.{MayCombine, Takes, with_taken};
 
 use crate::add_chunk::add_apart;

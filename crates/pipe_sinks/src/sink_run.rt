@@ -1,9 +1,9 @@
 //! What a sink of one key keeps of the chunks that it took.
 
-ghost use Rattle.std.specs.Prelude.{◌≡◌, ◌<◌, [], IfOk};
+ghost use Rattle.std.specs.Prelude.{◌≡◌, ◌<◌, ◌≤◌, ◌^◌, [], IfOk, OnOk};
 ghost use Rattle.pipe_aggs.specs.QueryTrees.{query_tree};
 ghost use Rattle.pipe_model.specs.Output.{key_types};
-ghost use Rattle.pipe_sinks.specs.Marks.{IsSole};
+ghost use Rattle.pipe_sinks.specs.SoleKeys.{IsSole};
 ghost use Rattle.pipe_sinks.specs.Runs.{with_taken};
 
 use crate::key_table::KeyTable;
@@ -58,8 +58,9 @@ impl<'a> SinkRun<'a> {
     ) -> Result<SinkRun<'a>, AllocError>
         requires some { 0 < partitions }
         requires key { IsSole (key_types (query_tree query.now)) }
-        ensures { IfOk result
+        ensures made { IfOk result
             (λ r. r ≡ record { query = query.now; partitions = partitions; taken = [] }) }
+        ensures few { OnOk result (partitions ≤ 2 ^ 32) }
     {
         if partitions > MOST {
             return Err(AllocError);

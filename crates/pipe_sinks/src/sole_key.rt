@@ -5,7 +5,7 @@ ghost use Rattle.pipe_columns.specs.declared.data_type.DataType.{DataType};
 ghost use Rattle.pipe_columns.specs.declared.data_type.DataType.TheVariants as dt;
 ghost use Rattle.pipe_aggs.specs.QueryTrees.{query_tree};
 ghost use Rattle.pipe_model.specs.Output.{key_types};
-ghost use Rattle.pipe_sinks.specs.Marks.{is_wide};
+ghost use Rattle.pipe_sinks.specs.SoleKeys.{is_wide};
 ghost use Rattle.pipe_sinks.specs.SinkNames.{number_name, text_name};
 
 use crate::key_sink::KeySink;

@@ -1,14 +1,14 @@
 -- Chunks that are kept, and the frames that they make.
-use Rattle.std.proofs.Common.{◌≡◌, ◌∙◌, ◌+◌, ◌<◌, ◌^◌, ◌==◌, ℕ, true, false, cond, List, [], ◌∷◌, ◌++◌, map, length, get_or, Option, Some, None, MatchOption, refl, sym, ap, ap₂, arith, subst, fold, remove, append-nil, inl, inr}
+use Rattle.std.proofs.Common.{◌≡◌, ◌∙◌, ◌+◌, ◌<◌, ◌==◌, ℕ, true, false, cond, List, [], ◌∷◌, ◌++◌, map, length, get_or, refl, sym, ap, ap₂, arith, subst, remove, append-nil, inl, inr}
 use Rattle.std.specs.List.{All}
 use Rattle.std.proofs.lemmas.Bool.{cond-true, cond-false, cases_Bool, eq-eqb, eqb-true, ne_eqb, not-false}
 use Rattle.std.proofs.lemmas.List.Elements.{All-append, All-cons, All-head, All-nil, All-tail, filter-append}
-use Rattle.std.proofs.lemmas.List.Sums.{fold-append, sum_by-append, sum_by-cons}
+use Rattle.std.proofs.lemmas.List.Sums.{sum_by-append, sum_by-cons}
 use Rattle.std.proofs.lemmas.List.{length-append}
 use Rattle.pipe_columns.specs.declared.data_chunk.DataChunk.{DataChunk}
 use Rattle.pipe_columns.specs.declared.schema.Field.{Field}
-use Rattle.pipe_columns.specs.Frame.{ColumnData, FitsSchema, FrameData, appended_all, fields_of, field_of, unsorted}
-use Rattle.pipe_writers.specs.Kept.{StacksOn, gathered, keeps_chunk, chunks_kept, row_count, with_frame_below}
+use Rattle.pipe_columns.specs.Frame.{ColumnData, FitsSchema, appended_all, fields_of, field_of, unsorted}
+use Rattle.pipe_writers.specs.Kept.{keeps_chunk, chunks_kept, row_count}
 use Rattle.pipe_writers.specs.KeptFields.{AreKeptChunks}
 use Rattle.pipe_writers.specs.WriteOrder.{chunk_has_rows, chunks_with_rows}
 
@@ -175,43 +175,7 @@ module _ (fields : List Field) where
   abbrev Fits : DataChunk → Type 0
   Fits c = FitsSchema fields c.frame
 
-  -- what was gathered fits, and has so many rows
-  abbrev IsGathered : Option FrameData → ℕ → Type 0
-  IsGathered o n = MatchOption o (n ≡ 0) (λ f. FitsSchema fields f × (f.height ≡ n))
-
-  one_more : (o : Option FrameData) (n : ℕ) (c : DataChunk) → IsGathered o n → Fits c → IsGathered (Some (with_frame_below o c.frame)) (n + c.frame.height)
-  one_more None n c p fit = (fit, omega (arith, p))
-  one_more (Some f) n c p fit = (fields-stacked c.frame.columns f.columns ∙ p.0, omega (arith, p.1))
-
-  gathered_from : (o : Option FrameData) (n : ℕ) (cs : List DataChunk) → IsGathered o n → All Fits cs
-      → IsGathered (fold (λ before chunk. Some (with_frame_below before chunk.frame)) o cs) (fold (λ a chunk. a + chunk.frame.height) n cs)
-  gathered_from o n [] p a = p
-  gathered_from o n (c ∷ cs) p a = gathered_from (Some (with_frame_below o c.frame)) (n + c.frame.height) cs (one_more o n c p (All-head Fits c cs a)) (All-tail Fits c cs a)
-
-  pub is_gathered : (cs : List DataChunk) → All Fits cs → IsGathered (gathered cs) (row_count cs)
-  is_gathered cs a = gathered_from None 0 cs refl a
-
-  stacks_on : (o : Option FrameData) (n : ℕ) (c : DataChunk) → IsGathered o n → Fits c → n + c.frame.height < 2 ^ 64 → StacksOn o c.frame
-  stacks_on None n c p fit few = tt
-  stacks_on (Some f) n c p fit few = record { fields = fit ∙ sym p.0; few = omega (arith, p.1, few) }
-
-  All-front : (xs ys : List DataChunk) → All Fits (xs ++ ys) → All Fits xs
-  All-front [] ys a = All-nil Fits
-  All-front (x ∷ xs) ys a = All-cons Fits x xs (All-head Fits x (xs ++ ys) a) (All-front xs ys (All-tail Fits x (xs ++ ys) a))
-
-  All-next : (xs : List DataChunk) (y : DataChunk) (ys : List DataChunk) → All Fits (xs ++ y ∷ ys) → Fits y
+  -- the next of chunks that fit
+  pub All-next : (xs : List DataChunk) (y : DataChunk) (ys : List DataChunk) → All Fits (xs ++ y ∷ ys) → Fits y
   All-next [] y ys a = All-head Fits y ys a
   All-next (x ∷ xs) y ys a = All-next xs y ys (All-tail Fits x (xs ++ y ∷ ys) a)
-
-  -- the next chunk goes below what was gathered of those before it
-  pub next_stacks : (all done : List DataChunk) (c : DataChunk) (rest : List DataChunk) (o : Option FrameData) → All Fits all → row_count all < 2 ^ 64
-      → all ≡ done ++ c ∷ rest → o ≡ gathered done → StacksOn o c.frame
-  next_stacks all done c rest o a few is so_far =
-      let fit : All Fits (done ++ c ∷ rest) = subst (All Fits) is a in
-      let count : row_count all ≡ row_count done + row_count (c ∷ rest) = ap row_count is ∙ sum_by-append (λ (x : DataChunk). x.frame.height) done (c ∷ rest) in
-      let here : row_count (c ∷ rest) ≡ c.frame.height + row_count rest = sum_by-cons (λ (x : DataChunk). x.frame.height) c rest in
-      rw so_far (stacks_on (gathered done) (row_count done) c (is_gathered done (All-front done (c ∷ rest) fit)) (All-next done c rest fit) (omega (arith, count, here, few)))
-
--- one more chunk is gathered
-pub gathered-more : (done : List DataChunk) (c : DataChunk) → gathered (done ++ c ∷ []) ≡ Some (with_frame_below (gathered done) c.frame)
-gathered-more done c = fold-append (λ (before : Option FrameData) (chunk : DataChunk). Some (with_frame_below before chunk.frame)) None done (c ∷ [])

@@ -1,5 +1,6 @@
 pub mod SortFacts
 pub mod KeptFacts
+pub mod RoomFacts
 pub mod LineFacts
 pub mod WriterFacts
 pub mod CsvFacts

@@ -5,6 +5,7 @@ pub mod WriteOrder
 pub mod Kept
 pub mod Worked
 pub mod KeptFields
+pub mod Room
 pub mod Vstacker
 pub mod Writers
 pub mod LinesAdded

@@ -1,13 +1,14 @@
 //! Chunks that are kept until their frame is asked for.
 
 ghost use Rattle.std.specs.Prelude.{◌≡◌, ◌∷◌, ◌++◌, ◌+◌, ◌<◌, ◌^◌, ◌≤◌, [], IfOk, OnErr, OnOk, All};
-ghost use Rattle.pipe_columns.specs.Frame.{FitsSchema};
+ghost use Rattle.pipe_columns.specs.Frame.{FitsSchema, fields_of};
 ghost use Rattle.pipe_writers.specs.Kept.{TakesChunk, TakesOver, emptied, keeps_chunk, joined_frames, chunks_kept, row_count};
+ghost use Rattle.pipe_writers.specs.Room.{all_stacked};
 ghost use Rattle.pipe_writers.specs.WriteOrder.{by_number};
 
 use crate::chunk_order::sort_by_number;
+use crate::frame_room::FrameRoom;
 use crate::schema_copy::copy_schema;
-use crate::stack::put_below;
 use pipe_columns::{DataChunk, DataFrame, Schema};
 use std::alloc::{AllocError, Global};
 use std::marker::Model;
@@ -64,24 +65,16 @@ fn append_kept(chunks: &mut Vec<DataChunk>, more: &mut Vec<DataChunk>) -> Result
     Ok(())
 }
 
-/// The frames of chunks that fit a schema, joined in their order.
-fn join_frames(
-    alloc: Global,
-    schema: &Schema,
-    chunks: Vec<DataChunk>,
-) -> Result<DataFrame, AllocError>
-    requires fit { All (λ c. FitsSchema schema.now c.frame) chunks.items }
-    requires few { row_count chunks.items < 2 ^ 64 }
-    ensures { IfOk result (λ f. f ≡ joined_frames schema.now chunks.items) }
+/// The frames of chunks in their order, below what a room has. It takes no memory.
+fn join_frames(mut room: FrameRoom, chunks: Vec<DataChunk>) -> DataFrame
+    requires fit { All (λ c. FitsSchema (fields_of room.frame.columns) c.frame) chunks.items }
+    requires room { room.frame.height + row_count chunks.items ≤ room.most }
+    ensures { result ≡ all_stacked room.frame chunks.items }
 {
-    let mut frames = None;
     for chunk in chunks {
-        put_below(&mut frames, chunk.frame)?;
+        room.fill(chunk.frame);
     }
-    match frames {
-        Some(frame) => Ok(frame),
-        None => DataFrame::empty_with_schema(alloc, schema),
-    }
+    room.into_frame()
 }
 
 impl KeptChunks {
@@ -146,14 +139,24 @@ impl KeptChunks {
         Ok(())
     }
 
-    /// The frame of the kept chunks, by their numbers. None is kept then, whatever is answered.
+    /// The frame of the kept chunks, by their numbers. None is kept then; where memory is wanting,
+    /// all are, in the order that they have.
     pub(crate) fn join(&mut self) -> Result<DataFrame, AllocError>
         ensures ok { IfOk result (λ f. f ≡ joined_frames self.old.fields (by_number self.old.chunks)) }
-        ensures emptied { self.new ≡ emptied self.old }
+        ensures emptied { OnOk result (self.new ≡ emptied self.old) }
+        ensures err { OnErr result (self.new ≡ self.old) }
     {
-        let mut chunks = mem::replace(&mut self.chunks, Vec::new(self.alloc));
+        if self.chunks.len() == 1 {
+            let Some(chunk) = self.chunks.pop() else {
+                unreachable!()
+            };
+            self.rows = 0;
+            return Ok(chunk.frame);
+        }
+        let room = FrameRoom::new(self.alloc, &self.schema, self.rows)?;
+        sort_by_number(&mut self.chunks)?;
+        let chunks = mem::replace(&mut self.chunks, Vec::new(self.alloc));
         self.rows = 0;
-        sort_by_number(&mut chunks)?;
-        join_frames(self.alloc, &self.schema, chunks)
+        Ok(join_frames(room, chunks))
     }
 }

@@ -3,9 +3,11 @@
 #![tactic(auto)]
 
 mod chunk_order;
+mod column_room;
 mod csv_lines;
 mod csv_record;
 mod csv_writer;
+mod frame_room;
 mod frame_writer;
 mod json_lines;
 mod json_plain;

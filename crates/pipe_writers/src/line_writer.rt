@@ -26,7 +26,7 @@ pub struct LineWriter<O, L> {
     alloc: Global,
     output: O,
     lines: L,
-    pub(crate) most: usize,
+    most: usize,
     calls: WriterCalls,
 }
 

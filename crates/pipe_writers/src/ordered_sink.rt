@@ -84,7 +84,8 @@ impl Sink for OrderedSink {
             → self.old.kept.chunks ≡ chunks_kept chunks
             → frame_given r ≡ ordered_frame self.old.kept.fields chunks) }
         ensures purpose { self.new.kept.fields ≡ self.old.kept.fields }
-        ensures emptied { self.new.kept ≡ emptied self.old.kept }
+        ensures emptied { OnOk result (self.new.kept ≡ emptied self.old.kept) }
+        ensures err { OnErr result (self.new ≡ self.old) }
     {
         let frame = self.kept.join()?;
         Ok(FinalizedSink::Finished(frame))

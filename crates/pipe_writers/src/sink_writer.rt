@@ -13,7 +13,7 @@ use crate::write_error::WriteError;
 use pipe_columns::{DataFrame, Schema};
 
 /// Which calls a writer had: whether a batch, whether a refused one, whether the finish.
-#[derive(Clone, Copy, Debug, Drop)]
+#[derive(Debug, Drop)]
 pub struct WriterCalls {
     pub begun: bool,
     pub refused: bool,

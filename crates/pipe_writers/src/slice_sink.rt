@@ -121,7 +121,8 @@ impl Sink for SliceSink {
             ≡ slice_of_ordered self.old.offset self.old.len self.old.kept.fields chunks) }
         ensures purpose { (self.new.offset ≡ self.old.offset)
             × (self.new.len ≡ self.old.len) × (self.new.kept.fields ≡ self.old.kept.fields) }
-        ensures emptied { self.new.kept ≡ emptied self.old.kept }
+        ensures emptied { OnOk result (self.new.kept ≡ emptied self.old.kept) }
+        ensures err { OnErr result (self.new ≡ self.old) }
     {
         let frame = self.kept.join()?;
         let frame = frame.slice(self.offset as usize, self.len);

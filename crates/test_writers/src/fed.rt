@@ -24,7 +24,7 @@ pub(crate) fn write_one<W: SinkWriter>(writer: &mut W, frame: &DataFrame) -> Res
 }
 
 /// Whether a chunk fits a schema, and its rows can be joined with others.
-fn is_taken(schema: &Schema, chunk: &DataChunk) -> bool
+pub(crate) fn is_taken(schema: &Schema, chunk: &DataChunk) -> bool
     ensures { IsTrue result → IsWritable schema.now chunk.now.frame }
 {
     chunk.frame.fits(schema) && chunk.frame.height() <= 1 << 20

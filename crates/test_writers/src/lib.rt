@@ -8,6 +8,8 @@ mod fed;
 #[cfg(test)]
 mod json_tests;
 #[cfg(test)]
+mod kept_tests;
+#[cfg(test)]
 mod made;
 #[cfg(test)]
 mod memory_tests;

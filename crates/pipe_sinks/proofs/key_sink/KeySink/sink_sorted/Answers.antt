@@ -2,7 +2,7 @@ use Rattle.std.proofs.Common.{Some, List, sym, subst}
 use Rattle.pipe_columns.specs.declared.any_value.AnyValue.{AnyValue}
 use Rattle.pipe_aggs.specs.QueryTrees.{query_tree}
 use Rattle.pipe_model.specs.Rows.{chunk_rows}
-use Rattle.pipe_sinks.specs.ChunkTaking.{AreGivenKeys, AreKeysOf}
+use Rattle.pipe_sinks.specs.SoleKeys.{AreGivenKeys, AreKeysOf}
 use Rattle.pipe_sinks.specs.Runs.{Run}
 use Rattle.pipe_sinks.proofs.ChunkRunFacts.{column-keys}
 use Rattle.pipe_sinks.proofs.key_sink.KeySink.sink_sorted.Goals as goal

@@ -1,11 +1,11 @@
-use Rattle.std.proofs.Common.{◌≡◌, ◌≢◌, ◌∙◌, ◌+◌, ◌<◌, ◌^◌, ◌++◌, [], List, false, is_some, ap, refl, sym, subst}
+use Rattle.std.proofs.Common.{◌≡◌, ◌∙◌, ◌+◌, ◌<◌, ◌^◌, ◌++◌, [], List, false, is_some, ap, refl, sym, subst}
 use Rattle.std.specs.List.{All}
 use Rattle.pipe_columns.specs.declared.data_chunk.DataChunk.{DataChunk}
 use Rattle.pipe_aggs.specs.declared.query.Query.{Query}
 use Rattle.pipe_aggs.specs.QueryTrees.{query_tree}
 use Rattle.pipe_model.specs.Rows.{total_height}
 use Rattle.pipe_sinks.specs.RunLayout.{SinkHasTaken}
-use Rattle.pipe_sinks.specs.Runs.{Purpose, Run}
+use Rattle.pipe_sinks.specs.Runs.{HaveOwnIndexes, Purpose, Run}
 use Rattle.pipe_sinks.proofs.MarkFacts.{marked, marked-append}
 use Rattle.pipe_sinks.proofs.RunFacts.{kept-none, run-both, run-emptied, run-few}
 use Rattle.pipe_sinks.proofs.sink_run.SinkRun.combine.Goals as goal
@@ -31,7 +31,7 @@ invariant_of-self-2 c =
     let own : xs ≡ c.args.self.now.taken = ap (λ (r : Run). r.taken) c.self.view_is in
     let theirs : ys ≡ c.args.other.now.taken = ap (λ (r : Run). r.taken) c.other.view_is in
     let few : total_height xs + total_height ys < 2 ^ 32 = rw (own, theirs) c.requires.few in
-    let apart : All (λ c. All (λ d. c.chunk_index ≢ d.chunk_index) ys) xs = rw (own, theirs) c.requires.apart in
+    let apart : All (λ c. All (λ d. HaveOwnIndexes c d) ys) xs = rw (own, theirs) c.requires.apart in
     let asked : c.other.inside.query.now ≡ c.self.inside.query.now =
     ap (λ (r : Run). r.query) c.other.view_is ∙ ap (λ (p : Purpose). p.query) c.requires.same ∙ sym (ap (λ (r : Run). r.query) c.self.view_is) in
     let more = subst (λ (x : Query). SinkHasTaken (query_tree x) c.other.inside.partitions ys c.other.inside.table c.other.inside.given) asked c.other.invariant in

@@ -2,7 +2,7 @@ use Rattle.std.proofs.Common.{◌≡◌, ◌∙◌, ◌+◌, ◌<◌, ◌^◌, �
 use Rattle.pipe_columns.specs.declared.data_chunk.DataChunk.{DataChunk}
 use Rattle.pipe_aggs.specs.QueryTrees.{query_tree}
 use Rattle.pipe_model.specs.Rows.{total_height}
-use Rattle.pipe_sinks.specs.ChunkTaking.{AreGivenKeys}
+use Rattle.pipe_sinks.specs.SoleKeys.{AreGivenKeys}
 use Rattle.pipe_sinks.specs.Runs.{Run}
 use Rattle.pipe_sinks.proofs.MarkFacts.{marked, marked-push}
 use Rattle.pipe_sinks.proofs.RunFacts.{kept-shape, later-apart, on-err, room-once, run-alike, run-once, single-height, single-taken}
