@@ -57,7 +57,7 @@ setting_of p q made = record {
   query = q;
   limits = p.limits;
   actions = p.actions;
-  rules = [];
+  rules = p.rules;
   stores = made;
 }
 
