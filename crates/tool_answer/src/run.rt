@@ -38,7 +38,7 @@ use tool_words::Question;
 pub const CHUNKS_OF_WORKER: usize = 4;
 
 /// A run before its first chunk, over stores as they were made.
-#[tactic(auto, using(crate::proofs::RunFacts::keeps_suits))]
+#[tactic(auto, using(crate::proofs::RunFacts::keeps_suits, crate::proofs::RunFacts::rules_fit))]
 pub fn begin_run<'a, S: SpillStore + Drop + Send, H: Wait>(
     rt: &H,
     alloc: Global,
