@@ -21,8 +21,7 @@ SPILLING = ["--chunk", "500", "--buffer", "16", "--spill-size", "0", "--payloads
 
 
 def options_of(workers, folder):
-    actions = ",".join(["d" * 200] * workers)
-    return [*SPILLING, "--workers", str(workers), "--actions", actions, "--spill-dir", folder]
+    return [*SPILLING, "--workers", str(workers), "--actions", "d*", "--spill-dir", folder]
 
 
 def emptied(folder):

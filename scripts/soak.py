@@ -16,8 +16,16 @@ from trial_runs import is_answer, made_input, program_of, run
 LEAST_ROWS, MOST_ROWS = 20_000, 250_000
 
 
+def random_actions(chance, workers):
+    """A list of letters for each worker, every other with a star behind it; or one list with a star, which is every worker's."""
+    if chance.random() < 0.2:
+        return "".join(chance.choices("nmd", k=chance.randint(1, 5))) + "*"
+    lists = ["".join(chance.choices("nmd", k=chance.randint(0, 40))) for _ in range(workers)]
+    return ",".join(letters + "*" if letters and chance.random() < 0.5 else letters for letters in lists)
+
+
 def random_options(chance, folder):
-    """Limits from small to large, actions, and for half of the runs a folder for the spills."""
+    """Limits from small to large, actions and rules, and for half of the runs a folder for the spills."""
     workers = chance.randint(1, 8)
     options = {
         "workers": workers,
@@ -28,7 +36,7 @@ def random_options(chance, folder):
         "chunk": chance.choice([100, 999, 5000, 50_000]),
     }
     if chance.random() < 0.7:
-        options["actions"] = ",".join("".join(chance.choices("nmd", k=chance.randint(0, 40))) for _ in range(workers))
+        options["actions"] = random_actions(chance, workers)
     if chance.random() < 0.5:
         options["spill-dir"] = folder
     return options

@@ -1,4 +1,5 @@
 pub mod DigitFacts
 pub mod EachFacts
+pub mod LetterFacts
 pub mod ActionFacts
 pub mod CommandFacts

@@ -5,7 +5,7 @@ use Rattle.pipe_plan.specs.declared.event.SpillAction.{SpillAction}
 use Rattle.pipe_plan.specs.declared.limits.Limits.{Limits}
 use Rattle.pipe_plan.specs.declared.limits.SinkKind.{SinkKind}
 use Rattle.pipe_plan.specs.declared.limits.SinkKind.TheVariants as sink_kind
-use Rattle.pipe_words.specs.Actions.{actions_of}
+use Rattle.pipe_words.specs.Actions.{actions_of, rules_of}
 use Rattle.pipe_words.specs.Command.{found_in, words_in}
 use Rattle.pipe_words.specs.Numbers.{most, number_or, up_to}
 use Rattle.pipe_words.specs.declared.plan.Format.{Format}
@@ -17,6 +17,7 @@ pub record PlanSeen : Type 0 where
   pub limits : Limits
   pub chunk : ℕ
   pub actions : List (List SpillAction)
+  pub rules : List SpillAction
   pub spill_dir : Option (List ℕ)
   pub rows : Option ℕ
   pub format : Format
@@ -29,6 +30,7 @@ plan_seen p = record {
   limits = p.limits;
   chunk = p.chunk;
   actions = map (λ l. l.items) p.actions.items;
+  rules = p.rules.items;
   spill_dir = p.spill_dir;
   rows = p.rows;
   format = p.format;
@@ -99,11 +101,13 @@ rows_plan rows =
     option_and_then (λ seed.
     option_and_then (λ limit.
     option_and_then (λ actions.
+    option_and_then (λ rules.
     option_and_then (λ format.
     if are_fit seed (words_in rows) then Some (record {
       limits = limits;
       chunk = chunk;
       actions = actions;
+      rules = rules;
       spill_dir = first_of (codes "spill-dir") rows;
       rows = limit;
       format = format;
@@ -111,6 +115,7 @@ rows_plan rows =
       words = words_in rows;
     }) else None)
     (format_named (first_of (codes "format") rows)))
+    (rules_of limits.workers (first_of (codes "actions") rows)))
     (actions_of limits.workers (first_of (codes "actions") rows)))
     (limit_of seed (first_of (codes "rows") rows)))
     (seed_of (first_of (codes "generate") rows)))
@@ -129,11 +134,12 @@ pub record AreWithin (l : Limits) : Type 0 where
   pub most_partitions : l.partitions ≤ 4096
   pub some_buffer : 1 ≤ l.buffer_size
 
--- a plan can be run: its numbers are within their ranges, there is a list of actions for each worker, a
--- chunk has a row, there is a word where no rows are generated, and else there are at most ten million
+-- a plan can be run: its numbers are within their ranges, each worker has a list of actions and a rule,
+-- a chunk has a row, there is a word where no rows are generated, and else there are at most ten million
 pub record CanRun (p : PlanSeen) : Type 0 where
   pub limits : AreWithin p.limits
   pub actions : length p.actions ≡ p.limits.workers
+  pub rules : length p.rules ≡ p.limits.workers
   pub chunk : 0 < p.chunk
   pub words : p.generate ≡ None → 0 < length p.words
   pub rows : IfSome p.generate (λ seed. IfSome p.rows (λ n. n ≤ 10000000))

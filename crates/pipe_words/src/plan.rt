@@ -17,8 +17,10 @@ pub struct Plan {
     pub limits: Limits,
     /// The most rows of a chunk.
     pub chunk: usize,
-    /// What follows the turns of each worker.
+    /// What follows the first turns of each worker.
     pub actions: Vec<Vec<SpillAction>>,
+    /// What follows each further turn of each worker.
+    pub rules: Vec<SpillAction>,
     /// The folder of spilled frames, where they don't stay in memory.
     pub spill_dir: Option<Text>,
     /// The most rows that are read of all files together, where there is a limit; or how many rows are

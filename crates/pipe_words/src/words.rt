@@ -5,7 +5,7 @@ ghost use Rattle.clap.specs.Words.{found_of, rows_of};
 ghost use Rattle.pipe_words.specs.Plans.{AreWithin, CanRun, plan_of, plan_seen, rows_plan};
 ghost use Rattle.pipe_words.specs.RestPlan.{rest_plan};
 
-use crate::actions::actions_of;
+use crate::actions::{Lists, actions_of};
 use crate::command::{find_in, value_of, words_of};
 use crate::options::{format_named, limits_of, number_at};
 use crate::plan::Plan;
@@ -42,7 +42,7 @@ fn read_rest(
         ≡ rest_plan limits chunk generate rows (rows_of (found_of matches.now))) }
     ensures run { IfOk result (λ o. IfSome o (λ p. CanRun (plan_seen p))) }
 {
-    let Some(actions) = actions_of(alloc, limits.workers, value_of(matches, "actions"))? else {
+    let Some(lists) = actions_of(alloc, limits.workers, value_of(matches, "actions"))? else {
         return Ok(None);
     };
     let Some(format) = format_named(value_of(matches, "format")) else {
@@ -53,10 +53,12 @@ fn read_rest(
     if !are_fit(generate, &words) {
         return Ok(None);
     }
+    let Lists { actions, rules } = lists;
     Ok(Some(Plan {
         limits,
         chunk,
         actions,
+        rules,
         spill_dir,
         rows,
         format,

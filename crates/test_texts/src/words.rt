@@ -8,19 +8,26 @@ use std::fmt::Write;
 use std::process::Abort;
 use std::test::Fail;
 
-/// The letters of lists of actions, joined by commas.
-fn show_actions(shown: &mut String, lists: &[Vec<SpillAction>]) -> Result<(), AllocError> {
-    for list in lists {
-        for action in list {
-            match action {
-                SpillAction::None => write!(shown, "n")?,
-                SpillAction::EarlyMerge => write!(shown, "m")?,
-                SpillAction::Dump => write!(shown, "d")?,
-            }
+/// The letters of actions.
+fn show_letters(shown: &mut String, actions: &[SpillAction]) -> Result<(), AllocError> {
+    for action in actions {
+        match action {
+            SpillAction::None => write!(shown, "n")?,
+            SpillAction::EarlyMerge => write!(shown, "m")?,
+            SpillAction::Dump => write!(shown, "d")?,
         }
-        write!(shown, ",")?;
     }
     Ok(())
+}
+
+/// The lists of actions, each before a comma, and behind a bar the letters of the rules.
+fn show_actions(shown: &mut String, plan: &Plan) -> Result<(), AllocError> {
+    for list in &plan.actions {
+        show_letters(shown, list)?;
+        write!(shown, ",")?;
+    }
+    write!(shown, "|")?;
+    show_letters(shown, &plan.rules)
 }
 
 /// The limits of a plan, and the rows of its chunks.
@@ -55,10 +62,10 @@ fn show_options(shown: &mut String, plan: &Plan) -> Result<(), AllocError> {
     Ok(())
 }
 
-/// A plan: its limits and lists of actions, its other options and its words.
+/// A plan: its limits, lists of actions and rules, its other options and its words.
 fn show_plan(shown: &mut String, plan: &Plan) -> Result<(), AllocError> {
     show_limits(shown, &plan.limits, plan.chunk)?;
-    show_actions(shown, &plan.actions)?;
+    show_actions(shown, plan)?;
     write!(shown, "]")?;
     show_options(shown, plan)?;
     for word in &plan.words {
@@ -80,11 +87,11 @@ fn show_words(alloc: Global, words: &[&str]) -> Result<String, AllocError> {
     Ok(shown)
 }
 
-const TAKEN: [(&[&str], &str); 12] = [
-    (&["Q"], "Generic 1 1 10000 2048 64 50000 [,] Q"),
+const TAKEN: [(&[&str], &str); 17] = [
+    (&["Q"], "Generic 1 1 10000 2048 64 50000 [,|n] Q"),
     (
         &["Q", "a", "b", "a"],
-        "Generic 1 1 10000 2048 64 50000 [,] Q a b a",
+        "Generic 1 1 10000 2048 64 50000 [,|n] Q a b a",
     ),
     (
         &[
@@ -100,13 +107,13 @@ const TAKEN: [(&[&str], &str); 12] = [
             "--payloads",
             "0",
         ],
-        "Generic 2 3 0 1 0 50000 [,,] Q a",
+        "Generic 2 3 0 1 0 50000 [,,|nn] Q a",
     ),
     (
         &[
             "--sink", "number", "--chunk", "7", "--rows", "0", "--format", "csv", "Q",
         ],
-        "Primitive 1 1 10000 2048 64 7 [,] rows=0 Q",
+        "Primitive 1 1 10000 2048 64 7 [,|n] rows=0 Q",
     ),
     (
         &[
@@ -119,15 +126,35 @@ const TAKEN: [(&[&str], &str); 12] = [
             "--sink=text",
             "Q",
         ],
-        "Text 3 1 10000 2048 64 50000 [nmd,,m,] dir=x y Q",
+        "Text 3 1 10000 2048 64 50000 [nmd,,m,|nnn] dir=x y Q",
     ),
     (
         &["--workers", "3", "--actions", "d,", "Q"],
-        "Generic 3 1 10000 2048 64 50000 [d,,,] Q",
+        "Generic 3 1 10000 2048 64 50000 [d,,,|nnn] Q",
+    ),
+    (
+        &["--workers", "2", "--actions", "m*", "Q"],
+        "Generic 2 1 10000 2048 64 50000 [,,|mm] Q",
+    ),
+    (
+        &["--workers", "2", "--actions", "m*,", "Q"],
+        "Generic 2 1 10000 2048 64 50000 [,,|mn] Q",
+    ),
+    (
+        &["--workers", "3", "--actions", "m*,d*", "Q"],
+        "Generic 3 1 10000 2048 64 50000 [,,,|mdn] Q",
+    ),
+    (
+        &["--workers", "3", "--actions", "nnd*", "Q"],
+        "Generic 3 1 10000 2048 64 50000 [nn,nn,nn,|ddd] Q",
+    ),
+    (
+        &["--workers", "3", "--actions", ",mn*,d", "Q"],
+        "Generic 3 1 10000 2048 64 50000 [,m,d,|nnn] Q",
     ),
     (
         &["--actions", "", "Q"],
-        "Generic 1 1 10000 2048 64 50000 [,] Q",
+        "Generic 1 1 10000 2048 64 50000 [,|n] Q",
     ),
     (
         &[
@@ -137,23 +164,23 @@ const TAKEN: [(&[&str], &str); 12] = [
             "04096",
             "Q",
         ],
-        "Generic 1 4096 10000 2048 64 50000 [,] rows=18446744073709551615 Q",
+        "Generic 1 4096 10000 2048 64 50000 [,|n] rows=18446744073709551615 Q",
     ),
     (
         &["Q", "--format=json", "--rows", "2"],
-        "Generic 1 1 10000 2048 64 50000 [,] rows=2 json Q",
+        "Generic 1 1 10000 2048 64 50000 [,|n] rows=2 json Q",
     ),
     (
         &["--chunk", "1", "--", "--rows", "-"],
-        "Generic 1 1 10000 2048 64 1 [,] --rows -",
+        "Generic 1 1 10000 2048 64 1 [,|n] --rows -",
     ),
     (
         &["--generate", "4294967295"],
-        "Generic 1 1 10000 2048 64 50000 [,] rows=1000 seed=4294967295",
+        "Generic 1 1 10000 2048 64 50000 [,|n] rows=1000 seed=4294967295",
     ),
     (
         &["--rows", "10000000", "--generate=0"],
-        "Generic 1 1 10000 2048 64 50000 [,] rows=10000000 seed=0",
+        "Generic 1 1 10000 2048 64 50000 [,|n] rows=10000000 seed=0",
     ),
 ];
 
@@ -166,7 +193,7 @@ fn words_that_are_taken(rt: HostRuntime) -> Result<(), Fail> {
     Ok(())
 }
 
-const REFUSED: [&[&str]; 34] = [
+const REFUSED: [&[&str]; 44] = [
     &[],
     &["--help"],
     &["-h", "Q"],
@@ -195,6 +222,16 @@ const REFUSED: [&[&str]; 34] = [
     &["--actions", "n,", "Q"],
     &["--actions", "x", "Q"],
     &["--actions", "n, m", "--workers", "2", "Q"],
+    &["--actions", "*", "Q"],
+    &["--actions", "*m", "Q"],
+    &["--actions", "m**", "Q"],
+    &["--actions", "m*d", "Q"],
+    &["--actions", ",m*", "Q"],
+    &["--actions", "m*,", "Q"],
+    &["--actions", "m*,*", "--workers", "2", "Q"],
+    &["--actions", "m*,d*,n*", "--workers", "2", "Q"],
+    &["--actions", "m* ", "Q"],
+    &["--actions", "M*", "Q"],
     &["--generate"],
     &["--generate", "4294967296"],
     &["--generate", "7", "Q"],

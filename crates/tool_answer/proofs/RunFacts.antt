@@ -1,6 +1,6 @@
 -- What holds of the stores of a run, and why it ends early.
 use Rattle.std.proofs.Common.{◌≡◌, ◌∙◌, ◌<◌, ◌≤◌, ◌^◌, ◌==◌, ℕ, Bool, true, false, List, [], ◌∷◌, length, map, refl, sym, ap, subst, arith, suc, zero, inl, inr, rules, Option, None, Some, Result, Ok, Err}
-use Rattle.std.specs.Prelude.{◌⊎◌, IfErr, IfOk, IfSome, IsTrue, is_some, nat_lt}
+use Rattle.std.specs.Prelude.{◌⊎◌, ◌&&◌, IfErr, IfOk, IfSome, IsTrue, is_some, nat_lt}
 use Rattle.std.specs.Cmp.Derive.{both_true}
 use Rattle.std.specs.List.{All, list_all, slice_index_or}
 use Rattle.std.proofs.lemmas.Bool.{false≢true, le-leb, lt-ltb}
@@ -57,7 +57,7 @@ setting_of p q made = record {
   query = q;
   limits = p.limits;
   actions = p.actions;
-  rules = [];
+  rules = p.rules;
   stores = made;
 }
 
@@ -89,6 +89,10 @@ same-number a b e = rw e (search rules)
 
 between : (low high n : ℕ) → low ≤ n → n ≤ high → lies_between low high n ≡ true
 between low high n above below = both_true (le-leb low n above) (le-leb n high below)
+
+-- limits that fit, and a rule for each worker
+pub rules_fit : (fit : Bool) (n workers : ℕ) → fit ≡ true → n ≡ workers → (fit && (n == workers)) ≡ true
+rules_fit fit n workers fits each = both_true fits (same-number n workers each)
 
 -- a plan that can be run has limits that fit, over stores as they are made
 pub plan-fits : {S : Type 0} (held : S → ℕ) (told : S → Option (List (List ℕ))) (faults : S → ℕ) (sure : S → Bool) (p : PlanSeen) (n : ℕ) (items : List S)

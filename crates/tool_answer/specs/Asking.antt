@@ -36,15 +36,14 @@ files_asked (refused r) = []
 files_asked (asks p q) = files_named p.words
 files_asked (makes p m) = []
 
--- the run of a query by a plan, over chunks and stores, without rules; while it is open, more chunks
--- may follow
+-- the run of a query by a plan, over chunks and stores; while it is open, more chunks may follow
 abbrev pub asked_run : PlanSeen → QueryTree → Bool → List DataChunk → List StoreSeen → Run
 asked_run p q is_open chunks made = record {
   chunks = chunks;
   query = q;
   limits = p.limits;
   actions = p.actions;
-  rules = [];
+  rules = p.rules;
   is_open = is_open;
   stores = made;
 }

@@ -61,13 +61,14 @@ pub fn run_rows<S: SpillStore + Drop + Send, G: Gate + Sync, H: Threads + Wait +
     let Plan {
         limits,
         actions,
+        rules,
         spill_dir,
         words,
         ..
     } = plan;
     drop(spill_dir);
     drop(words);
-    let run = match begin_run(rt, alloc, &query, &limits, actions, stores) {
+    let run = match begin_run(rt, alloc, &query, &limits, actions, rules, stores) {
         Ok(run) => run,
         Err(stores) => return (Err(ToolFault::Memory), stores),
     };

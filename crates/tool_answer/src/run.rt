@@ -38,30 +38,32 @@ use tool_words::Question;
 pub const CHUNKS_OF_WORKER: usize = 4;
 
 /// A run before its first chunk, over stores as they were made.
-#[tactic(auto, using(crate::proofs::RunFacts::keeps_suits))]
+#[tactic(auto, using(crate::proofs::RunFacts::keeps_suits, crate::proofs::RunFacts::rules_fit))]
 pub fn begin_run<'a, S: SpillStore + Drop + Send, H: Wait>(
     rt: &H,
     alloc: Global,
     query: &'a Query,
     limits: &Limits,
     actions: Vec<Vec<SpillAction>>,
+    rules: Vec<SpillAction>,
     stores: Vec<S>,
 ) -> Result<GroupByRun<'a, S>, Vec<S>>
     requires fits { limits_fit limits.now (vec_len actions)
         (map (λ s. S.held s) stores.items) ≡ true }
+    requires each { vec_len rules ≡ limits.now.workers }
     requires faultless { first_fault query.now ≡ None }
     requires suited { does_keep limits.now.sink (key_types (query_tree query.now)) ≡ true }
     ensures setting { IfOk result (λ r. r.setting ≡ record {
       query = query.now;
       limits = limits.now;
       actions = map (λ v. v.items) actions.items;
-      rules = [];
+      rules = rules.items;
       stores = stores_seen S.held S.told S.faults S.sure stores.items;
     }) }
     ensures chunks { IfOk result (λ r. r.chunks ≡ []) }
     ensures back { IfErr result (λ v. v.items ≡ stores.items) }
 {
-    match GroupByRun::begin(rt, alloc, query, limits, actions, stores) {
+    match GroupByRun::begin_by_rules(rt, alloc, query, limits, actions, rules, stores) {
         Ok(run) => Ok(run),
         Err((PipeError::Memory, stores)) => Err(stores),
         Err((_, _)) => unreachable!(),
@@ -113,6 +115,7 @@ pub fn run_question<
         limits,
         chunk,
         actions,
+        rules,
         rows,
         words,
         spill_dir,
@@ -127,7 +130,7 @@ pub fn run_question<
         wanted,
         query,
     } = narrowed;
-    let run = match begin_run(rt, alloc, &query, &limits, actions, stores) {
+    let run = match begin_run(rt, alloc, &query, &limits, actions, rules, stores) {
         Ok(run) => run,
         Err(stores) => return (Err(ToolFault::Memory), stores),
     };

@@ -1,5 +1,6 @@
 -- A query as a text and as a tree.
 use Rattle.std.specs.Prelude.{ℕ, List, [], ◌∷◌, codes, false, None, Some}
+use Rattle.pipe_plan.specs.declared.event.SpillAction.TheVariants as action
 use Rattle.pipe_plan.specs.declared.limits.SinkKind.TheVariants as sink_kind
 use Rattle.pipe_words.specs.declared.plan.Format.TheVariants as format
 use Rattle.pipe_words.specs.Plans.{PlanSeen}
@@ -40,6 +41,7 @@ plain_plan words = record {
   };
   chunk = 50000;
   actions = [] ∷ [];
+  rules = action.None ∷ [];
   spill_dir = None;
   rows = None;
   format = format.Csv;

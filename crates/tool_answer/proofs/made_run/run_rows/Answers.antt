@@ -15,6 +15,9 @@ begin_run-requires-clause-fits g c = λ lives bounds.
     let store = g.S.SpillStore in
     plan-fits store.held store.told store.faults store.sure (plan_seen c.args.question.plan) _ c.args.stores.items c.requires.runs (omega (arith, length-map c.args.question.plan.actions.items (λ l. l.items), c.args.question.plan.actions.ok.0)) c.requires.made c.requires.count
 
+pub begin_run-requires-clause-each : goal.begin_run-requires-clause-each
+begin_run-requires-clause-each g c = λ lives bounds. omega (arith, c.requires.runs.rules, c.args.question.plan.rules.ok.0)
+
 pub run_made-ended-requires-clause-fits : goal.run_made-ended-requires-clause-fits
 run_made-ended-requires-clause-fits g c = λ lives bounds.
     sym (ap (λ (t : QueryTree). t.schema) c.requires.query) ∙ ap (λ (x : Setting). x.query.schema) (sym c.in-Ok.ensures.setting)

@@ -17,6 +17,9 @@ begin_run-requires-clause-fits g c = λ lives bounds.
     let store = g.S.SpillStore in
     plan-fits store.held store.told store.faults store.sure (plan_seen c.args.question.plan) _ c.args.stores.items c.requires.runs (omega (arith, length-map c.args.question.plan.actions.items (λ l. l.items), c.args.question.plan.actions.ok.0)) c.requires.made c.requires.count
 
+pub begin_run-requires-clause-each : goal.begin_run-requires-clause-each
+begin_run-requires-clause-each g c = λ lives bounds. omega (arith, c.requires.runs.rules, c.args.question.plan.rules.ok.0)
+
 pub begin_run-requires-clause-suited : goal.begin_run-requires-clause-suited
 begin_run-requires-clause-suited g c = λ lives bounds.
     let n = c.in-Ok.narrowed in
