@@ -1,5 +1,5 @@
 -- What is seen of stores, and of a run of the tool that has ended.
-use Rattle.std.specs.Prelude.{◌≡◌, ◌<◌, ℕ, Bool, true, IsTrue, List, [], map, length, Option, Some, None, slice_index_or}
+use Rattle.std.specs.Prelude.{◌≡◌, ◌<◌, ℕ, true, IsTrue, List, [], length, Option, Some, None, slice_index_or}
 use Rattle.pipe_global.specs.Partition.{no_store}
 use Rattle.pipe_plan.specs.declared.event.PartitionEvent.{PartitionEvent}
 use Rattle.pipe_plan.specs.Run.{StoreSeen, tells}

@@ -1,4 +1,4 @@
-use Rattle.std.proofs.Common.{◌≡◌, ◌∙◌, arith, List, ℕ, refl, rules, subst, sym, true}
+use Rattle.std.proofs.Common.{◌≡◌, ◌∙◌, arith, refl, rules, subst, sym, true}
 use Rattle.std.proofs.lemmas.List.{length-map}
 use Rattle.pipe_aggs.specs.QueryTrees.{query_tree}
 use Rattle.narrow_query.specs.Names.{covers}
