@@ -55,6 +55,8 @@ impl FileFrames {
         ensures refused { OnErr result (self.new.ends ≡ self.old.ends) }
         ensures cause { HasCause (faults_of self.old) (faults_of self.new)
             (IsErrOf result store_error.Failed) }
+        ensures calm { (IsErrOf result store_error.Failed → ⊥)
+            → faults_of self.new ≡ faults_of self.old }
     {
         if self.ends.reserve(1).is_err() {
             return Err(StoreError::Memory);
@@ -88,6 +90,8 @@ impl FileFrames {
         ensures ends { self.new.ends ≡ self.old.ends }
         ensures cause { HasCause (faults_of self.old) (faults_of self.new)
             (IsErrOf result store_error.Failed) }
+        ensures calm { (IsErrOf result store_error.Failed → ⊥)
+            → faults_of self.new ≡ faults_of self.old }
     {
         let start = start_of(&self.ends, number as usize);
         let size = self.ends[number as usize].saturating_sub(start);
@@ -102,6 +106,7 @@ impl FileFrames {
         ensures ends { self.new.ends ≡ self.old.ends }
         ensures cause { HasCause (faults_of self.old) (faults_of self.new)
             (result ≡ store_error.Failed) }
+        ensures calm { (result ≡ store_error.Failed → ⊥) → faults_of self.new ≡ faults_of self.old }
     {
         if kind == ErrorKind::OutOfMemory {
             return StoreError::Memory;

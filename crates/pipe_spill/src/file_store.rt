@@ -49,7 +49,7 @@ impl<R: Files + Drop> FileStore<R> {
 }
 
 impl<R: Files + Drop> SpillStore for FileStore<R> {
-    ghost use Rattle.std.specs.Prelude.{None, false};
+    ghost use Rattle.std.specs.Prelude.{None, Some, false};
     ghost use Rattle.pipe_spill.specs.FileStore.{faults_of, held_of, sure_never_failed};
 
     ghost told = { λ s. None };
@@ -59,6 +59,8 @@ impl<R: Files + Drop> SpillStore for FileStore<R> {
     ghost faults = { λ s. faults_of s.frames };
 
     ghost sure = { λ s. false };
+
+    ghost path = { λ s. Some s.path };
 
     ghost tells_all = { λ s. tt };
 
@@ -77,6 +79,8 @@ impl<R: Files + Drop> SpillStore for FileStore<R> {
         ensures refused_held { OnErr result (held_of self.new.frames ≡ held_of self.old.frames) }
         ensures cause { HasCause (faults_of self.old.frames) (faults_of self.new.frames)
             (IsErrOf result store_error.Failed) }
+        ensures calm { (IsErrOf result store_error.Failed → ⊥)
+            → faults_of self.new.frames ≡ faults_of self.old.frames }
         ensures ends { OnOk result (self.new.frames.ends ≡ with_end self.old.frames.ends (length frame.now)) }
         ensures refused_ends { OnErr result (self.new.frames.ends ≡ self.old.frames.ends) }
         ensures path { self.new.path ≡ self.old.path }
@@ -94,6 +98,8 @@ impl<R: Files + Drop> SpillStore for FileStore<R> {
         ensures held { held_of self.new.frames ≡ held_of self.old.frames }
         ensures cause { HasCause (faults_of self.old.frames) (faults_of self.new.frames)
             (IsErrOf result store_error.Failed) }
+        ensures calm { (IsErrOf result store_error.Failed → ⊥)
+            → faults_of self.new.frames ≡ faults_of self.old.frames }
         ensures size { OnOk result (length into.new.items ≡ size_of self.old.frames.ends number) }
         ensures ends { self.new.frames.ends ≡ self.old.frames.ends }
         ensures path { self.new.path ≡ self.old.path }

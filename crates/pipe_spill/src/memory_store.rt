@@ -52,7 +52,7 @@ impl MemoryStore {
 }
 
 impl SpillStore for MemoryStore {
-    ghost use Rattle.std.specs.Prelude.{refl};
+    ghost use Rattle.std.specs.Prelude.{refl, None};
     ghost use Rattle.pipe_spill.specs.MemoryStore.{sure_never_failed};
 
     ghost told = { told_of };
@@ -62,6 +62,8 @@ impl SpillStore for MemoryStore {
     ghost faults = { faults_of };
 
     ghost sure = { is_sure };
+
+    ghost path = { λ s. None };
 
     ghost tells_all = { λ s. refl };
 
@@ -83,6 +85,8 @@ impl SpillStore for MemoryStore {
         ensures sure { is_sure self.new ≡ is_sure self.old }
         ensures cause { HasCause (faults_of self.old) (faults_of self.new)
             (IsErrOf result store_error.Failed) }
+        ensures calm { (IsErrOf result store_error.Failed → ⊥)
+            → faults_of self.new ≡ faults_of self.old }
         ensures fails_exactly { IsErrOf result store_error.Failed
             ↔ IsTrue (is_listed self.old.calls) }
         ensures calls { self.new.calls ≡ after_call self.old.calls }
@@ -106,6 +110,8 @@ impl SpillStore for MemoryStore {
         ensures sure { is_sure self.new ≡ is_sure self.old }
         ensures cause { HasCause (faults_of self.old) (faults_of self.new)
             (IsErrOf result store_error.Failed) }
+        ensures calm { (IsErrOf result store_error.Failed → ⊥)
+            → faults_of self.new ≡ faults_of self.old }
         ensures fails_exactly { IsErrOf result store_error.Failed
             ↔ IsTrue (is_listed self.old.calls) }
         ensures calls { self.new.calls ≡ after_call self.old.calls }

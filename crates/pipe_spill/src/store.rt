@@ -28,6 +28,9 @@ pub trait SpillStore {
     /// Whether the store never fails.
     ghost sure: { Self → Bool };
 
+    /// The path of its file, where it has one.
+    ghost path: { Self → Option (List ℕ) };
+
     /// As many frames are told as are held.
     ghost tells_all: { (s : Self) → HasHeld (told s) (held s) };
 
@@ -47,8 +50,10 @@ pub trait SpillStore {
         ensures refused { OnErr result (told self.new ≡ told self.old) }
         ensures refused_held { OnErr result (held self.new ≡ held self.old) }
         ensures sure { sure self.new ≡ sure self.old }
+        ensures path { path self.new ≡ path self.old }
         ensures cause { HasCause (faults self.old) (faults self.new)
-            (IsErrOf result store_error.Failed) };
+            (IsErrOf result store_error.Failed) }
+        ensures calm { (IsErrOf result store_error.Failed → ⊥) → faults self.new ≡ faults self.old };
 
     /// Leaves the frame of a number in `into`, and nothing else.
     fn get(&mut self, number: u64, into: &mut Vec<u8>) -> Result<(), StoreError>
@@ -58,6 +63,8 @@ pub trait SpillStore {
         ensures told { told self.new ≡ told self.old }
         ensures held { held self.new ≡ held self.old }
         ensures sure { sure self.new ≡ sure self.old }
+        ensures path { path self.new ≡ path self.old }
         ensures cause { HasCause (faults self.old) (faults self.new)
-            (IsErrOf result store_error.Failed) };
+            (IsErrOf result store_error.Failed) }
+        ensures calm { (IsErrOf result store_error.Failed → ⊥) → faults self.new ≡ faults self.old };
 }

@@ -11,9 +11,6 @@ use std::alloc::AllocError;
 pub trait StoreMaker {
     type Store: SpillStore + Drop + Send;
 
-    /// The path of a store's file, if it has one.
-    ghost path: { Self.Store → Option (List ℕ) };
-
     /// The path of each store that was made, in order.
     ghost made: { Self → List (Option (List ℕ)) };
 
@@ -24,7 +21,7 @@ pub trait StoreMaker {
         ensures tells { dir.entry ≡ None → IfOk result (λ s. Self.Store.told s ≡ Some []) }
         ensures sure { dir.entry ≡ None → IfOk result (λ s. IsTrue (Self.Store.sure s)) }
         ensures path { IfOk result
-            (λ s. path s ≡ store_path (option_map (λ d. d.now) dir.entry) partition) }
-        ensures made { IfOk result (λ s. made self.new ≡ made self.old ++ path s ∷ []) }
+            (λ s. Self.Store.path s ≡ store_path (option_map (λ d. d.now) dir.entry) partition) }
+        ensures made { IfOk result (λ s. made self.new ≡ made self.old ++ Self.Store.path s ∷ []) }
         ensures unmade { OnErr result (made self.new ≡ made self.old) };
 }

@@ -19,7 +19,7 @@ pub enum ProgramStore<R> {
 }
 
 impl<R: Files + Drop> SpillStore for ProgramStore<R> {
-    ghost use Rattle.tool_stores.specs.ProgramStore.{program_faults, has_held, program_held, is_program_sure, sure_never_failed, program_told};
+    ghost use Rattle.tool_stores.specs.ProgramStore.{program_faults, has_held, program_held, is_program_sure, path_of, sure_never_failed, program_told};
 
     ghost told = { program_told };
 
@@ -28,6 +28,8 @@ impl<R: Files + Drop> SpillStore for ProgramStore<R> {
     ghost faults = { program_faults };
 
     ghost sure = { is_program_sure };
+
+    ghost path = { path_of };
 
     ghost tells_all = { has_held };
 
@@ -52,6 +54,8 @@ impl<R: Files + Drop> SpillStore for ProgramStore<R> {
         ensures sure { is_program_sure self.new ≡ is_program_sure self.old }
         ensures cause { HasCause (program_faults self.old) (program_faults self.new)
             (IsErrOf result store_error.Failed) }
+        ensures calm { (IsErrOf result store_error.Failed → ⊥)
+            → program_faults self.new ≡ program_faults self.old }
         ensures path { path_of self.new ≡ path_of self.old }
     {
         match self {
@@ -69,6 +73,8 @@ impl<R: Files + Drop> SpillStore for ProgramStore<R> {
         ensures sure { is_program_sure self.new ≡ is_program_sure self.old }
         ensures cause { HasCause (program_faults self.old) (program_faults self.new)
             (IsErrOf result store_error.Failed) }
+        ensures calm { (IsErrOf result store_error.Failed → ⊥)
+            → program_faults self.new ≡ program_faults self.old }
         ensures path { path_of self.new ≡ path_of self.old }
     {
         match self {

@@ -61,8 +61,6 @@ fn marked<'a, R>(
 impl<'a, R: Files + Sync> StoreMaker for ProgramStores<'a, R> {
     type Store = ProgramStore<&'a R>;
 
-    ghost path = { path_of };
-
     ghost made = { λ m. m };
 
     fn make(

@@ -9,7 +9,7 @@ loop-partition-init g c =
     record {
       made = made-none store.held store.told store.faults store.sure (option_map (λ f. f.now) c.args.folder) c.new-stores.result.items c.new-stores.ensures.items;
       count = search rules;
-      paths = ap (map g.M.StoreMaker.path) c.new-stores.ensures.items;
+      paths = ap (map g.M.Store.SpillStore.path) c.new-stores.ensures.items;
       stores_made = paths-none (option_map (λ f. f.now) c.args.folder) (g.M.StoreMaker.made c.args.maker.now);
     }
 
@@ -26,9 +26,9 @@ loop-partition-preserved g c =
             sure = λ none. c.in_ok-make.ensures.sure (none-mapped (λ f. f.now) c.args.folder none);
           });
       count = search rules;
-      paths = paths-more (option_map (λ f. f.now) c.args.folder) c.loop-partition.partition [] (map g.M.StoreMaker.path c.loop-partition.stores.items) (map g.M.StoreMaker.path c.push.new.self.items)
-          (g.M.StoreMaker.path c.in_ok-make.field-0) c.loop-partition.invariant.paths c.in_ok-make.ensures.path
-          (path-more g.M.StoreMaker.path c.loop-partition.stores.items c.push.new.self.items c.in_ok-make.field-0 c.in_ok-push.ensures.items);
+      paths = paths-more (option_map (λ f. f.now) c.args.folder) c.loop-partition.partition [] (map g.M.Store.SpillStore.path c.loop-partition.stores.items) (map g.M.Store.SpillStore.path c.push.new.self.items)
+          (g.M.Store.SpillStore.path c.in_ok-make.field-0) c.loop-partition.invariant.paths c.in_ok-make.ensures.path
+          (path-more g.M.Store.SpillStore.path c.loop-partition.stores.items c.push.new.self.items c.in_ok-make.field-0 c.in_ok-push.ensures.items);
       stores_made = paths-more (option_map (λ f. f.now) c.args.folder) c.loop-partition.partition (g.M.StoreMaker.made c.args.maker.now) (g.M.StoreMaker.made c.loop-partition.maker)
-          (g.M.StoreMaker.made c.make.new.self) (g.M.StoreMaker.path c.in_ok-make.field-0) c.loop-partition.invariant.stores_made c.in_ok-make.ensures.path c.in_ok-make.ensures.made;
+          (g.M.StoreMaker.made c.make.new.self) (g.M.Store.SpillStore.path c.in_ok-make.field-0) c.loop-partition.invariant.stores_made c.in_ok-make.ensures.path c.in_ok-make.ensures.made;
     }
