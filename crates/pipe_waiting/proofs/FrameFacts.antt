@@ -1,5 +1,5 @@
 -- A frame of rows of one partition is tested row by row.
-use Rattle.std.proofs.Common.{◌≡◌, ◌≢◌, ◌∙◌, ◌++◌, ◌+◌, ◌%◌, ◌==◌, ◌&&◌, ◌^◌, ◌<◌, ℕ, Bool, List, [], ◌∷◌, true, false, refl, sym, ap, subst, length, length-append, drop, append_assoc, arith}
+use Rattle.std.proofs.Common.{◌≡◌, ◌≢◌, ◌∙◌, ◌++◌, ◌+◌, ◌%◌, ◌==◌, ◌^◌, ◌<◌, ℕ, Bool, List, [], ◌∷◌, true, false, refl, sym, ap, subst, length, drop, append_assoc, arith}
 use Rattle.std.specs.Prelude.{All, IsTrue, ◌↔◌}
 use Rattle.std.specs.List.{list_all}
 use Rattle.std.specs.Int.{bytes_high_first}
@@ -15,14 +15,14 @@ use Rattle.pipe_spill.specs.KeyTypes.{IsTuple}
 use Rattle.pipe_spill.specs.Reading.{BeginsNoTuple}
 use Rattle.pipe_spill.specs.SpillRow.{AreRows, IsKey, IsRow}
 use Rattle.pipe_spill.specs.declared.spill_row.SpillRow.{SpillRow}
-use Rattle.pipe_spill.proofs.FrameOnce.{AreReadTo, bytes_left, frame_whole, one_read, read_back}
+use Rattle.pipe_spill.proofs.FrameOnce.{AreReadTo, bytes_left, frame_whole, one_read}
 use Rattle.pipe_spill.proofs.RowOnce.{eight_once, row_once}
 use Rattle.pipe_spill.proofs.ValuesRead.{no_code, no_code-left, no_key, whole_code}
 use Rattle.pipe_waiting.specs.OwnRows.{AreTestedTo, BeginsNoOwnRow, BeginsOwnRow, IsOwn}
 use Rattle.pipe_waiting.specs.ReadRows.{read_rows}
 use Rattle.pipe_waiting.specs.Waiting.{HoldRows}
 use Rattle.pipe_waiting.proofs.Giving.{headed, row_headed, same_parts}
-use Rattle.pipe_waiting.proofs.ReadBack.{AreOfRows, all_can_wait, known}
+use Rattle.pipe_waiting.proofs.ReadBack.{all_can_wait, known}
 
 module _ (key_types types : List DataType) (partitions number : ℕ) where
   -- such rows are typed

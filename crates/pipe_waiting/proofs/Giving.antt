@@ -1,5 +1,5 @@
 -- Rows are given one by one, out of bytes that are those of rows.
-use Rattle.std.proofs.Common.{◌≡◌, ◌≢◌, ◌∙◌, ◌<◌, ◌+◌, ◌^◌, ◌++◌, ℕ, zero, suc, List, [], ◌∷◌, length, length-append, arith, take, drop, ap, sym, subst, refl, append_assoc}
+use Rattle.std.proofs.Common.{◌≡◌, ◌≢◌, ◌∙◌, ◌<◌, ◌+◌, ◌^◌, ◌++◌, ℕ, zero, suc, List, ◌∷◌, length, length-append, arith, take, drop, ap, sym, subst, refl, append_assoc}
 use Rattle.std.specs.Prelude.{All}
 use Rattle.std.specs.Int.{bytes_high_first}
 use Rattle.std.proofs.lemmas.List.{drop_at, take_at}

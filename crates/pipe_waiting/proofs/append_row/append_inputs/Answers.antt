@@ -1,7 +1,6 @@
 -- As many values as types, and one more is appended.
-use Rattle.std.proofs.Common.{◌≡◌, ◌<◌, ◌++◌, arith, rules, length}
+use Rattle.std.proofs.Common.{◌<◌, arith, rules, length}
 use Rattle.pipe_columns.specs.declared.data_type.DataType.TheVariants as dt
-use Rattle.pipe_columns.specs.Key.{value_code}
 use Rattle.pipe_spill.proofs.Tuples.{as_long}
 use Rattle.pipe_waiting.proofs.Appending.{none_yet, one_more, place_fits, tuple_whole}
 use Rattle.pipe_waiting.proofs.append_row.append_inputs.Goals as goal

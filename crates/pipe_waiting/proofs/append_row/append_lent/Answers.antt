@@ -1,5 +1,5 @@
 -- As many inputs as types, and one more is appended.
-use Rattle.std.proofs.Common.{◌≡◌, ◌<◌, ◌++◌, arith, rules, length}
+use Rattle.std.proofs.Common.{arith, rules}
 use Rattle.pipe_columns.specs.declared.data_type.DataType.TheVariants as dt
 use Rattle.pipe_inputs.specs.ChunkRows.{row_at}
 use Rattle.pipe_waiting.proofs.Appending.{at_place, none_yet, one_more, place_fits, tuple_whole}

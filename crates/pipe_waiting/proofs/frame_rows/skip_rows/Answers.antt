@@ -1,5 +1,5 @@
 -- One more row is tested, or none begins where one should.
-use Rattle.std.proofs.Common.{rules, arith, ◌≡◌, List, ℕ, subst, IsErrOf}
+use Rattle.std.proofs.Common.{rules, arith, ◌≡◌, subst, IsErrOf}
 use Rattle.pipe_spill.specs.declared.frame_read.FrameError.TheVariants as fault
 use Rattle.pipe_waiting.specs.OwnRows.{AreTestedTo}
 use Rattle.pipe_waiting.proofs.FrameFacts.{no_next, none_tested, one_tested}

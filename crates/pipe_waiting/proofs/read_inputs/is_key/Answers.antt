@@ -1,5 +1,5 @@
 -- A key is a tuple's code behind which nothing is left.
-use Rattle.std.proofs.Common.{rules, refl}
+use Rattle.std.proofs.Common.{rules}
 use Rattle.pipe_spill.specs.Reading.{BeginsNoTuple}
 use Rattle.pipe_waiting.proofs.FrameFacts.{key_tested, no_key_there}
 use Rattle.pipe_waiting.proofs.read_inputs.is_key.Goals as goal

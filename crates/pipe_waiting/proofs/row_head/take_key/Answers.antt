@@ -1,6 +1,6 @@
 -- Too few bytes, or fewer than the key's length says, begin with no row.
-use Rattle.std.proofs.Common.{rules, ◌≡◌, ◌∙◌, ◌++◌, ◌<◌, ◌^◌, List, ℕ, length, refl, take, drop}
-use Rattle.pipe_waiting.proofs.Giving.{too_few, too_long}
+use Rattle.std.proofs.Common.{rules, ◌<◌, ◌^◌, List, ℕ, length}
+use Rattle.pipe_waiting.proofs.Giving.{too_long}
 use Rattle.pipe_waiting.proofs.row_head.take_key.Goals as goal
 
 pub returns-then-size-rest-clause-none : goal.returns-then-size-rest-clause-none

@@ -1,5 +1,5 @@
 -- The next row is what was read, and rows that are left begin with one.
-use Rattle.std.proofs.Common.{rules, ◌≡◌, ◌≢◌, ◌∙◌, ◌+◌, ◌-◌, ◌<◌, ◌^◌, length, refl}
+use Rattle.std.proofs.Common.{rules, ◌≡◌, ◌∙◌, ◌+◌, ◌-◌, ◌<◌, ◌^◌, length, refl}
 use Rattle.pipe_spill.specs.Reading.{BeginsNoTuple}
 use Rattle.pipe_waiting.proofs.Giving.{has_inputs, is_headed, next_is}
 use Rattle.pipe_waiting.proofs.lent_rows.LentRows.next.Goals as goal

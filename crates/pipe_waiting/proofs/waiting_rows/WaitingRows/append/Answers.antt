@@ -1,5 +1,5 @@
 -- Other rows stand behind the rows.
-use Rattle.std.proofs.Common.{rules, ◌≡◌, ◌+◌, ◌++◌}
+use Rattle.std.proofs.Common.{rules}
 use Rattle.pipe_waiting.proofs.ReadBack.{joined}
 use Rattle.pipe_waiting.proofs.waiting_rows.WaitingRows.append.Goals as goal
 

@@ -1,5 +1,5 @@
 -- The number of the rows stands before their bytes.
-use Rattle.std.proofs.Common.{rules, ◌≡◌, ◌++◌, ◌∙◌, List, ℕ}
+use Rattle.std.proofs.Common.{rules, ◌≡◌, ◌++◌, ◌∙◌}
 use Rattle.std.specs.Int.{bytes_high_first}
 use Rattle.pipe_waiting.proofs.ReadBack.{frame_is}
 use Rattle.pipe_waiting.proofs.waiting_rows.WaitingRows.frame.Goals as goal

@@ -1,5 +1,5 @@
 -- No bytes are those of no rows.
-use Rattle.std.proofs.Common.{rules, ◌≡◌, ℕ, List, [], subst, sym}
+use Rattle.std.proofs.Common.{rules, ◌≡◌, [], subst, sym}
 use Rattle.pipe_waiting.specs.Waiting.{HoldRows}
 use Rattle.pipe_waiting.proofs.ReadBack.{none_hold}
 use Rattle.pipe_waiting.proofs.waiting_rows.WaitingRows.new.Goals as goal
