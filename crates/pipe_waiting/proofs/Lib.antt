@@ -1,0 +1,4 @@
+pub mod ReadBack
+pub mod Appending
+pub mod Giving
+pub mod FrameFacts

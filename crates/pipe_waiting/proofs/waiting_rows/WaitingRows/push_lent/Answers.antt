@@ -1,0 +1,10 @@
+-- One more row waits.
+use Rattle.std.proofs.Common.{rules}
+use Rattle.pipe_waiting.specs.Waiting.{lent_row}
+use Rattle.pipe_waiting.proofs.ReadBack.{pushed_if}
+use Rattle.pipe_waiting.proofs.waiting_rows.WaitingRows.push_lent.Goals as goal
+
+pub returns-else-is_err-clause-pushed : goal.returns-else-is_err-clause-pushed
+returns-else-is_err-clause-pushed c =
+    pushed_if c.append_lent_row-appended.result c.args.types.now (lent_row c.args.key.now c.args.place c.args.rows.now c.args.row) c.args.self.now _
+    c.append_lent_row-appended.ensures.can (search rules) (search rules)

@@ -1,0 +1,4 @@
+pub mod ReadRows
+pub mod Waiting
+pub mod OwnRows
+pub mod Worked
