@@ -16,6 +16,9 @@ pub(crate) struct InFolder<S> {
 }
 
 impl<S: SpillStore> SpillStore for InFolder<S> {
+    ghost use Rattle.std.specs.Prelude.{Some, codes};
+    ghost use Rattle.pipe_spill.specs.FileStore.{path_in};
+
     ghost told = { λ s. S.told s.store };
 
     ghost held = { λ s. S.held s.store };
@@ -23,6 +26,8 @@ impl<S: SpillStore> SpillStore for InFolder<S> {
     ghost faults = { λ s. S.faults s.store };
 
     ghost sure = { λ s. S.sure s.store };
+
+    ghost path = { λ s. Some (path_in (codes "x") s.partition) };
 
     ghost tells_all = { λ s. S.tells_all s.store };
 
@@ -91,8 +96,6 @@ impl<S: MadeStore> StoreMaker for FolderStores<S> {
     ghost use Rattle.pipe_spill.specs.FileStore.{path_in};
 
     type Store = InFolder<S>;
-
-    ghost path = { λ s. Some (path_in (codes "x") s.partition) };
 
     ghost made = { λ m. map (λ p. Some (path_in (codes "x") p)) m.made.items };
 

@@ -37,8 +37,6 @@ impl StoreMaker for MemoryStores {
 
     type Store = MemoryStore;
 
-    ghost path = { λ _. None };
-
     ghost made = { λ m. map (λ _. None) m.made.items };
 
     fn make(&mut self, dir: Option<&Text>, _partition: usize) -> Result<MemoryStore, AllocError> {

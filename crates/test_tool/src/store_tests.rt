@@ -38,6 +38,8 @@ impl SpillStore for Loose {
 
     ghost sure = { λ _. false };
 
+    ghost path = { λ _. None };
+
     ghost tells_all = { λ _. tt };
 
     ghost never_failed = { λ _ _. refl };

@@ -102,7 +102,9 @@ fn run_chunks<H: Threads + Wait + Sync>(
     let lists = vec![in alloc; Vec::new(alloc)]?;
     let stores = stores_of(alloc, 1)?;
     let rules = Vec::new(alloc);
-    Ok(run_generic(rt, alloc, chunks, query, &limits, lists, rules, stores, &OpenGate))
+    Ok(run_generic(
+        rt, alloc, chunks, query, &limits, lists, rules, stores, &OpenGate,
+    ))
 }
 
 /// Two chunks that fit, and two that don't.

@@ -166,7 +166,9 @@ pub(crate) fn run_rows<S: SpillStore + Drop + Send, H: Threads + Wait + Sync>(
     }
     let chunks = chunks_of(alloc, heights, rows)?;
     let rules = Vec::new(alloc);
-    Ok(run_generic(rt, alloc, chunks, query, &limits, lists, rules, stores, &OpenGate))
+    Ok(run_generic(
+        rt, alloc, chunks, query, &limits, lists, rules, stores, &OpenGate,
+    ))
 }
 
 /// Whether a column has exactly these numbers.
