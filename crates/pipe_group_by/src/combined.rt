@@ -43,7 +43,14 @@ fn combined<'a>(
             unreachable!()
         };
         let mut next = next.resume(query);
-        all.combine(&mut next)?;
+        match all.combine(&mut next) {
+            Ok(()) => drop(next),
+            Err(AllocError) => {
+                drop(next);
+                drop(all);
+                return Err(AllocError);
+            }
+        }
     }
     Ok(all)
 }
@@ -63,6 +70,7 @@ pub(crate) fn groups_of(
         (λ f. f ≡ answer (map (λ c. c.value) chunks.now) (query_tree query.now) partitions) }
 {
     let mut all = combined(query, partitions, chunks, sinks)?;
-    let frame = all.finish()?;
-    Ok(frame)
+    let frame = all.finish();
+    drop(all);
+    frame
 }

@@ -1,15 +1,26 @@
 -- Buffers that are read and written.
-use Rattle.std.proofs.Common.{◌≡◌, ◌<◌, ◌≤◌, ◌∙◌, ℕ, true, List, [], ◌∷◌, ◌++◌, Option, Some, None, length, get_or, set, ap, sym, subst, arith}
+use Rattle.std.proofs.Common.{◌≡◌, ◌<◌, ◌≤◌, ◌+◌, ◌∙◌, ℕ, true, List, [], ◌∷◌, ◌++◌, Option, Some, None, length, get_or, set, ap, sym, subst, arith}
 use Rattle.std.specs.Prelude.{Vec, if◌then◌else◌}
 use Rattle.std.specs.declared.alloc.Global.{Global}
 use Rattle.std.proofs.lemmas.Bool.Decides.{nat_tests}
-use Rattle.std.proofs.lemmas.List.{get_or-map, map-set, set-get_or, length-append, length-set, set-set, get_or-set_same}
-use Rattle.std.proofs.lemmas.List.Elements.{All-set, All-get_or}
+use Rattle.std.proofs.lemmas.List.{get_or-map, map-append, map-set, replicate_more, set-get_or, length-append, length-replicate, length-set, set-set, get_or-set_same}
+use Rattle.std.proofs.lemmas.List.Elements.{All-replicate, All-set, All-get_or}
 use Rattle.std.proofs.Math.Nat.{mod-lt}
 use Rattle.pipe_columns.specs.Key.{fold_bytes}
 use Rattle.pipe_spill.specs.declared.spill_row.SpillRow.{SpillRow}
 use Rattle.pipe_tables.specs.BufferLayout.{rows_of}
-use Rattle.pipe_tables.specs.Buffers.{AreBuffers, buffer_of, buffered, Buffers, fills, leaving, rows_with, waiting_in, with_rows}
+use Rattle.pipe_tables.specs.Buffers.{AreBuffers, buffer_of, buffered, Buffers, fills, leaving, no_rows, rows_with, waiting_in, with_rows}
+
+-- one more in which nothing waits
+pub no_rows-more : (vs : List (Vec SpillRow Global)) (n : ℕ) (v : Vec SpillRow Global) → v.items ≡ [] → rows_of vs ≡ no_rows n → rows_of (vs ++ v ∷ []) ≡ no_rows (n + 1)
+no_rows-more vs n v none so_far = map-append (λ b. b.items) vs (v ∷ []) ∙ (λ i. so_far i ++ none i ∷ []) ∙ replicate_more n []
+
+-- buffers in which nothing waits
+pub none-waiting : (n size : ℕ) → 0 < n → 0 < size → AreBuffers (record { size = size; rows = no_rows n })
+none-waiting n size some room = record {
+  some = omega (arith, length-replicate {A = List SpillRow} n [], some);
+  short = All-replicate (λ rows. length rows < size) n [] room;
+}
 
 -- a vector that is written
 pub rows_of-set : (vs : List (Vec SpillRow Global)) (p : ℕ) (v : Vec SpillRow Global) → rows_of (set vs p v) ≡ set (rows_of vs) p v.items

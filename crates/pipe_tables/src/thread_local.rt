@@ -69,8 +69,8 @@ impl ThreadLocalTable {
         ensures bound { IfOk result (λ t. IsToLimit t.table) }
         ensures buffers { IfOk result (λ t. AreBuffers t.buffers) }
     {
-        let table = AggHashTable::new(alloc, query, Some(spill_size))?;
         let buffers = SpillPartitions::new(alloc, partitions, buffer_size)?;
+        let table = AggHashTable::new(alloc, query, Some(spill_size))?;
         Ok(ThreadLocalTable {
             table,
             buffers,
@@ -90,8 +90,8 @@ impl ThreadLocalTable {
         ensures bound { IfOk result (λ t. IsToLimit t.table) }
         ensures buffers { IfOk result (λ t. AreBuffers t.buffers) }
     {
-        let table = self.table.split()?;
         let buffers = self.buffers.split()?;
+        let table = self.table.split()?;
         Ok(ThreadLocalTable {
             table,
             buffers,

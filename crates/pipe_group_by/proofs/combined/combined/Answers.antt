@@ -37,7 +37,7 @@ loop-worker-preserved c =
     let rest : List Run = into_iter_items c.next-in-loop-worker.new.self in (
       next-left c.args.query.now c.args.partitions _ chunks c.args.sinks.items c.requires.taken c.loop-worker._worker left rest c.in-Some-next.next c.loop-worker.invariant.0 c.in-Some-next.ensures.items,
       next-combined c.args.query.now c.args.partitions _ chunks c.args.sinks.items c.requires.taken c.loop-worker._worker left rest c.in-Some-next.next c.loop-worker.invariant.0 c.in-Some-next.ensures.items
-          c.loop-worker.all c.loop-worker.invariant.1 c.resume-next.result c.resume-next.ensures c.combine.new.self c.in_ok-combine.ensures.ok,
+          c.loop-worker.all c.loop-worker.invariant.1 c.resume-next.result c.resume-next.ensures c.combine.new.self c.in-Ok.ensures.ok,
     )
 
 pub returns : goal.returns
