@@ -34,47 +34,73 @@ fn schema_of(alloc: Global, dtype: DataType) -> Result<Schema, Fail> {
     Ok(Schema::new(fields))
 }
 
-/// Aggregates of numbers, or of texts too.
-fn aggregates_of(alloc: Global, texts: bool) -> Result<Vec<IRAggExpr>, Fail> {
-    let (v, t) = (Node(1), Node(2));
-    if texts {
-        return Ok(vec![in alloc;
-            IRAggExpr::First(t),
-            IRAggExpr::Last(t),
-            IRAggExpr::Min {
-                input: v,
-                propagate_nans: false
-            },
-        ]?);
+/// Adds the columns k, v and t, which are nodes 0, 1 and 2.
+fn add_columns(alloc: Global, arena: &mut Arena) -> Result<(), Fail> {
+    for name in ["k", "v", "t"] {
+        add(arena, AExpr::Column(Text::new(alloc, name)?))?;
     }
-    Ok(vec![in alloc;
-        IRAggExpr::Sum(v),
-        IRAggExpr::First(v),
-        IRAggExpr::Mean(v),
-        IRAggExpr::Count(t, false),
-    ]?)
+    Ok(())
+}
+
+/// Adds an aggregate by a name to those of a query.
+fn add_named(alloc: Global, query: &mut Query, agg: IRAggExpr, name: &str) -> Result<(), Fail> {
+    let node = add(&mut query.arena, AExpr::Agg(agg))?;
+    let alias = add(
+        &mut query.arena,
+        AExpr::Alias(node, Text::new(alloc, name)?),
+    )?;
+    Ok(query.aggs.push(alias)?)
+}
+
+/// Adds aggregates of texts too.
+fn add_of_texts(alloc: Global, query: &mut Query) -> Result<(), Fail> {
+    let (v, t) = (Node(1), Node(2));
+    let min = IRAggExpr::Min {
+        input: v,
+        propagate_nans: false,
+    };
+    add_named(alloc, query, IRAggExpr::First(t), WORDS[1])?;
+    add_named(alloc, query, IRAggExpr::Last(t), WORDS[2])?;
+    add_named(alloc, query, min, WORDS[3])
+}
+
+/// Adds aggregates of numbers.
+fn add_of_numbers(alloc: Global, query: &mut Query) -> Result<(), Fail> {
+    let (v, t) = (Node(1), Node(2));
+    add_named(alloc, query, IRAggExpr::Sum(v), WORDS[1])?;
+    add_named(alloc, query, IRAggExpr::First(v), WORDS[2])?;
+    add_named(alloc, query, IRAggExpr::Mean(v), WORDS[3])?;
+    add_named(alloc, query, IRAggExpr::Count(t, false), WORDS[4])
+}
+
+/// Puts columns, a key of a type and aggregates into a query without them.
+fn fill(alloc: Global, query: &mut Query, dtype: DataType, texts: bool) -> Result<(), Fail> {
+    query.schema = schema_of(alloc, dtype)?;
+    query.keys.push(Node(0))?;
+    add_columns(alloc, &mut query.arena)?;
+    if texts {
+        return add_of_texts(alloc, query);
+    }
+    add_of_numbers(alloc, query)
 }
 
 /// The query of a case, whose key is of a type.
 pub(crate) fn query_of(alloc: Global, dtype: DataType, case: &Case) -> Result<Query, Fail> {
-    let mut arena = Arena::new(alloc);
-    let key = add(&mut arena, AExpr::Column(Text::new(alloc, "k")?))?;
-    add(&mut arena, AExpr::Column(Text::new(alloc, "v")?))?;
-    add(&mut arena, AExpr::Column(Text::new(alloc, "t")?))?;
-    let mut aggs = Vec::new(alloc);
-    for (at, aggregate) in aggregates_of(alloc, case.texts)?.into_iter().enumerate() {
-        let name = Text::new(alloc, WORDS[(at + 1) % WORDS.len()])?;
-        let node = add(&mut arena, AExpr::Agg(aggregate))?;
-        aggs.push(add(&mut arena, AExpr::Alias(node, name))?)?;
-    }
-    Ok(Query {
-        schema: schema_of(alloc, dtype)?,
-        arena,
-        keys: vec![in alloc; key]?,
-        aggs,
+    let mut query = Query {
+        schema: Schema::new(Vec::new(alloc)),
+        arena: Arena::new(alloc),
+        keys: Vec::new(alloc),
+        aggs: Vec::new(alloc),
         slice: case.slice,
         maintain_order: case.keeps_order,
-    })
+    };
+    match fill(alloc, &mut query, dtype, case.texts) {
+        Ok(()) => Ok(query),
+        Err(fail) => {
+            drop(query);
+            Err(fail)
+        }
+    }
 }
 
 /// The least number of a type.
@@ -134,37 +160,56 @@ fn value_of(alloc: Global, text: bool, row: usize) -> Result<AnyValue, Fail> {
     Ok(AnyValue::Int(row as i128))
 }
 
-fn column_of(
+/// The value of a row in the column k, v or t.
+fn cell_of(alloc: Global, name: &str, dtype: DataType, row: usize) -> Result<AnyValue, Fail> {
+    match name {
+        "k" => key_of(alloc, dtype, row),
+        name => value_of(alloc, name == "t", row),
+    }
+}
+
+/// The values of so many rows from one on in a column.
+fn values_of(
     alloc: Global,
     name: &str,
     dtype: DataType,
-    values: Vec<AnyValue>,
-) -> Result<Column, Fail> {
+    first: usize,
+    height: usize,
+) -> Result<Vec<AnyValue>, Fail> {
+    let mut values = Vec::new(alloc);
+    for row in 0..height {
+        values.push(cell_of(alloc, name, dtype, first.wrapping_add(row))?)?;
+    }
+    Ok(values)
+}
+
+/// Puts a column of so many rows from one on behind others.
+fn put_column(
+    alloc: Global,
+    columns: &mut Vec<Column>,
+    name: &str,
+    dtype: DataType,
+    first: usize,
+    height: usize,
+) -> Result<(), Fail> {
+    let values = values_of(alloc, name, dtype, first, height)?;
     match Column::new(Text::new(alloc, name)?, dtype, false, values) {
-        Some(column) => Ok(column),
+        Some(column) => Ok(columns.push(column)?),
         None => Err("no column".into()),
     }
 }
 
-/// The keys of so many rows from one on.
-fn keys_of(alloc: Global, dtype: DataType, first: usize, height: usize) -> Result<Column, Fail> {
-    let mut values = Vec::new(alloc);
-    for row in 0..height {
-        values.push(key_of(alloc, dtype, first.wrapping_add(row))?)?;
-    }
-    column_of(alloc, "k", dtype, values)
-}
-
-/// The values of so many rows from one on, of numbers or of texts.
-fn values_of(alloc: Global, text: bool, first: usize, height: usize) -> Result<Column, Fail> {
-    let mut values = Vec::new(alloc);
-    for row in 0..height {
-        values.push(value_of(alloc, text, first.wrapping_add(row))?)?;
-    }
-    if text {
-        return column_of(alloc, "t", DataType::String, values);
-    }
-    column_of(alloc, "v", DataType::Int64, values)
+/// Puts the columns k, v and t.
+fn put_columns(
+    alloc: Global,
+    columns: &mut Vec<Column>,
+    dtype: DataType,
+    first: usize,
+    height: usize,
+) -> Result<(), Fail> {
+    put_column(alloc, columns, "k", dtype, first, height)?;
+    put_column(alloc, columns, "v", DataType::Int64, first, height)?;
+    put_column(alloc, columns, "t", DataType::String, first, height)
 }
 
 /// How many rows the chunks before one have.
@@ -184,11 +229,9 @@ pub(crate) fn chunk_at(
     chunk_index: u32,
 ) -> Result<DataChunk, Fail> {
     let height = HEIGHTS[position % HEIGHTS.len()];
-    let first = rows_before(position);
-    let k = keys_of(alloc, dtype, first, height)?;
-    let v = values_of(alloc, false, first, height)?;
-    let t = values_of(alloc, true, first, height)?;
-    match DataFrame::new(height, vec![in alloc; k, v, t]?) {
+    let mut columns = Vec::new(alloc);
+    put_columns(alloc, &mut columns, dtype, rows_before(position), height)?;
+    match DataFrame::new(height, columns) {
         Some(frame) => Ok(DataChunk { chunk_index, frame }),
         None => Err("no frame".into()),
     }

@@ -6,8 +6,8 @@ ghost use Rattle.pipe_sinks.specs.Runs.{purpose_of};
 use crate::asked::{HEIGHTS, chunk_at, query_of};
 use crate::cases::{COUNT, Case, Way, case_of};
 use crate::turn_sink::TurnSink;
-use pipe_aggs::CheckedQuery;
-use pipe_columns::{Column, DataFrame, DataType};
+use pipe_aggs::{CheckedQuery, Query};
+use pipe_columns::{Column, DataChunk, DataFrame, DataType};
 use pipe_sinks::SoleKey;
 use std::alloc::{AllocError, Global};
 use std::process::Abort;
@@ -33,6 +33,15 @@ fn are_same(left: &DataFrame, right: &DataFrame) -> bool {
     true
 }
 
+/// All chunks, which have the index 0.
+fn chunks_of(alloc: Global, dtype: DataType) -> Result<Vec<DataChunk>, Fail> {
+    let mut chunks = Vec::new(alloc);
+    for position in 0..HEIGHTS.len() {
+        chunks.push(chunk_at(alloc, dtype, position, 0)?)?;
+    }
+    Ok(chunks)
+}
+
 /// What the plain program answers.
 fn plain_of(
     alloc: Global,
@@ -40,10 +49,7 @@ fn plain_of(
     dtype: DataType,
     partitions: usize,
 ) -> Result<DataFrame, Fail> {
-    let mut chunks = Vec::new(alloc);
-    for position in 0..HEIGHTS.len() {
-        chunks.push(chunk_at(alloc, dtype, position, 0)?)?;
-    }
+    let chunks = chunks_of(alloc, dtype)?;
     if partitions == 0 || !are_chunks(&chunks, query) {
         return Err("chunks that don't fit".into());
     }
@@ -111,38 +117,86 @@ fn finish<S: SoleKey>(sink: &mut TurnSink<'_, S>) -> Result<DataFrame, AllocErro
     }
 }
 
+/// Feeds a sink the chunks of one turn, and combines the sink of all with it.
+fn take_turn<'a, S: SoleKey>(
+    alloc: Global,
+    all: &mut TurnSink<'a, S>,
+    next: &mut TurnSink<'a, S>,
+    case: &Case,
+    turn: u32,
+) -> Result<bool, Fail>
+    requires { purpose_of next.old ≡ purpose_of all.old }
+    ensures { purpose_of all.new ≡ purpose_of all.old }
+{
+    feed(alloc, next, case, turn)?;
+    Ok(merge(all, next)?)
+}
+
+/// Lets a sink of its own take the chunks of one turn, and combines the sink of all with it.
+fn take_split<S: SoleKey>(
+    alloc: Global,
+    all: &mut TurnSink<'_, S>,
+    case: &Case,
+    turn: u32,
+) -> Result<bool, Fail> {
+    let mut next = all.split(turn)?;
+    let taken = take_turn(alloc, all, &mut next, case, turn);
+    drop(next);
+    taken
+}
+
+/// What the sinks of a case give, combined with the first.
+fn given_by<S: SoleKey>(
+    alloc: Global,
+    all: &mut TurnSink<'_, S>,
+    case: &Case,
+) -> Result<DataFrame, Fail> {
+    feed(alloc, all, case, 0)?;
+    for turn in 1..case.sinks {
+        if !take_split(alloc, all, case, turn)? {
+            return Err("sinks that don't follow one another".into());
+        }
+    }
+    Ok(finish(all)?)
+}
+
 /// What the sinks of a case give, combined.
 fn given_of<S: SoleKey>(
     alloc: Global,
     query: &CheckedQuery<'_>,
     case: &Case,
 ) -> Result<DataFrame, Fail> {
-    let mut all: TurnSink<'_, S> = TurnSink::new(
-        alloc,
-        query,
-        case.partitions,
-        case.sinks as usize,
-    )?;
-    feed(alloc, &mut all, case, 0)?;
-    for turn in 1..case.sinks {
-        let mut next = all.split(turn)?;
-        feed(alloc, &mut next, case, turn)?;
-        if !merge(&mut all, &mut next)? {
-            return Err("sinks that don't follow one another".into());
-        }
+    let sinks = case.sinks as usize;
+    let mut all: TurnSink<'_, S> = TurnSink::new(alloc, query, case.partitions, sinks)?;
+    let given = given_by(alloc, &mut all, case);
+    drop(all);
+    given
+}
+
+/// Whether the sinks of a case give what the plain program answers to a query.
+fn agrees_on<S: SoleKey>(
+    alloc: Global,
+    query: &CheckedQuery<'_>,
+    case: &Case,
+) -> Result<bool, Fail> {
+    let plain = plain_of(alloc, query, S::key_type(), case.partitions)?;
+    let given = given_of::<S>(alloc, query, case)?;
+    Ok(are_same(&given, &plain))
+}
+
+fn agrees_on_query<S: SoleKey>(alloc: Global, query: &Query, case: &Case) -> Result<bool, Fail> {
+    match query.check(alloc) {
+        Ok(checked) => agrees_on::<S>(alloc, &checked, case),
+        Err(_) => Err("Query::check wants memory".into()),
     }
-    Ok(finish(&mut all)?)
 }
 
 /// Whether the sinks of a case give what the plain program answers.
 pub(crate) fn agrees<S: SoleKey>(alloc: Global, case: &Case) -> Result<bool, Fail> {
     let query = query_of(alloc, S::key_type(), case)?;
-    let Ok(checked) = query.check(alloc) else {
-        return Err("Query::check wants memory".into());
-    };
-    let plain = plain_of(alloc, &checked, S::key_type(), case.partitions)?;
-    let given = given_of::<S>(alloc, &checked, case)?;
-    Ok(are_same(&given, &plain))
+    let agrees = agrees_on_query::<S>(alloc, &query, case);
+    drop(query);
+    agrees
 }
 
 /// Asserts that the sinks give what the plain program answers, in every seventh case from one on.

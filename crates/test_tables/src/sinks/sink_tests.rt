@@ -1,94 +1,33 @@
 //! Sinks for one key by example.
 
-use pipe_aggs::{AExpr, Arena, CheckedQuery, IRAggExpr, Node, Query};
-use pipe_columns::{
-    AnyValue, Column, DataChunk, DataFrame, DataType, Field, FinalizedSink, Schema, Sink, Text,
-};
+ghost use Rattle.pipe_sinks.specs.Runs.{Takes};
+
+use crate::asked::{chunk_of, chunk_of_numbers, has_numbers, hold, numbers, query_of, texts};
+use pipe_aggs::{AExpr, CheckedQuery, IRAggExpr, Node, Query};
+use pipe_columns::{DataChunk, DataFrame, DataType, FinalizedSink, Sink};
 use pipe_sinks::{KeySink, NumberKey, SoleKey, TextKey, has_sole_key};
-use std::alloc::Global;
+use std::alloc::{AllocError, Global};
 use std::test::Fail;
 
-fn add(arena: &mut Arena, expr: AExpr) -> Result<(), Fail> {
-    match arena.add(expr) {
-        Ok(_) => Ok(()),
-        Err(_) => Err("no node".into()),
-    }
-}
-
-fn field_of(alloc: Global, name: &str, dtype: DataType) -> Result<Field, Fail> {
-    let name = Text::new(alloc, name)?;
-    Ok(Field { name, dtype })
-}
-
 /// The count and the mean of v by k.
-fn query_of(alloc: Global, dtype: DataType, maintain_order: bool) -> Result<Query, Fail> {
-    let mut arena = Arena::new(alloc);
-    add(&mut arena, AExpr::Column(Text::new(alloc, "k")?))?;
-    add(&mut arena, AExpr::Column(Text::new(alloc, "v")?))?;
-    add(&mut arena, AExpr::Agg(IRAggExpr::Count(Node(1), false)))?;
-    add(&mut arena, AExpr::Agg(IRAggExpr::Mean(Node(1))))?;
-    add(&mut arena, AExpr::Alias(Node(2), Text::new(alloc, "c")?))?;
-    add(&mut arena, AExpr::Alias(Node(3), Text::new(alloc, "m")?))?;
-    let k = field_of(alloc, "k", dtype)?;
-    let v = field_of(alloc, "v", DataType::Int64)?;
-    Ok(Query {
-        schema: Schema::new(vec![in alloc; k, v]?),
-        arena,
-        keys: vec![in alloc; Node(0)]?,
-        aggs: vec![in alloc; Node(4), Node(5)]?,
-        slice: None,
-        maintain_order,
-    })
+fn counts_and_means(alloc: Global, dtype: DataType) -> Result<Query, Fail> {
+    let aggs = vec![in alloc;
+        AExpr::Agg(IRAggExpr::Count(Node(1), false)),
+        AExpr::Agg(IRAggExpr::Mean(Node(1))),
+    ]?;
+    query_of(alloc, [dtype, DataType::Int64], 1, aggs)
 }
 
-/// Numbers as values: -1 stands for a null.
-fn numbers(alloc: Global, numbers: &[i128]) -> Result<Vec<AnyValue>, Fail> {
-    let mut values = Vec::new(alloc);
-    for number in numbers {
-        values.push(match *number {
-            -1 => AnyValue::Null,
-            number => AnyValue::Int(number),
-        })?;
-    }
-    Ok(values)
-}
-
-fn texts(alloc: Global, texts: &[&str]) -> Result<Vec<AnyValue>, Fail> {
-    let mut values = Vec::new(alloc);
-    for text in texts {
-        values.push(AnyValue::Text(Text::new(alloc, text)?))?;
-    }
-    Ok(values)
-}
-
-/// A column of keys, and a chunk of it and of a column v.
-fn column_of(
-    alloc: Global,
-    name: &str,
-    dtype: DataType,
-    values: Vec<AnyValue>,
-) -> Result<Column, Fail> {
-    match Column::new(Text::new(alloc, name)?, dtype, true, values) {
-        Some(column) => Ok(column),
-        None => Err("no column".into()),
-    }
-}
-
-fn chunk_of(
-    alloc: Global,
-    dtype: DataType,
-    keys: Vec<AnyValue>,
-    values: &[i128],
-) -> Result<DataChunk, Fail> {
-    let k = column_of(alloc, "k", dtype, keys)?;
-    let v = column_of(alloc, "v", DataType::Int64, numbers(alloc, values)?)?;
-    match DataFrame::new(values.len(), vec![in alloc; k, v]?) {
-        Some(frame) => Ok(DataChunk {
-            chunk_index: 0,
-            frame,
-        }),
-        None => Err("no frame".into()),
-    }
+/// What a sink gives of a chunk.
+fn given_by<S: SoleKey>(
+    sink: &mut KeySink<'_, S>,
+    chunk: DataChunk,
+) -> Result<DataFrame, AllocError>
+    requires { Takes sink.old chunk }
+{
+    sink.sink(chunk)?;
+    let FinalizedSink::Finished(frame) = sink.finalize()?;
+    Ok(frame)
 }
 
 /// What a sink of two partitions gives of a chunk.
@@ -104,68 +43,94 @@ fn given<S: SoleKey>(
         return Err("another chunk".into());
     }
     let mut sink: KeySink<'_, S> = KeySink::new(alloc, query, 2)?;
-    sink.sink(chunk)?;
-    let FinalizedSink::Finished(frame) = sink.finalize()?;
-    Ok(frame)
+    let frame = given_by(&mut sink, chunk);
+    drop(sink);
+    Ok(frame?)
 }
 
-/// Whether a column of a frame has these values.
-fn has_values(frame: &DataFrame, column: usize, values: &[AnyValue]) -> bool {
-    match frame.columns().get(column) {
-        Some(column) => column.values() == values,
-        None => false,
+/// Whether the first columns of a frame have these numbers: -1 stands for a null.
+fn begins_with(frame: &DataFrame, due: [&[i128]; 3]) -> bool {
+    has_numbers(frame, 0, due[0]) && has_numbers(frame, 1, due[1]) && has_numbers(frame, 2, due[2])
+}
+
+/// Whether the number sink gives keys, counts, and sums of means.
+fn is_given(
+    alloc: Global,
+    query: &CheckedQuery<'_>,
+    chunk: DataChunk,
+    due: [&[i128]; 3],
+) -> Result<bool, Fail> {
+    let frame = given::<NumberKey<i64>>(alloc, query, chunk)?;
+    Ok(begins_with(&frame, due))
+}
+
+/// Whether the number sink gives these columns of keys and values.
+fn gives_numbers(
+    alloc: Global,
+    query: &Query,
+    rows: (&[i128], &[i128]),
+    due: [&[i128]; 3],
+) -> Result<bool, Fail> {
+    let chunk = chunk_of_numbers(alloc, [DataType::Int64; 2], true, rows.0, rows.1)?;
+    match query.check(alloc) {
+        Ok(checked) => is_given(alloc, &checked, chunk, due),
+        Err(_) => Err("no query".into()),
     }
 }
 
-/// What the number sink gives of keys and values: keys, counts, and sums of means.
-fn gives_numbers(
+/// Whether it does so under a query that keeps order or not.
+fn gives_in_order(
     alloc: Global,
     maintain_order: bool,
     rows: (&[i128], &[i128]),
     due: [&[i128]; 3],
 ) -> Result<bool, Fail> {
-    let query = query_of(alloc, DataType::Int64, maintain_order)?;
-    let Ok(checked) = query.check(alloc) else {
-        return Err("no query".into());
-    };
-    let chunk = chunk_of(alloc, DataType::Int64, numbers(alloc, rows.0)?, rows.1)?;
-    let frame = given::<NumberKey<i64>>(alloc, &checked, chunk)?;
-    for (column, due) in due.into_iter().enumerate() {
-        if !has_values(&frame, column, &numbers(alloc, due)?) {
-            return Ok(false);
-        }
-    }
-    Ok(true)
+    let mut query = counts_and_means(alloc, DataType::Int64)?;
+    query.maintain_order = maintain_order;
+    let gives = gives_numbers(alloc, &query, rows, due);
+    drop(query);
+    gives
 }
 
 #[test]
 fn runs_of_keys_with_nulls(rt: HostRuntime) -> Result<(), Fail> {
-    let alloc = rt.alloc();
     let rows: (&[i128], &[i128]) = (&[2, 2, 2, -1, -1, 1], &[-1, 5, -1, 1, -1, 4]);
     let due: [&[i128]; 3] = [&[-1, 1, 2], &[1, 1, 1], &[1, 4, 5]];
-    assert!(rt; gives_numbers(alloc, false, rows, due)?);
-    Ok(())
+    hold(gives_in_order(rt.alloc(), false, rows, due))
 }
 
 #[test]
 fn order_of_first_rows(rt: HostRuntime) -> Result<(), Fail> {
-    let alloc = rt.alloc();
     let rows: (&[i128], &[i128]) = (&[4, 1, 2, 1], &[1, 2, 3, 4]);
     let due: [&[i128]; 3] = [&[4, 1, 2], &[1, 2, 1], &[1, 6, 3]];
-    assert!(rt; gives_numbers(alloc, true, rows, due)?);
-    Ok(())
+    hold(gives_in_order(rt.alloc(), true, rows, due))
+}
+
+/// A chunk of four texts.
+fn chunk_of_texts(alloc: Global) -> Result<DataChunk, Fail> {
+    let k = texts(alloc, &["b", "a", "a\0", "a"])?;
+    let v = numbers(alloc, &[1, 2, 3, 4])?;
+    chunk_of(alloc, [DataType::String, DataType::Int64], true, k, v)
+}
+
+/// Whether the sums of the means of that chunk come by partition.
+fn come_by_partition(alloc: Global, query: &CheckedQuery<'_>) -> Result<bool, Fail> {
+    let chunk = chunk_of_texts(alloc)?;
+    let frame = given::<TextKey>(alloc, query, chunk)?;
+    Ok(has_numbers(&frame, 2, &[6, 3, 1]))
+}
+
+fn come_of_query(alloc: Global, query: &Query) -> Result<bool, Fail> {
+    match query.check(alloc) {
+        Ok(checked) => come_by_partition(alloc, &checked),
+        Err(_) => Err("no query".into()),
+    }
 }
 
 #[test]
 fn texts_by_partition(rt: HostRuntime) -> Result<(), Fail> {
-    let alloc = rt.alloc();
-    let query = query_of(alloc, DataType::String, false)?;
-    let Ok(checked) = query.check(alloc) else {
-        return Err("no query".into());
-    };
-    let keys = texts(alloc, &["b", "a", "a\0", "a"])?;
-    let chunk = chunk_of(alloc, DataType::String, keys, &[1, 2, 3, 4])?;
-    let frame = given::<TextKey>(alloc, &checked, chunk)?;
-    assert!(rt; has_values(&frame, 2, &numbers(alloc, &[6, 3, 1])?));
-    Ok(())
+    let query = counts_and_means(rt.alloc(), DataType::String)?;
+    let come = come_of_query(rt.alloc(), &query);
+    drop(query);
+    hold(come)
 }

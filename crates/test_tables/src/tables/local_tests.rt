@@ -1,6 +1,6 @@
 //! A local table that holds one key.
 
-ghost use Rattle.std.specs.Prelude.{◌≡◌, ◌<◌, ◌^◌, All, IfOk, OnErr, OnOk, length, true};
+ghost use Rattle.std.specs.Prelude.{◌≡◌, ◌<◌, ◌≤◌, ◌^◌, All, IfOk, OnErr, OnOk, length, true};
 ghost use Rattle.pipe_aggs.specs.CheckedQuery.{input_types};
 ghost use Rattle.pipe_aggs.specs.QueryTrees.{query_tree};
 ghost use Rattle.pipe_columns.specs.Key.{code};
@@ -13,68 +13,20 @@ ghost use Rattle.pipe_tables.specs.Buffers.{is_taken_lent, with_none};
 ghost use Rattle.pipe_tables.specs.LocalTable.{NoneWaits, with_buffers, local_with_row};
 ghost use Rattle.pipe_keyed.specs.Tables.{TakesOne};
 
-use crate::tables::table_tests::{assert_numbers, given};
-use pipe_aggs::{AExpr, Arena, CheckedQuery, IRAggExpr, Node, Query};
-use pipe_columns::{AnyValue, Column, DataChunk, DataFrame, DataType, Field, Schema, Text};
+use crate::asked::{NUMBERS, are_columns, chunk_of_numbers, counting, hold};
+use crate::tables::table_tests::given;
+use pipe_aggs::{CheckedQuery, Query};
+use pipe_columns::DataChunk;
 use pipe_groups::encode_row;
 use pipe_inputs::ChunkRows;
 use pipe_plan::{Limits, SinkKind};
 use pipe_spill::SpillPayload;
 use pipe_tables::{AggHashTable, LentLocalEnd, ThreadLocalTable};
 use std::alloc::{AllocError, Global};
-use std::process::Abort;
 use std::test::Fail;
 
-fn add(arena: &mut Arena, expr: AExpr) -> Result<(), Fail> {
-    match arena.add(expr) {
-        Ok(_) => Ok(()),
-        Err(_) => Err("Arena::add wants memory".into()),
-    }
-}
-
-/// The column k.
-fn schema_of(alloc: Global) -> Result<Schema, AllocError> {
-    let name = Text::new(alloc, "k")?;
-    let dtype = DataType::Int64;
-    Ok(Schema::new(vec![in alloc; Field { name, dtype }]?))
-}
-
-/// The column k, and how many rows there are.
-fn arena_of(alloc: Global) -> Result<Arena, Fail> {
-    let mut arena = Arena::new(alloc);
-    add(&mut arena, AExpr::Column(Text::new(alloc, "k")?))?;
-    add(&mut arena, AExpr::Len)?;
-    Ok(arena)
-}
-
-/// How many rows there are by k.
-pub(crate) fn query_of(alloc: Global) -> Result<Query, Fail> {
-    Ok(Query {
-        schema: schema_of(alloc)?,
-        arena: arena_of(alloc)?,
-        keys: vec![in alloc; Node(0)]?,
-        aggs: vec![in alloc; Node(1)]?,
-        slice: None,
-        maintain_order: false,
-    })
-}
-
 /// Rows of the keys 1, 2, 1.
-pub(crate) fn chunk_of(alloc: Global) -> Result<DataChunk, Fail> {
-    let values = vec![in alloc; AnyValue::Int(1), AnyValue::Int(2), AnyValue::Int(1)]?;
-    let name = Text::new(alloc, "k")?;
-    let column = match Column::new(name, DataType::Int64, false, values) {
-        Some(column) => column,
-        None => return Err("no column".into()),
-    };
-    match DataFrame::new(3, vec![in alloc; column]?) {
-        Some(frame) => Ok(DataChunk {
-            chunk_index: 0,
-            frame,
-        }),
-        None => Err("no frame".into()),
-    }
-}
+const KEYS: [i128; 3] = [1, 2, 1];
 
 /// One partition, and one key that is held.
 fn limits_of(buffer_size: usize) -> Limits
@@ -135,9 +87,51 @@ fn take(
     encode_row(key, rows, row, query.key_types())?;
     match insert(table, key, rows, row) {
         LentLocalEnd::Done => Ok(left.push(0)?),
-        LentLocalEnd::Payload(_, payload) => Ok(left.push(payload.rows.len())?),
+        LentLocalEnd::Payload(_, payload) => {
+            let count = payload.rows.len();
+            drop(payload);
+            Ok(left.push(count)?)
+        }
         LentLocalEnd::Memory => Err("out of memory".into()),
     }
+}
+
+/// A local table that takes rows. How many rows left at each goes into a list.
+fn fed_rows(
+    alloc: Global,
+    query: &CheckedQuery<'_>,
+    limits: &Limits,
+    rows: &ChunkRows<'_>,
+    left: &mut Vec<usize>,
+) -> Result<ThreadLocalTable, Fail>
+    requires limits { AreLimits limits.now }
+    requires generic { is_generic limits.now.sink ≡ true }
+    requires typed { All (HasValues (key_types (query_tree query.now))
+        (input_types (query_tree query.now))) rows.now }
+    requires few { length rows.now ≤ 1000 }
+    ensures buffers { IfOk result (λ t. length t.buffers.rows ≡ limits.now.partitions) }
+    ensures room { IfOk result (λ t. TakesOne t.table) }
+{
+    // Called for what its clauses say.
+    let _query = query.query();
+    let mut table = ThreadLocalTable::new(
+        alloc,
+        query,
+        limits.partitions,
+        limits.spill_size,
+        limits.buffer_size,
+    )?;
+    let mut key = Vec::new(alloc);
+    for row in 0..rows.len() {
+        match take(&mut table, &mut key, query, rows, row, left) {
+            Ok(()) => {}
+            Err(fail) => {
+                drop(table);
+                return Err(fail);
+            }
+        }
+    }
+    Ok(table)
 }
 
 /// A local table that takes the rows of a chunk. How many rows left at each goes into a list.
@@ -158,18 +152,9 @@ fn fed(
         return Err("another chunk".into());
     }
     let rows = ChunkRows::new(alloc, query, 0, chunk)?;
-    let mut table = ThreadLocalTable::new(
-        alloc,
-        query,
-        limits.partitions,
-        limits.spill_size,
-        limits.buffer_size,
-    )?;
-    let mut key = Vec::new(alloc);
-    for row in 0..height {
-        take(&mut table, &mut key, query, &rows, row, left)?;
-    }
-    Ok(table)
+    let table = fed_rows(alloc, query, limits, &rows, left);
+    drop(rows);
+    table
 }
 
 /// What waits in a local table, asked for again where memory was wanting.
@@ -191,7 +176,9 @@ fn take_none(table: &mut ThreadLocalTable) -> Result<(), AllocError>
     ensures { table.new.buffers ≡ table.old.buffers }
 {
     let mut other = table.split()?;
-    table.combine(&mut other)
+    let combined = table.combine(&mut other);
+    drop(other);
+    combined
 }
 
 /// Whether the row of 2, row 1 of the chunk, alone waited in a local table of one partition.
@@ -232,68 +219,77 @@ fn all_leave(
     left: &mut Vec<usize>,
 ) -> Result<bool, Fail> {
     let mut table = fed(alloc, query, &limits_of(1), chunk, left)?;
-    gives_none(&mut table)
+    let gives = gives_none(&mut table);
+    drop(table);
+    gives
 }
 
-fn assert_left(
-    rt: &impl Abort,
+/// Whether it does so, and the row of 2 left alone.
+fn leaves_at_once(
     alloc: Global,
     query: &CheckedQuery<'_>,
     chunk: &DataChunk,
-) -> Result<(), Fail> {
+) -> Result<bool, Fail> {
     let mut left = Vec::new(alloc);
-    assert!(rt; all_leave(alloc, query, chunk, &mut left)?);
-    assert!(rt; left.as_slice() == [0, 1, 0].as_slice());
-    Ok(())
+    let leave = all_leave(alloc, query, chunk, &mut left)?;
+    Ok(leave && left.as_slice() == [0, 1, 0].as_slice())
 }
 
-/// What waits is the row of 2, and none waits then.
-fn assert_emptied(rt: &impl Abort, table: &mut ThreadLocalTable) -> Result<(), Fail>
-    requires buffers { 0 < length table.old.buffers.rows }
-    requires room { TakesOne table.old.table }
-{
-    assert!(rt; table.waiting(0) == 1);
-    assert!(rt; emptied(table)?);
-    assert!(rt; table.waiting(0) == 0);
-    Ok(())
-}
-
-/// A table holds the two rows of 1.
-fn assert_ones(rt: &impl Abort, table: &mut AggHashTable) -> Result<(), Fail> {
-    let frame = given(table, &mut None)?;
-    assert_numbers(rt, &frame, &[&[1], &[2]]);
-    Ok(())
-}
-
-/// The row of 2 waits in a local table, and those of 1 are held.
-fn assert_held(rt: &impl Abort, mut table: ThreadLocalTable) -> Result<(), Fail>
-    requires buffers { 0 < length table.buffers.rows }
-    requires room { TakesOne table.table }
-{
-    assert_emptied(rt, &mut table)?;
-    assert_ones(rt, &mut table.into_inner_map())
-}
-
-/// The row of 2 waits, and those of 1 are held.
-pub(crate) fn assert_waiting(
-    rt: &impl Abort,
-    alloc: Global,
-    query: &CheckedQuery<'_>,
-    chunk: &DataChunk,
-) -> Result<(), Fail> {
-    let mut left = Vec::new(alloc);
-    let table = fed(alloc, query, &limits_of(2), chunk, &mut left)?;
-    assert!(rt; left.as_slice() == [0, 0, 0].as_slice());
-    assert_held(rt, table)
+fn leaves_of_query(alloc: Global, query: &Query) -> Result<bool, Fail> {
+    let chunk = chunk_of_numbers(alloc, NUMBERS, false, &KEYS, &KEYS)?;
+    match query.check(alloc) {
+        Ok(checked) => leaves_at_once(alloc, &checked, &chunk),
+        Err(_) => Err("Query::check wants memory".into()),
+    }
 }
 
 #[test]
 fn full_buffers_leave(rt: HostRuntime) -> Result<(), Fail> {
-    let alloc = rt.alloc();
-    let query = query_of(alloc)?;
-    let chunk = chunk_of(alloc)?;
+    let query = counting(rt.alloc(), NUMBERS, 1)?;
+    let leaves = leaves_of_query(rt.alloc(), &query);
+    drop(query);
+    hold(leaves)
+}
+
+/// Whether what waits is the row of 2, and none waits then.
+fn is_emptied(table: &mut ThreadLocalTable) -> Result<bool, AllocError>
+    requires buffers { 0 < length table.old.buffers.rows }
+    requires room { TakesOne table.old.table }
+{
+    Ok(table.waiting(0) == 1 && emptied(table)? && table.waiting(0) == 0)
+}
+
+/// Whether a table holds the two rows of 1.
+fn has_ones(table: &mut AggHashTable) -> Result<bool, AllocError> {
+    let frame = given(table, &mut None)?;
+    Ok(are_columns(&frame, &[&[1], &[2]]))
+}
+
+/// Whether the row of 2 waits in a local table, and those of 1 are held.
+fn holds_ones(mut table: ThreadLocalTable) -> Result<bool, AllocError>
+    requires buffers { 0 < length table.buffers.rows }
+    requires room { TakesOne table.table }
+{
+    let emptied = is_emptied(&mut table);
+    let mut held = table.into_inner_map();
+    let ones = has_ones(&mut held);
+    drop(held);
+    Ok(emptied? && ones?)
+}
+
+/// Whether no row leaves a local table of the rows of a chunk, the row of 2 waits, and those of 1 are held.
+fn waits(alloc: Global, query: &CheckedQuery<'_>, chunk: &DataChunk) -> Result<bool, Fail> {
+    let mut left = Vec::new(alloc);
+    let table = fed(alloc, query, &limits_of(2), chunk, &mut left)?;
+    let stay = left.as_slice() == [0, 0, 0].as_slice();
+    drop(left);
+    Ok(holds_ones(table)? && stay)
+}
+
+pub(crate) fn waits_of_query(alloc: Global, query: &Query) -> Result<bool, Fail> {
+    let chunk = chunk_of_numbers(alloc, NUMBERS, false, &KEYS, &KEYS)?;
     match query.check(alloc) {
-        Ok(checked) => assert_left(&rt, alloc, &checked, &chunk),
+        Ok(checked) => waits(alloc, &checked, &chunk),
         Err(_) => Err("Query::check wants memory".into()),
     }
 }

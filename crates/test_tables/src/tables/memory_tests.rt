@@ -4,18 +4,19 @@
 ghost use Rattle.std.specs.Prelude.{◌≡◌};
 ghost use Rattle.pipe_keyed.specs.Tables.{HoldFewTogether};
 
-use crate::tables::local_tests::{assert_waiting, chunk_of as rows_of_keys, query_of as counts};
+use crate::asked::{
+    NUMBERS, chunk_of, counting, has_numbers, has_texts, hold, numbers, query_of, texts,
+};
+use crate::tables::local_tests::waits_of_query;
 use crate::tables::placed_tests::ordered;
 use crate::tables::step_tests::{join, tables_of};
-use crate::tables::table_tests::{assert_columns, frame_of, given, has_numbers};
-use crate::tables::test_rows::{chunk_of, numbers, query_of, texts};
+use crate::tables::table_tests::{frame_of, given};
 use crate::tables::two_tables::TwoTables;
 use pipe_aggs::{AExpr, IRAggExpr, Node, Query};
 use pipe_columns::{AnyValue, DataChunk, DataFrame, DataType, Place};
 use pipe_spill::{SpillRow, Values, encode_key};
 use pipe_tables::{AggHashTable, LentEnd, LocalEnd, SpillPartitions};
 use std::alloc::{AllocError, Global};
-use std::process::Abort;
 use std::test::Fail;
 
 const TEXTS: [DataType; 2] = [DataType::Int64, DataType::String];
@@ -23,7 +24,13 @@ const TEXTS: [DataType; 2] = [DataType::Int64, DataType::String];
 /// Rows of the keys 1, 1, 2, 1, each with a text.
 fn rows_with_texts(alloc: Global) -> Result<DataChunk, Fail> {
     let keys = numbers(alloc, &[1, 1, 2, 1])?;
-    chunk_of(alloc, TEXTS, keys, texts(alloc, &["p", "q", "r", "s"])?)
+    chunk_of(
+        alloc,
+        TEXTS,
+        false,
+        keys,
+        texts(alloc, &["p", "q", "r", "s"])?,
+    )
 }
 
 /// The first and the last text by place, and how many rows there are.
@@ -37,8 +44,7 @@ fn firsts_and_lasts(alloc: Global) -> Result<Query, Fail> {
 }
 
 /// The answer to that query over rows that are lent in another order.
-fn texts_and_counts(alloc: Global) -> Result<DataFrame, Fail> {
-    let query = firsts_and_lasts(alloc)?;
+fn texts_and_counts(alloc: Global, query: &Query) -> Result<DataFrame, Fail> {
     let chunk = rows_with_texts(alloc)?;
     match query.check(alloc) {
         Ok(checked) => frame_of(alloc, &checked, &chunk, &[1, 3, 2, 0], &mut None),
@@ -46,18 +52,24 @@ fn texts_and_counts(alloc: Global) -> Result<DataFrame, Fail> {
     }
 }
 
+/// Whether a frame has the keys, their first and last texts and their counts.
+fn has_firsts_and_lasts(frame: &DataFrame) -> bool {
+    frame.columns().len() == 4
+        && has_numbers(frame, 0, &[1, 2])
+        && has_texts(frame, 1, &["p", "r"])
+        && has_texts(frame, 2, &["s", "r"])
+        && has_numbers(frame, 3, &[3, 1])
+}
+
 #[test]
 fn first_and_last_texts(rt: HostRuntime) -> Result<(), Fail> {
-    let alloc = rt.alloc();
-    let frame = texts_and_counts(alloc)?;
-    let due = [
-        numbers(alloc, &[1, 2])?,
-        texts(alloc, &["p", "r"])?,
-        texts(alloc, &["s", "r"])?,
-        numbers(alloc, &[3, 1])?,
-    ];
-    assert_columns(&rt, &frame, &due);
-    Ok(())
+    let query = firsts_and_lasts(rt.alloc())?;
+    let frame = texts_and_counts(rt.alloc(), &query);
+    drop(query);
+    let frame = frame?;
+    let has = has_firsts_and_lasts(&frame);
+    drop(frame);
+    hold(Ok(has))
 }
 
 /// Puts a row into the first table, again where memory was wanting.
@@ -91,6 +103,7 @@ fn two_tables(alloc: Global) -> Result<TwoTables, Fail> {
     if are_put(&mut tables) {
         Ok(tables)
     } else {
+        drop(tables);
         Err("a row was not taken".into())
     }
 }
@@ -101,24 +114,22 @@ fn gives(table: &mut AggHashTable, keys: &[i128], counts: &[i128]) -> Result<boo
     Ok(has_numbers(&frame, 0, keys) && has_numbers(&frame, 1, counts))
 }
 
-/// A table with the rows of another one counts all.
-fn assert_joined(
-    rt: &impl Abort,
-    table: &mut AggHashTable,
-    other: &mut AggHashTable,
-) -> Result<(), Fail>
+/// Whether a table with the rows of another one counts all.
+fn counts_all(table: &mut AggHashTable, other: &mut AggHashTable) -> Result<bool, AllocError>
     requires shape { other.old.shape ≡ table.old.shape }
     requires few { HoldFewTogether table.old other.old }
 {
     join(table, other)?;
-    assert!(rt; gives(table, &[1, 2, 3, 4], &[1, 2, 2, 1])?);
-    Ok(())
+    gives(table, &[1, 2, 3, 4], &[1, 2, 2, 1])
 }
 
 #[test]
 fn tables_that_are_joined(rt: HostRuntime) -> Result<(), Fail> {
     let (mut table, mut other) = two_tables(rt.alloc())?.into_tables();
-    assert_joined(&rt, &mut table, &mut other)
+    let counts = counts_all(&mut table, &mut other);
+    drop(table);
+    drop(other);
+    hold(Ok(counts?))
 }
 
 /// Takes the odd keys of another table in, which are those of partition 0 of 2, again where memory
@@ -133,25 +144,22 @@ fn take_odd(table: &mut AggHashTable, other: &mut AggHashTable) -> Result<(), Al
     }
 }
 
-/// A table with the odd keys of another one counts those, and the other one the rest.
-fn assert_odd_taken(
-    rt: &impl Abort,
-    table: &mut AggHashTable,
-    other: &mut AggHashTable,
-) -> Result<(), Fail>
+/// Whether a table with the odd keys of another one counts those, and the other one the rest.
+fn counts_odd(table: &mut AggHashTable, other: &mut AggHashTable) -> Result<bool, AllocError>
     requires shape { other.old.shape ≡ table.old.shape }
     requires few { HoldFewTogether table.old other.old }
 {
     take_odd(table, other)?;
-    assert!(rt; gives(table, &[1, 2, 3], &[1, 1, 2])?);
-    assert!(rt; gives(other, &[2, 4], &[1, 1])?);
-    Ok(())
+    Ok(gives(table, &[1, 2, 3], &[1, 1, 2])? && gives(other, &[2, 4], &[1, 1])?)
 }
 
 #[test]
 fn a_partition_that_is_taken(rt: HostRuntime) -> Result<(), Fail> {
     let (mut table, mut other) = two_tables(rt.alloc())?.into_tables();
-    assert_odd_taken(&rt, &mut table, &mut other)
+    let counts = counts_odd(&mut table, &mut other);
+    drop(table);
+    drop(other);
+    hold(Ok(counts?))
 }
 
 /// The first places of a table's groups, asked for again where memory was wanting.
@@ -162,22 +170,25 @@ fn firsts_of(table: &mut AggHashTable) -> Result<Vec<Place>, AllocError> {
     }
 }
 
-/// The first rows of 1, 2, 3 in a table.
-fn assert_firsts(rt: &impl Abort, table: &mut AggHashTable) -> Result<(), Fail> {
+/// The first rows of 1, 2, 3.
+const FIRSTS: [Place; 3] = [
+    Place { chunk: 0, row: 5 },
+    Place { chunk: 0, row: 4 },
+    Place { chunk: 0, row: 3 },
+];
+
+/// Whether a table has the first rows of 1, 2, 3.
+fn has_firsts(table: &mut AggHashTable) -> Result<bool, AllocError> {
     let firsts = firsts_of(table)?;
-    let due = [
-        Place { chunk: 0, row: 5 },
-        Place { chunk: 0, row: 4 },
-        Place { chunk: 0, row: 3 },
-    ];
-    assert!(rt; firsts.as_slice() == due.as_slice());
-    Ok(())
+    Ok(firsts.as_slice() == FIRSTS.as_slice())
 }
 
 #[test]
 fn first_places(rt: HostRuntime) -> Result<(), Fail> {
     let mut table = two_tables(rt.alloc())?.into_first();
-    assert_firsts(&rt, &mut table)
+    let has = has_firsts(&mut table);
+    drop(table);
+    hold(Ok(has?))
 }
 
 /// Whether the second and the third of a table's groups, in an order of first rows, are as is due.
@@ -187,26 +198,26 @@ fn is_ordered(alloc: Global, table: &mut AggHashTable) -> Result<bool, Fail> {
     Ok(has_numbers(&some, 0, &[1, 3]) && has_numbers(&some, 1, &[1, 2]))
 }
 
-/// Some groups of a table with the rows of another one, in an order of first rows.
-fn assert_by_first_row(
-    rt: &impl Abort,
+/// Whether some groups of a table with the rows of another one are as is due, in an order of first rows.
+fn is_ordered_with(
     alloc: Global,
     table: &mut AggHashTable,
     other: &mut AggHashTable,
-) -> Result<(), Fail>
+) -> Result<bool, Fail>
     requires shape { other.old.shape ≡ table.old.shape }
     requires few { HoldFewTogether table.old other.old }
 {
     join(table, other)?;
-    assert!(rt; is_ordered(alloc, table)?);
-    Ok(())
+    is_ordered(alloc, table)
 }
 
 #[test]
 fn groups_by_first_row(rt: HostRuntime) -> Result<(), Fail> {
-    let alloc = rt.alloc();
-    let (mut table, mut other) = two_tables(alloc)?.into_tables();
-    assert_by_first_row(&rt, alloc, &mut table, &mut other)
+    let (mut table, mut other) = two_tables(rt.alloc())?.into_tables();
+    let is = is_ordered_with(rt.alloc(), &mut table, &mut other);
+    drop(table);
+    drop(other);
+    hold(is)
 }
 
 /// A row of key 1.
@@ -241,22 +252,25 @@ fn two_leave(buffers: &mut SpillPartitions, row: SpillRow) -> bool {
     }
 }
 
-/// How many rows leave a buffer of two.
-fn assert_leaving(rt: &impl Abort, alloc: Global) -> Result<(), Fail> {
-    let mut buffers = SpillPartitions::new(alloc, 1, 2)?;
-    assert!(rt; stays(&mut buffers, row_of(alloc, 0)?));
-    assert!(rt; two_leave(&mut buffers, row_of(alloc, 1)?));
-    Ok(())
+/// Whether of two rows in a buffer of two the first stays, and both leave with the second.
+fn leave_by_two(alloc: Global, buffers: &mut SpillPartitions) -> Result<bool, AllocError> {
+    let stays = stays(buffers, row_of(alloc, 0)?);
+    Ok(two_leave(buffers, row_of(alloc, 1)?) && stays)
+}
+
+/// Whether the row of 2 waits in a local table.
+fn waits(alloc: Global) -> Result<bool, Fail> {
+    let query = counting(alloc, NUMBERS, 1)?;
+    let waits = waits_of_query(alloc, &query);
+    drop(query);
+    waits
 }
 
 #[test]
 fn rows_that_overflow(rt: HostRuntime) -> Result<(), Fail> {
-    let alloc = rt.alloc();
-    assert_leaving(&rt, alloc)?;
-    let query = counts(alloc)?;
-    let chunk = rows_of_keys(alloc)?;
-    match query.check(alloc) {
-        Ok(checked) => assert_waiting(&rt, alloc, &checked, &chunk),
-        Err(_) => Err("Query::check wants memory".into()),
-    }
+    let mut buffers = SpillPartitions::new(rt.alloc(), 1, 2)?;
+    let leave = leave_by_two(rt.alloc(), &mut buffers);
+    drop(buffers);
+    hold(Ok(leave?))?;
+    hold(waits(rt.alloc()))
 }

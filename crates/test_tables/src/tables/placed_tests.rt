@@ -1,19 +1,19 @@
 //! The groups of two tables, joined in the order of their first rows.
 
-ghost use Rattle.std.specs.Prelude.{◌≡◌};
+ghost use Rattle.std.specs.Prelude.{◌≡◌, length};
+ghost use Rattle.std.specs.List.{IsDistinct};
+ghost use Rattle.std.specs.Ordering.{eq_by_cmp};
+ghost use Rattle.pipe_columns.specs.Frame.{fields_of};
+ghost use Rattle.pipe_columns.specs.Place.{place_cmp};
 
-use crate::tables::table_tests::assert_numbers;
-use crate::tables::test_rows::{chunk_of_numbers, counting};
+use crate::asked::{NUMBERS, are_columns, chunk_of_numbers, counting, hold};
 use crate::tables::two_tables::TwoTables;
-use pipe_aggs::CheckedQuery;
-use pipe_columns::{DataChunk, DataFrame, DataType, Place};
+use pipe_aggs::{CheckedQuery, Query};
+use pipe_columns::{DataChunk, DataFrame, Place};
 use pipe_groups::{PlacedGroups, Places};
 use pipe_tables::{AggHashTable, LentEnd};
 use std::alloc::{AllocError, Global};
-use std::process::Abort;
 use std::test::Fail;
-
-const NUMBERS: [DataType; 2] = [DataType::Int64, DataType::Int64];
 
 /// The first rows of 1 and 3, which are in the first table, then of 2 and 4.
 const FIRSTS: [Place; 4] = [
@@ -37,40 +37,67 @@ fn are_put(tables: &mut TwoTables) -> bool {
 }
 
 /// Two tables that hold the rows of a chunk.
-fn filled(
-    rt: &impl Abort,
-    alloc: Global,
-    query: &CheckedQuery<'_>,
-    chunk: &DataChunk,
-) -> Result<TwoTables, Fail> {
+fn filled(alloc: Global, query: &CheckedQuery<'_>, chunk: &DataChunk) -> Result<TwoTables, Fail> {
     let mut tables = TwoTables::new(alloc, query, None, chunk)?;
-    assert!(rt; are_put(&mut tables));
-    Ok(tables)
+    if are_put(&mut tables) {
+        Ok(tables)
+    } else {
+        drop(tables);
+        Err("a row was not put".into())
+    }
 }
 
-/// The groups of two tables with their first places, those of the second below those of the first.
-fn stacked(
-    table: &mut AggHashTable,
-    other: &mut AggHashTable,
-) -> Result<(DataFrame, Vec<Place>), Fail>
+/// Whether the groups of two tables have the first places.
+fn have_firsts(above: &PlacedGroups, below: &PlacedGroups) -> bool {
+    above.firsts.as_slice() == &FIRSTS[..2] && below.firsts.as_slice() == &FIRSTS[2..]
+}
+
+/// The frames of few groups, one below the other.
+fn stacked(above: PlacedGroups, below: PlacedGroups) -> Result<DataFrame, Fail>
+    requires { fields_of below.frame.columns ≡ fields_of above.frame.columns }
+{
+    let PlacedGroups { mut frame, firsts } = above;
+    drop(firsts);
+    let PlacedGroups {
+        frame: more,
+        firsts,
+    } = below;
+    drop(firsts);
+    if frame.height() > 16 || more.height() > 16 {
+        return Err("many groups".into());
+    }
+    frame.vstack(more)?;
+    Ok(frame)
+}
+
+/// The groups of two tables, those of the second below those of the first.
+fn groups_of(table: &mut AggHashTable, other: &mut AggHashTable) -> Result<DataFrame, Fail>
     requires { other.old.shape ≡ table.old.shape }
 {
     let above = table.finalize_placed()?;
     let below = other.finalize_placed()?;
-    let mut firsts = above.firsts.into_vec();
-    firsts.extend_from_slice(below.firsts.as_slice())?;
-    let mut frame = above.frame;
-    let own = frame.height();
-    let more = below.frame.height();
-    if own > 16 || more > 16 {
-        return Err("many groups".into());
+    if !have_firsts(&above, &below) {
+        return Err("other first places".into());
     }
-    frame.vstack(below.frame)?;
-    Ok((frame, firsts))
+    stacked(above, below)
 }
 
-/// The rows of a frame of four in the order of their first places, under a slice. They are asked for
-/// again where memory was wanting.
+/// Rows in the order of their places, under a slice, asked for again where memory was wanting.
+fn in_order(
+    alloc: Global,
+    placed: &PlacedGroups,
+    slice: &mut Option<(usize, usize)>,
+) -> Result<DataFrame, AllocError>
+    requires height { length placed.now.firsts ≡ placed.now.frame.height }
+    requires distinct { IsDistinct (eq_by_cmp place_cmp) placed.now.firsts }
+{
+    match placed.in_order_of_rows(alloc, slice) {
+        Ok(frame) => Ok(frame),
+        Err(AllocError) => placed.in_order_of_rows(alloc, slice),
+    }
+}
+
+/// The rows of a frame of four in the order of their first places, under a slice.
 pub(crate) fn ordered(
     alloc: Global,
     frame: DataFrame,
@@ -81,67 +108,70 @@ pub(crate) fn ordered(
     }
     let firsts = Places::new(Vec::from_array(alloc, FIRSTS)?);
     let placed = PlacedGroups { frame, firsts };
-    match placed.in_order_of_rows(alloc, slice) {
-        Ok(frame) => Ok(frame),
-        Err(AllocError) => Ok(placed.in_order_of_rows(alloc, slice)?),
-    }
+    let ordered = in_order(alloc, &placed, slice);
+    drop(placed);
+    Ok(ordered?)
 }
 
-/// The groups of two tables in the order of their first places, under a slice.
-fn assert_stacked(
-    rt: &impl Abort,
+/// Whether the groups of two tables in the order of their first places, under a slice, are as is due.
+fn is_ordered(
     alloc: Global,
     table: &mut AggHashTable,
     other: &mut AggHashTable,
     mut slice: Option<(usize, usize)>,
     due: &[&[i128]],
-) -> Result<(), Fail>
+) -> Result<bool, Fail>
     requires { other.old.shape ≡ table.old.shape }
 {
-    let (frame, firsts) = stacked(table, other)?;
-    assert!(rt; firsts.as_slice() == FIRSTS.as_slice());
-    assert_numbers(rt, &ordered(alloc, frame, &mut slice)?, due);
-    assert!(rt; slice == None || slice == Some((0, 0)));
-    Ok(())
+    let frame = groups_of(table, other)?;
+    let frame = ordered(alloc, frame, &mut slice)?;
+    let are = are_columns(&frame, due);
+    drop(frame);
+    Ok(are && (slice == None || slice == Some((0, 0))))
 }
 
-fn assert_ordered(
-    rt: &impl Abort,
+/// Whether they are so for two tables that hold the rows of a chunk.
+fn gives_ordered(
     alloc: Global,
     query: &CheckedQuery<'_>,
     chunk: &DataChunk,
     slice: Option<(usize, usize)>,
     due: &[&[i128]],
-) -> Result<(), Fail> {
-    let (mut table, mut other) = filled(rt, alloc, query, chunk)?.into_tables();
-    assert_stacked(rt, alloc, &mut table, &mut other, slice, due)
+) -> Result<bool, Fail> {
+    let (mut table, mut other) = filled(alloc, query, chunk)?.into_tables();
+    let is = is_ordered(alloc, &mut table, &mut other, slice, due);
+    drop(table);
+    drop(other);
+    is
 }
 
-/// All groups, and the second and the third.
-fn assert_all_and_some(
-    rt: &impl Abort,
+/// Whether all groups are as is due, and the second and the third.
+fn gives_all_and_some(
     alloc: Global,
     query: &CheckedQuery<'_>,
     chunk: &DataChunk,
-) -> Result<(), Fail> {
+) -> Result<bool, Fail> {
     let all: [&[i128]; 2] = [&[4, 1, 2, 3], &[2, 2, 1, 1]];
-    assert_ordered(rt, alloc, query, chunk, None, &all)?;
     let some: [&[i128]; 2] = [&[1, 2], &[2, 1]];
-    assert_ordered(rt, alloc, query, chunk, Some((1, 2)), &some)
+    Ok(
+        gives_ordered(alloc, query, chunk, None, &all)?
+            && gives_ordered(alloc, query, chunk, Some((1, 2)), &some)?,
+    )
 }
 
-/// Rows of four keys.
-fn rows_of_four(alloc: Global) -> Result<DataChunk, Fail> {
-    chunk_of_numbers(alloc, NUMBERS, &[4, 1, 2, 1, 3, 4], &[0; 6])
+/// Whether they are so for rows of four keys.
+fn gives_of_query(alloc: Global, query: &Query) -> Result<bool, Fail> {
+    let chunk = chunk_of_numbers(alloc, NUMBERS, false, &[4, 1, 2, 1, 3, 4], &[0; 6])?;
+    match query.check(alloc) {
+        Ok(checked) => gives_all_and_some(alloc, &checked, &chunk),
+        Err(_) => Err("no query".into()),
+    }
 }
 
 #[test]
 fn groups_in_order_of_rows(rt: HostRuntime) -> Result<(), Fail> {
-    let alloc = rt.alloc();
-    let query = counting(alloc, NUMBERS, 1)?;
-    let chunk = rows_of_four(alloc)?;
-    match query.check(alloc) {
-        Ok(checked) => assert_all_and_some(&rt, alloc, &checked, &chunk),
-        Err(_) => Err("no query".into()),
-    }
+    let query = counting(rt.alloc(), NUMBERS, 1)?;
+    let gives = gives_of_query(rt.alloc(), &query);
+    drop(query);
+    hold(gives)
 }

@@ -1,5 +1,6 @@
 //! What the first looks at memory answer.
 
+use crate::asked::hold;
 use pipe_tables::{OocState, SpillAction};
 use std::test::Fail;
 
@@ -9,29 +10,43 @@ fn first_answer(free: u64, waiting: bool) -> SpillAction {
     state.check_memory_usage(free, 100, waiting)
 }
 
-#[test]
-fn answers_by_what_is_free(rt: HostRuntime) -> Result<(), Fail> {
-    assert!(rt; first_answer(29, true) == SpillAction::Dump);
-    assert!(rt; first_answer(29, false) == SpillAction::None);
-    assert!(rt; first_answer(30, true) == SpillAction::EarlyMerge);
-    assert!(rt; first_answer(50, true) == SpillAction::None);
-    Ok(())
+/// Whether it goes by what is free, and by whether something waits.
+fn goes_by_what_is_free() -> bool {
+    first_answer(29, true) == SpillAction::Dump
+        && first_answer(29, false) == SpillAction::None
+        && first_answer(30, true) == SpillAction::EarlyMerge
+        && first_answer(50, true) == SpillAction::None
 }
 
 #[test]
-fn rows_are_dumped_from_then_on(rt: HostRuntime) -> Result<(), Fail> {
+fn answers_by_what_is_free(_rt: HostRuntime) -> Result<(), Fail> {
+    hold(Ok(goes_by_what_is_free()))
+}
+
+/// Whether rows are dumped again where much is free.
+fn dumps_again() -> bool {
     let mut state = OocState::new();
-    assert!(rt; state.check_memory_usage(29, 100, true) == SpillAction::Dump);
-    assert!(rt; state.check_memory_usage(100, 100, false) == SpillAction::Dump);
-    Ok(())
+    state.check_memory_usage(29, 100, true) == SpillAction::Dump
+        && state.check_memory_usage(100, 100, false) == SpillAction::Dump
 }
 
 #[test]
-fn every_512th_look_merges(rt: HostRuntime) -> Result<(), Fail> {
+fn rows_are_dumped_from_then_on(_rt: HostRuntime) -> Result<(), Fail> {
+    hold(Ok(dumps_again()))
+}
+
+/// Whether the 512th look merges, and none before it.
+fn merges_at_512() -> bool {
     let mut state = OocState::new();
     for _ in 0..511 {
-        assert!(rt; state.check_memory_usage(100, 100, true) == SpillAction::None);
+        if state.check_memory_usage(100, 100, true) != SpillAction::None {
+            return false;
+        }
     }
-    assert!(rt; state.check_memory_usage(100, 100, true) == SpillAction::EarlyMerge);
-    Ok(())
+    state.check_memory_usage(100, 100, true) == SpillAction::EarlyMerge
+}
+
+#[test]
+fn every_512th_look_merges(_rt: HostRuntime) -> Result<(), Fail> {
+    hold(Ok(merges_at_512()))
 }

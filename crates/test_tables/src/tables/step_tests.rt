@@ -3,15 +3,12 @@
 ghost use Rattle.std.specs.Prelude.{◌≡◌};
 ghost use Rattle.pipe_keyed.specs.Tables.{HoldFewTogether};
 
-use crate::tables::test_rows::{chunk_of_numbers, counting};
+use crate::asked::{NUMBERS, chunk_of_numbers, counting, hold};
 use crate::tables::two_tables::TwoTables;
-use pipe_columns::DataType;
+use pipe_aggs::{CheckedQuery, Query};
 use pipe_tables::{AggHashTable, LentEnd};
 use std::alloc::{AllocError, Global};
-use std::process::Abort;
 use std::test::Fail;
-
-const NUMBERS: [DataType; 2] = [DataType::Int64, DataType::Int64];
 
 /// Joins a table with another. It is asked again where memory was wanting.
 pub(crate) fn join(table: &mut AggHashTable, other: &mut AggHashTable) -> Result<(), AllocError>
@@ -25,55 +22,81 @@ pub(crate) fn join(table: &mut AggHashTable, other: &mut AggHashTable) -> Result
 }
 
 /// Two tables of a limit, and rows of keys.
+fn tables_over(
+    alloc: Global,
+    query: &CheckedQuery<'_>,
+    limit: Option<usize>,
+    keys: &[i128],
+) -> Result<TwoTables, Fail> {
+    let chunk = chunk_of_numbers(alloc, NUMBERS, false, keys, keys)?;
+    TwoTables::new(alloc, query, limit, &chunk)
+}
+
+fn tables_of_query(
+    alloc: Global,
+    query: &Query,
+    limit: Option<usize>,
+    keys: &[i128],
+) -> Result<TwoTables, Fail> {
+    match query.check(alloc) {
+        Ok(checked) => tables_over(alloc, &checked, limit, keys),
+        Err(_) => Err("Query::check wants memory".into()),
+    }
+}
+
+/// Two tables of a limit, which count rows, and rows of keys.
 pub(crate) fn tables_of(
     alloc: Global,
     limit: Option<usize>,
     keys: &[i128],
 ) -> Result<TwoTables, Fail> {
     let query = counting(alloc, NUMBERS, 1)?;
-    let chunk = chunk_of_numbers(alloc, NUMBERS, keys, keys)?;
-    match query.check(alloc) {
-        Ok(checked) => TwoTables::new(alloc, &checked, limit, &chunk),
-        Err(_) => Err("Query::check wants memory".into()),
-    }
+    let tables = tables_of_query(alloc, &query, limit, keys);
+    drop(query);
+    tables
 }
 
-/// The rows of 1, 2, 1 come to a table of limit 0. Room for the row of 2 lets it no more in.
-fn assert_limited(rt: &impl Abort, tables: &mut TwoTables) -> Result<(), Fail> {
+/// Whether the rows of 1, 2, 1 come to a table of limit 0 as they should. Room for the row of 2 lets it
+/// no more in.
+fn are_limited(tables: &mut TwoTables) -> Result<bool, AllocError> {
     let ends = [tables.put(), tables.put(), tables.put()];
-    assert!(rt; ends == [LentEnd::Done, LentEnd::Overflow, LentEnd::Done] && tables.held() == 1);
+    let held = tables.held();
     tables.reserve()?;
-    assert!(rt; tables.held() == 1);
-    let ends = [tables.put(), tables.put_other()];
-    assert!(rt; ends == [LentEnd::Overflow, LentEnd::Done]);
-    Ok(())
+    Ok(
+        ends == [LentEnd::Done, LentEnd::Overflow, LentEnd::Done]
+            && held == 1
+            && tables.held() == 1
+            && tables.put() == LentEnd::Overflow
+            && tables.put_other() == LentEnd::Done,
+    )
 }
 
 /// Two tables, of which the first holds 1 and the second 2.
-fn limited(rt: &impl Abort, alloc: Global) -> Result<TwoTables, Fail> {
+fn limited(alloc: Global) -> Result<TwoTables, Fail> {
     let mut tables = tables_of(alloc, Some(0), &[2, 2, 1, 2, 1])?;
-    match assert_limited(rt, &mut tables) {
-        Ok(()) => Ok(tables),
-        Err(fail) => Err(fail),
+    match are_limited(&mut tables) {
+        Ok(true) => Ok(tables),
+        _ => {
+            drop(tables);
+            Err("the tables aren't limited".into())
+        }
     }
 }
 
-/// A table with the key of another one holds two, and the other one none.
-fn assert_joined(
-    rt: &impl Abort,
-    table: &mut AggHashTable,
-    other: &mut AggHashTable,
-) -> Result<(), Fail>
+/// Whether a table with the key of another one holds two, and the other one none.
+fn is_joined(table: &mut AggHashTable, other: &mut AggHashTable) -> Result<bool, AllocError>
     requires shape { other.old.shape ≡ table.old.shape }
     requires few { HoldFewTogether table.old other.old }
 {
     join(table, other)?;
-    assert!(rt; table.len() == 2 && other.is_empty());
-    Ok(())
+    Ok(table.len() == 2 && other.is_empty())
 }
 
 #[test]
 fn steps_of_a_table(rt: HostRuntime) -> Result<(), Fail> {
-    let (mut table, mut other) = limited(&rt, rt.alloc())?.into_tables();
-    assert_joined(&rt, &mut table, &mut other)
+    let (mut table, mut other) = limited(rt.alloc())?.into_tables();
+    let is = is_joined(&mut table, &mut other);
+    drop(table);
+    drop(other);
+    hold(Ok(is?))
 }

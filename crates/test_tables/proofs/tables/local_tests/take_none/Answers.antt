@@ -5,11 +5,11 @@ use Rattle.pipe_spill.specs.declared.spill_row.SpillRow.{SpillRow}
 use Rattle.pipe_groups.proofs.HoldFacts.{holds-none}
 use Rattle.test_tables.proofs.tables.local_tests.take_none.Goals as goal
 
-pub combine-requires-clause-other_none_waits : goal.combine-requires-clause-other_none_waits
-combine-requires-clause-other_none_waits c = rw c.in_ok-other.ensures.rows (All-replicate (λ (rows : List SpillRow). rows ≡ []) _ [] refl)
+pub combine-combined-requires-clause-other_none_waits : goal.combine-combined-requires-clause-other_none_waits
+combine-combined-requires-clause-other_none_waits c = rw c.in_ok-other.ensures.rows (All-replicate (λ (rows : List SpillRow). rows ≡ []) _ [] refl)
 
-pub combine-requires-clause-few : goal.combine-requires-clause-few
-combine-requires-clause-few c = record {
+pub combine-combined-requires-clause-few : goal.combine-combined-requires-clause-few
+combine-combined-requires-clause-few c = record {
   rows = c.requires.few.rows;
   others = [];
   holds = c.requires.few.holds;

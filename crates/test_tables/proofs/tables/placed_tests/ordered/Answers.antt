@@ -13,8 +13,5 @@ apart : IsDistinct (eq_by_cmp place_cmp) (at 0 1 ∷ at 0 4 ∷ at 0 2 ∷ at 0 
 unfolding IsDistinct
 apart = ((refl, (refl, (refl, tt))), ((refl, (refl, tt)), ((refl, tt), (tt, tt))))
 
-pub in_order_of_rows-requires-clause-distinct : goal.in_order_of_rows-requires-clause-distinct
-in_order_of_rows-requires-clause-distinct c = subst (IsDistinct (eq_by_cmp place_cmp)) (sym (c.new-firsts.ensures ∙ c.in_ok-from_array.ensures.items)) apart
-
-pub in_order_of_rows-requires-in-Err-clause-distinct : goal.in_order_of_rows-requires-in-Err-clause-distinct
-in_order_of_rows-requires-in-Err-clause-distinct c = subst (IsDistinct (eq_by_cmp place_cmp)) (sym (c.new-firsts.ensures ∙ c.in_ok-from_array.ensures.items)) apart
+pub in_order-ordered-requires-clause-distinct : goal.in_order-ordered-requires-clause-distinct
+in_order-ordered-requires-clause-distinct c = subst (IsDistinct (eq_by_cmp place_cmp)) (sym (c.new-firsts.ensures ∙ c.in_ok-from_array.ensures.items)) apart

@@ -1,6 +1,6 @@
 use Rattle.std.proofs.Common.{◌*◌}
 use Rattle.pipe_tables.proofs.FewerFacts.{TookFew}
-use Rattle.test_tables.proofs.tables.test_rows.fed.Given as goal
+use Rattle.test_tables.proofs.tables.test_rows.take_all.Given as goal
 
 -- room for two rows is gone for each number so far
 abbrev pub invariant-loop-i : goal.invariant-loop-i

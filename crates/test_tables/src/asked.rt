@@ -1,0 +1,223 @@
+//! What tests ask: queries over the columns k and v, and chunks of them.
+
+use pipe_aggs::{AExpr, Arena, Node, Query};
+use pipe_columns::{AnyValue, Column, DataChunk, DataFrame, DataType, Field, Schema, Text};
+use std::alloc::{AllocError, Global};
+use std::test::Fail;
+
+/// Two columns of numbers.
+pub(crate) const NUMBERS: [DataType; 2] = [DataType::Int64, DataType::Int64];
+
+/// Fails a test where what it asks isn't so.
+pub(crate) fn hold(answer: Result<bool, Fail>) -> Result<(), Fail> {
+    match answer {
+        Ok(true) => Ok(()),
+        Ok(false) => Err("it isn't so".into()),
+        Err(fail) => Err(fail),
+    }
+}
+
+fn added(arena: &mut Arena, expr: AExpr) -> Result<Node, Fail> {
+    match arena.add(expr) {
+        Ok(node) => Ok(node),
+        Err(_) => Err("Arena::add wants memory".into()),
+    }
+}
+
+/// The columns k and v.
+fn schema_of(alloc: Global, types: [DataType; 2]) -> Result<Schema, AllocError> {
+    let mut fields = Vec::new(alloc);
+    for (name, dtype) in [("k", types[0]), ("v", types[1])] {
+        let name = Text::new(alloc, name)?;
+        fields.push(Field { name, dtype })?;
+    }
+    Ok(Schema::new(fields))
+}
+
+/// Adds the columns k and v, of which the first few are keys.
+fn add_columns(
+    alloc: Global,
+    arena: &mut Arena,
+    count: usize,
+    keys: &mut Vec<Node>,
+) -> Result<(), Fail> {
+    for name in ["k", "v"] {
+        let column = added(arena, AExpr::Column(Text::new(alloc, name)?))?;
+        if keys.len() < count {
+            keys.push(column)?;
+        }
+    }
+    Ok(())
+}
+
+/// Adds an aggregate by a name.
+fn named_agg(alloc: Global, arena: &mut Arena, agg: AExpr, name: &str) -> Result<Node, Fail> {
+    let value = added(arena, agg)?;
+    added(arena, AExpr::Alias(value, Text::new(alloc, name)?))
+}
+
+/// Adds aggregates, three at most, by the names a, b and c.
+fn named_aggs(alloc: Global, arena: &mut Arena, aggs: Vec<AExpr>) -> Result<Vec<Node>, Fail> {
+    let mut named = Vec::new(alloc);
+    for (agg, name) in aggs.into_iter().zip(["a", "b", "c"]) {
+        named.push(named_agg(alloc, arena, agg, name)?)?;
+    }
+    Ok(named)
+}
+
+/// A query over the columns k and v, which are nodes 0 and 1, and of which the first `keys` are the
+/// keys. Its aggregates, three at most, are named a, b and c.
+pub(crate) fn query_of(
+    alloc: Global,
+    types: [DataType; 2],
+    keys: usize,
+    aggs: Vec<AExpr>,
+) -> Result<Query, Fail> {
+    let mut arena = Arena::new(alloc);
+    let mut keys_of_query = Vec::new(alloc);
+    add_columns(alloc, &mut arena, keys, &mut keys_of_query)?;
+    let named = named_aggs(alloc, &mut arena, aggs)?;
+    Ok(Query {
+        schema: schema_of(alloc, types)?,
+        arena,
+        keys: keys_of_query,
+        aggs: named,
+        slice: None,
+        maintain_order: false,
+    })
+}
+
+/// A query of how many rows there are by the first `keys` of the columns.
+pub(crate) fn counting(alloc: Global, types: [DataType; 2], keys: usize) -> Result<Query, Fail> {
+    query_of(alloc, types, keys, vec![in alloc; AExpr::Len]?)
+}
+
+/// The value of a number: -1 stands for a null.
+fn value_of(number: i128) -> AnyValue {
+    if number == -1 {
+        AnyValue::Null
+    } else {
+        AnyValue::Int(number)
+    }
+}
+
+/// Numbers as values: -1 stands for a null.
+pub(crate) fn numbers(alloc: Global, numbers: &[i128]) -> Result<Vec<AnyValue>, AllocError> {
+    let mut values = Vec::new(alloc);
+    for number in numbers {
+        values.push(value_of(*number))?;
+    }
+    Ok(values)
+}
+
+pub(crate) fn texts(alloc: Global, texts: &[&str]) -> Result<Vec<AnyValue>, AllocError> {
+    let mut values = Vec::new(alloc);
+    for text in texts {
+        values.push(AnyValue::Text(Text::new(alloc, text)?))?;
+    }
+    Ok(values)
+}
+
+/// Puts a column of a name below others.
+fn put_column(
+    alloc: Global,
+    columns: &mut Vec<Column>,
+    name: &str,
+    dtype: DataType,
+    sorted: bool,
+    values: Vec<AnyValue>,
+) -> Result<(), Fail> {
+    match Column::new(Text::new(alloc, name)?, dtype, sorted, values) {
+        Some(column) => Ok(columns.push(column)?),
+        None => Err("no column".into()),
+    }
+}
+
+/// A chunk of the columns k and v, under a flag that says whether they are sorted.
+pub(crate) fn chunk_of(
+    alloc: Global,
+    types: [DataType; 2],
+    sorted: bool,
+    k: Vec<AnyValue>,
+    v: Vec<AnyValue>,
+) -> Result<DataChunk, Fail> {
+    let height = k.len();
+    let mut columns = Vec::new(alloc);
+    put_column(alloc, &mut columns, "k", types[0], sorted, k)?;
+    put_column(alloc, &mut columns, "v", types[1], sorted, v)?;
+    match DataFrame::new(height, columns) {
+        Some(frame) => Ok(DataChunk {
+            chunk_index: 0,
+            frame,
+        }),
+        None => Err("no frame".into()),
+    }
+}
+
+/// A chunk of the columns k and v, of numbers.
+pub(crate) fn chunk_of_numbers(
+    alloc: Global,
+    types: [DataType; 2],
+    sorted: bool,
+    k: &[i128],
+    v: &[i128],
+) -> Result<DataChunk, Fail> {
+    let k = numbers(alloc, k)?;
+    chunk_of(alloc, types, sorted, k, numbers(alloc, v)?)
+}
+
+/// Whether values are these numbers: -1 stands for a null.
+fn are_numbers(values: &[AnyValue], numbers: &[i128]) -> bool {
+    if values.len() != numbers.len() {
+        return false;
+    }
+    for at in 0..numbers.len() {
+        if values[at] != value_of(numbers[at]) {
+            return false;
+        }
+    }
+    true
+}
+
+/// Whether a column of a frame has these numbers: -1 stands for a null.
+pub(crate) fn has_numbers(frame: &DataFrame, column: usize, numbers: &[i128]) -> bool {
+    match frame.columns().get(column) {
+        Some(column) => are_numbers(column.values(), numbers),
+        None => false,
+    }
+}
+
+/// Whether a frame has these columns of numbers, and no other.
+pub(crate) fn are_columns(frame: &DataFrame, due: &[&[i128]]) -> bool {
+    if frame.columns().len() != due.len() {
+        return false;
+    }
+    for at in 0..due.len() {
+        if !has_numbers(frame, at, due[at]) {
+            return false;
+        }
+    }
+    true
+}
+
+/// Whether values are these texts.
+fn are_texts(values: &[AnyValue], texts: &[&str]) -> bool {
+    if values.len() != texts.len() {
+        return false;
+    }
+    for at in 0..texts.len() {
+        match &values[at] {
+            AnyValue::Text(text) if text.as_str() == texts[at] => {}
+            _ => return false,
+        }
+    }
+    true
+}
+
+/// Whether a column of a frame has these texts.
+pub(crate) fn has_texts(frame: &DataFrame, column: usize, texts: &[&str]) -> bool {
+    match frame.columns().get(column) {
+        Some(column) => are_texts(column.values(), texts),
+        None => false,
+    }
+}
