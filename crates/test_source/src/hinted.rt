@@ -1,13 +1,13 @@
-//! Files in memory that tell other sizes.
+//! Files in memory that may tell other sizes.
 
 use pipe_columns::Text;
 use pipe_io::{InputError, InputFiles, MemoryFiles};
 
-/// Files in memory, each of which is told to have so many bytes.
+/// Files in memory, each of which is told to have so many bytes where it is said.
 #[derive(Drop)]
 pub(crate) struct Hinted {
     pub(crate) files: MemoryFiles,
-    pub(crate) bytes: usize,
+    pub(crate) told: Option<usize>,
 }
 
 impl InputFiles for Hinted {
@@ -28,7 +28,10 @@ impl InputFiles for Hinted {
     }
 
     fn size_hint(&self) -> usize {
-        self.bytes
+        match self.told {
+            Some(bytes) => bytes,
+            None => self.files.size_hint(),
+        }
     }
 
     fn read(&mut self, into: &mut [u8]) -> Result<usize, InputError> {

@@ -2,8 +2,6 @@
 #![tactic(auto)]
 
 #[cfg(test)]
-mod asked;
-#[cfg(test)]
 mod edge_tests;
 #[cfg(test)]
 mod hinted;
@@ -21,6 +19,8 @@ mod reader_tests;
 mod real_tests;
 #[cfg(test)]
 mod round_tests;
+#[cfg(test)]
+mod shown;
 #[cfg(test)]
 mod size_tests;
 #[cfg(test)]

@@ -1,6 +1,7 @@
 //! A text of more than a megabyte, and how many of its rows come in order.
 
-use crate::asked::round_of_reader;
+use crate::made::{Asked, reader_of};
+use crate::shown::round_of_reader;
 use pipe_columns::{AnyValue, DataChunk};
 use pipe_io::InputFiles;
 use pipe_source::ChunkReader;
@@ -71,4 +72,18 @@ pub(crate) fn count_in_order<I: InputFiles, H: Threads + Sync>(
         reader.take_back(chunks);
     }
     Ok(count)
+}
+
+/// How many rows of an input come in order to a new reader, read by so many threads.
+pub(crate) fn rows_of_input<I: InputFiles, H: Threads + Sync>(
+    rt: &H,
+    alloc: Global,
+    asked: &Asked,
+    input: &mut I,
+    threads: usize,
+) -> Result<usize, Fail> {
+    let mut reader = reader_of(alloc, asked)?;
+    let count = count_in_order(rt, alloc, input, &mut reader, threads);
+    drop(reader);
+    count
 }

@@ -3,10 +3,10 @@
 
 ghost use Rattle.std.specs.Prelude.{◌<◌};
 
-use crate::asked::round_of_reader;
-use crate::made::{file_of, joined, plain, reader_of, repeated};
+use crate::hinted::Hinted;
+use crate::made::{Asked, PLAIN, input_of_text, reader_of, repeated};
+use crate::shown::round_of_reader;
 use pipe_columns::{Column, DataChunk};
-use pipe_io::MemoryFiles;
 use pipe_source::ChunkReader;
 use std::alloc::{AllocError, Global};
 use std::fmt::Write;
@@ -131,15 +131,19 @@ fn are_alike(one: &DataChunk, other: &DataChunk) -> bool {
 #[derive(Drop)]
 struct Reading {
     reader: ChunkReader,
-    input: MemoryFiles,
+    input: Hinted,
 }
 
 /// A reader of a text in chunks of so many rows.
-fn reading_of(alloc: Global, text: &[u8], size: usize) -> Result<Reading, AllocError>
-    requires { 0 < size }
-{
-    let input = file_of(alloc, Vec::from_slice(alloc, text)?)?;
-    let reader = reader_of(alloc, &["a"], plain(size, None))?;
+fn reading_of(alloc: Global, text: &str, chunk_size: usize) -> Result<Reading, Fail> {
+    let input = input_of_text(alloc, text, None)?;
+    let reader = reader_of(
+        alloc,
+        &Asked {
+            chunk_size,
+            ..PLAIN
+        },
+    )?;
     Ok(Reading { reader, input })
 }
 
@@ -221,72 +225,63 @@ fn show_alike<H: Threads + Sync>(
     Ok(())
 }
 
-/// Shows what rounds give, and what single calls of a text give too, in chunks of so many rows.
+/// Shows what rounds give, and what new single calls give too.
 fn show_beside_calls<H: Threads + Sync>(
     rt: &H,
     alloc: Global,
     rounds: &mut Reading,
-    text: &[u8],
+    text: &str,
     size: usize,
     threads: usize,
     shown: &mut String,
 ) -> Result<(), Fail>
-    requires size { 0 < size }
-    requires threads { 0 < threads }
+    requires { 0 < threads }
 {
     let mut calls = reading_of(alloc, text, size)?;
-    show_alike(rt, alloc, rounds, &mut calls, threads, shown)
+    let done = show_alike(rt, alloc, rounds, &mut calls, threads, shown);
+    drop(calls);
+    done
 }
 
 /// Shows what a text gives in chunks of so many rows, read by so many threads and by one alone.
 fn show_text<H: Threads + Sync>(
     rt: &H,
     alloc: Global,
-    text: &[u8],
+    text: &str,
     size: usize,
     threads: usize,
     shown: &mut String,
 ) -> Result<(), Fail> {
-    if size == 0 || threads == 0 {
+    if threads == 0 {
         return Err("no reading".into());
     }
     let mut rounds = reading_of(alloc, text, size)?;
-    show_beside_calls(rt, alloc, &mut rounds, text, size, threads, shown)
-}
-
-/// What a text gives in chunks of so many rows, read by so many threads and by one alone.
-fn shown_alike<H: Threads + Sync>(
-    rt: &H,
-    alloc: Global,
-    text: &[u8],
-    size: usize,
-    threads: usize,
-) -> Result<String, Fail> {
-    let mut shown = String::new(alloc);
-    show_text(rt, alloc, text, size, threads, &mut shown)?;
-    Ok(shown)
+    let done = show_beside_calls(rt, alloc, &mut rounds, text, size, threads, shown);
+    drop(rounds);
+    done
 }
 
 /// A text gives what is due, in chunks of some sizes and by some numbers of threads.
 fn assert_alike<H: Threads + Sync + Abort>(
     rt: &H,
     alloc: Global,
-    text: &[u8],
+    text: &str,
     readings: &[(usize, usize)],
     due: &str,
 ) -> Result<(), Fail> {
     assert!(rt; text.len() > 1 << 20);
     for (size, threads) in readings {
-        let shown = shown_alike(rt, alloc, text, *size, *threads)?;
+        let mut shown = String::new(alloc);
+        show_text(rt, alloc, text, *size, *threads, &mut shown)?;
         assert!(rt; shown.as_str() == due, "{size} {threads} {shown}");
     }
     Ok(())
 }
 
 /// The text of a case.
-fn text_of(alloc: Global, case: &Case) -> Result<Vec<u8>, AllocError> {
-    let rows = repeated(alloc, case.1.as_bytes(), case.2)?;
-    joined(alloc, &[case.0.as_bytes(), &rows, case.3.as_bytes()])
+fn text_of(alloc: Global, case: &Case) -> Result<String, AllocError> {
+    let rows = repeated(alloc, case.1, case.2)?;
+    format!(in alloc; "{}{rows}{}", case.0, case.3)
 }
 
 /// Each case gives what is due.
@@ -298,7 +293,7 @@ fn assert_all_alike<H: Threads + Sync + Abort>(
 ) -> Result<(), Fail> {
     for case in cases {
         let text = text_of(alloc, case)?;
-        assert_alike(rt, alloc, &text, readings, case.4)?;
+        assert_alike(rt, alloc, text.as_str(), readings, case.4)?;
     }
     Ok(())
 }
@@ -315,14 +310,14 @@ fn threads_find_what_one_does(rt: HostRuntime) -> Result<(), Fail> {
 }
 
 /// A text of four rows, each of which is longer than the pieces of many threads.
-fn long_rows(alloc: Global) -> Result<Vec<u8>, AllocError> {
-    let zeros = repeated(alloc, b"0", 300000)?;
-    let row = joined(alloc, &[&zeros, b"7,8\n"])?;
-    joined(alloc, &[b"k,v\n", &row, &row, &row, &row])
+fn long_rows(alloc: Global) -> Result<String, AllocError> {
+    let zeros = repeated(alloc, "0", 300000)?;
+    let row = format!(in alloc; "{zeros}7,8\n")?;
+    format!(in alloc; "k,v\n{row}{row}{row}{row}")
 }
 
 #[test]
 fn rows_may_be_longer_than_pieces(rt: HostRuntime) -> Result<(), Fail> {
     let text = long_rows(rt.alloc())?;
-    assert_alike(&rt, rt.alloc(), &text, &READINGS, "4")
+    assert_alike(&rt, rt.alloc(), text.as_str(), &READINGS, "4")
 }

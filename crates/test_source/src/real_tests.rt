@@ -1,7 +1,7 @@
 //! A real file of more than a megabyte, which threads read in parts and look over in pieces.
 
 use crate::long_file::{count_in_order, text_of_rows};
-use crate::made::{plain, reader_of};
+use crate::made::{Asked, PLAIN, reader_of};
 use pipe_io::RealFiles;
 use pipe_source::ChunkReader;
 use std::alloc::Global;
@@ -11,6 +11,13 @@ use std::thread::Threads;
 
 /// The rows of the file, each of 8 bytes at least.
 const ROWS: u32 = 150000;
+
+/// The file, in chunks of many rows.
+const LARGE: Asked = Asked {
+    names: &["large.csv"],
+    chunk_size: 7000,
+    ..PLAIN
+};
 
 /// Writes the file; how many bytes it has.
 fn write_rows<H: Files>(rt: &H, alloc: Global) -> Result<usize, Fail> {
@@ -36,17 +43,15 @@ fn rows_by_threads<H: Files<File = File> + Threads + Sync>(
     alloc: Global,
     threads: usize,
 ) -> Result<usize, Fail> {
-    let mut reader = reader_of(alloc, &["large.csv"], plain(7000, None))?;
+    let mut reader = reader_of(alloc, &LARGE)?;
     rows_of_reader(rt, alloc, &mut reader, threads)
 }
 
 #[test]
 fn large_files_are_read_by_any_number_of_threads(rt: HostRuntime) -> Result<(), Fail> {
-    let alloc = rt.alloc();
-    let bytes = write_rows(&rt, alloc)?;
-    assert!(rt; bytes > 1 << 20);
+    assert!(rt; write_rows(&rt, rt.alloc())? > 1 << 20);
     for threads in 1..6 {
-        let count = rows_by_threads(&rt, alloc, threads)?;
+        let count = rows_by_threads(&rt, rt.alloc(), threads)?;
         assert!(rt; count == ROWS as usize, "{threads} {count}");
     }
     Ok(())

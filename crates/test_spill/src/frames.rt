@@ -1,4 +1,4 @@
-//! Frames of rows and of payloads, byte by byte.
+//! A frame of rows, byte by byte, and rows and payloads that are made.
 
 ghost use Rattle.std.specs.Prelude.{[], ◌∷◌, IfOk};
 ghost use Rattle.pipe_columns.specs.declared.data_type.DataType.TheVariants as dt;
@@ -6,9 +6,8 @@ ghost use Rattle.pipe_spill.specs.KeyTypes.{AreOfTypes};
 ghost use Rattle.pipe_spill.specs.SpillRow.{HaveInputs};
 
 use pipe_columns::{AnyValue, DataType, Place};
-use pipe_spill::{SpillPayload, SpillRow, Values, encode_key, write_frame, write_payloads};
+use pipe_spill::{SpillPayload, SpillRow, Values, encode_key};
 use std::alloc::{AllocError, Global};
-use std::test::Fail;
 
 /// The frame of two rows of the key 2, with the values 6 and 7.
 pub(crate) const TWO_ROWS: [u8; 76] = [
@@ -47,29 +46,6 @@ pub(crate) fn payload_of(
 }
 
 /// Whether a frame is that of two rows, in one piece of memory of just its size.
-fn is_two_rows(frame: &Vec<u8>) -> bool {
+pub(crate) fn is_two_rows(frame: &Vec<u8>) -> bool {
     frame.as_slice() == TWO_ROWS.as_slice() && frame.capacity() == 76
-}
-
-#[test]
-fn a_frame_of_two_rows(rt: HostRuntime) -> Result<(), Fail> {
-    let alloc = rt.alloc();
-    let rows = [row_of(alloc, 1, 2, 6)?, row_of(alloc, 2, 2, 7)?];
-    assert!(rt; is_two_rows(&write_frame(alloc, &rows, &[DataType::Int64])?));
-    Ok(())
-}
-
-#[test]
-fn a_frame_of_payloads(rt: HostRuntime) -> Result<(), Fail> {
-    let alloc = rt.alloc();
-    let none = SpillPayload {
-        rows: Vec::new(alloc),
-    };
-    let payloads = [
-        payload_of(alloc, 1, 2, 6)?,
-        none,
-        payload_of(alloc, 2, 2, 7)?,
-    ];
-    assert!(rt; is_two_rows(&write_payloads(alloc, &payloads, &[DataType::Int64])?));
-    Ok(())
 }

@@ -7,7 +7,27 @@ use pipe_spill::{DecodeError, decode_key, encode_key, encode_key_into, fold, par
 use std::alloc::{AllocError, Global};
 use std::test::Fail;
 
-/// Whether values have this code.
+/// A value of a table.
+#[derive(Clone, Copy)]
+enum Seen {
+    Null,
+    Truth(bool),
+    Int(i128),
+    Word(&'static str),
+}
+
+/// The value of a table.
+fn value_of(alloc: Global, seen: Seen) -> Result<AnyValue, AllocError> {
+    match seen {
+        Seen::Null => Ok(AnyValue::Null),
+        Seen::Truth(truth) => Ok(AnyValue::Boolean(truth)),
+        Seen::Int(number) => Ok(AnyValue::Int(number)),
+        Seen::Word(word) => Ok(AnyValue::Text(Text::new(alloc, word)?)),
+    }
+}
+
+/// Whether values have this code, also where it is written into a buffer in the place of what stood
+/// there.
 fn have_code(
     alloc: Global,
     values: &[AnyValue],
@@ -17,7 +37,9 @@ fn have_code(
     requires { AreOfTypes types.now values.now }
 {
     let key = encode_key(alloc, values, types)?;
-    Ok(key.as_slice() == code)
+    let mut buffer = Vec::from_slice(alloc, b"what stood there")?;
+    encode_key_into(&mut buffer, values, types)?;
+    Ok(key.as_slice() == code && buffer.as_slice() == code)
 }
 
 /// Whether a code is read as these values.
@@ -34,193 +56,176 @@ fn are_read(
 /// Whether a value has this code, and the code is read as the value.
 fn goes_both_ways(
     alloc: Global,
-    value: &[AnyValue; 1],
+    seen: Seen,
     dtype: DataType,
     code: &[u8],
 ) -> Result<bool, DecodeError> {
+    let values = [value_of(alloc, seen)?];
     let types = [dtype];
-    if !value[0].fits(dtype) || !have_code(alloc, value, &types, code)? {
-        return Ok(false);
-    }
-    are_read(alloc, code, &types, value)
+    Ok(
+        values[0].fits(dtype)
+            && have_code(alloc, &values, &types, code)?
+            && are_read(alloc, code, &types, &values)?,
+    )
 }
 
-/// The codes of the least, the middle and the greatest number of 128 bits. Those of a narrower type
-/// are shorter by as many bytes.
-const LEAST: [u8; 17] = [1, 0, 0, 0, 0, 0, 0, 0, 0, 0, 0, 0, 0, 0, 0, 0, 0];
-
-const MIDDLE: [u8; 17] = [1, 128, 0, 0, 0, 0, 0, 0, 0, 0, 0, 0, 0, 0, 0, 0, 0];
-
-const GREATEST: [u8; 17] = [
-    1, 255, 255, 255, 255, 255, 255, 255, 255, 255, 255, 255, 255, 255, 255, 255, 255,
-];
-
-/// Whether a number has the front of a code of 128 bits.
-fn number_goes(
-    alloc: Global,
-    number: i128,
-    dtype: DataType,
-    code: &[u8],
-    width: usize,
-) -> Result<bool, DecodeError> {
-    if width >= code.len() {
-        return Ok(false);
-    }
-    goes_both_ways(alloc, &[AnyValue::Int(number)], dtype, &code[..=width])
-}
-
-/// Numbers of types with a sign: the type, its bytes, the number and the code of 128 bits.
-const SIGNED: [(DataType, usize, i128, &[u8]); 20] = [
-    (DataType::Int8, 1, -128, &LEAST),
-    (DataType::Int8, 1, 0, &MIDDLE),
-    (DataType::Int8, 1, 127, &GREATEST),
-    (DataType::Int8, 1, -1, b"\x01\x7f"),
-    (DataType::Int16, 2, -32768, &LEAST),
-    (DataType::Int16, 2, 0, &MIDDLE),
-    (DataType::Int16, 2, 32767, &GREATEST),
-    (DataType::Int16, 2, -2, b"\x01\x7f\xfe"),
-    (DataType::Int32, 4, -2147483648, &LEAST),
-    (DataType::Int32, 4, 0, &MIDDLE),
-    (DataType::Int32, 4, 2147483647, &GREATEST),
-    (DataType::Date, 4, -2147483648, &LEAST),
-    (DataType::Date, 4, 0, &MIDDLE),
-    (DataType::Date, 4, 2147483647, &GREATEST),
-    (DataType::Int64, 8, -9223372036854775808, &LEAST),
-    (DataType::Int64, 8, 0, &MIDDLE),
-    (DataType::Int64, 8, 9223372036854775807, &GREATEST),
-    (DataType::Int128, 16, i128::MIN, &LEAST),
-    (DataType::Int128, 16, 0, &MIDDLE),
-    (DataType::Int128, 16, i128::MAX, &GREATEST),
-];
-
-/// Numbers of types without a sign.
-const UNSIGNED: [(DataType, usize, i128, &[u8]); 9] = [
-    (DataType::UInt8, 1, 0, &LEAST),
-    (DataType::UInt8, 1, 255, &GREATEST),
-    (DataType::UInt16, 2, 0, &LEAST),
-    (DataType::UInt16, 2, 65535, &GREATEST),
-    (DataType::UInt32, 4, 0, &LEAST),
-    (DataType::UInt32, 4, 16909060, b"\x01\x01\x02\x03\x04"),
-    (DataType::UInt32, 4, 4294967295, &GREATEST),
-    (DataType::UInt64, 8, 0, &LEAST),
-    (DataType::UInt64, 8, 18446744073709551615, &GREATEST),
+/// Values of each type, and their codes: numbers at the edges and about the middle, no value, truths and texts.
+const KEYS: [(Seen, DataType, &[u8]); 49] = [
+    (Seen::Int(-128), DataType::Int8, b"\x01\x00"),
+    (Seen::Int(0), DataType::Int8, b"\x01\x80"),
+    (Seen::Int(127), DataType::Int8, b"\x01\xff"),
+    (Seen::Int(-1), DataType::Int8, b"\x01\x7f"),
+    (Seen::Int(-32768), DataType::Int16, b"\x01\x00\x00"),
+    (Seen::Int(0), DataType::Int16, b"\x01\x80\x00"),
+    (Seen::Int(32767), DataType::Int16, b"\x01\xff\xff"),
+    (Seen::Int(-2), DataType::Int16, b"\x01\x7f\xfe"),
+    (
+        Seen::Int(-2147483648),
+        DataType::Int32,
+        b"\x01\x00\x00\x00\x00",
+    ),
+    (Seen::Int(0), DataType::Int32, b"\x01\x80\x00\x00\x00"),
+    (
+        Seen::Int(2147483647),
+        DataType::Int32,
+        b"\x01\xff\xff\xff\xff",
+    ),
+    (
+        Seen::Int(-2147483648),
+        DataType::Date,
+        b"\x01\x00\x00\x00\x00",
+    ),
+    (Seen::Int(0), DataType::Date, b"\x01\x80\x00\x00\x00"),
+    (
+        Seen::Int(2147483647),
+        DataType::Date,
+        b"\x01\xff\xff\xff\xff",
+    ),
+    (
+        Seen::Int(-9223372036854775808),
+        DataType::Int64,
+        b"\x01\x00\x00\x00\x00\x00\x00\x00\x00",
+    ),
+    (
+        Seen::Int(0),
+        DataType::Int64,
+        b"\x01\x80\x00\x00\x00\x00\x00\x00\x00",
+    ),
+    (
+        Seen::Int(9223372036854775807),
+        DataType::Int64,
+        b"\x01\xff\xff\xff\xff\xff\xff\xff\xff",
+    ),
+    (
+        Seen::Int(i128::MIN),
+        DataType::Int128,
+        b"\x01\x00\x00\x00\x00\x00\x00\x00\x00\x00\x00\x00\x00\x00\x00\x00\x00",
+    ),
+    (
+        Seen::Int(0),
+        DataType::Int128,
+        b"\x01\x80\x00\x00\x00\x00\x00\x00\x00\x00\x00\x00\x00\x00\x00\x00\x00",
+    ),
+    (
+        Seen::Int(i128::MAX),
+        DataType::Int128,
+        b"\x01\xff\xff\xff\xff\xff\xff\xff\xff\xff\xff\xff\xff\xff\xff\xff\xff",
+    ),
+    (Seen::Int(0), DataType::UInt8, b"\x01\x00"),
+    (Seen::Int(255), DataType::UInt8, b"\x01\xff"),
+    (Seen::Int(0), DataType::UInt16, b"\x01\x00\x00"),
+    (Seen::Int(65535), DataType::UInt16, b"\x01\xff\xff"),
+    (Seen::Int(0), DataType::UInt32, b"\x01\x00\x00\x00\x00"),
+    (
+        Seen::Int(16909060),
+        DataType::UInt32,
+        b"\x01\x01\x02\x03\x04",
+    ),
+    (
+        Seen::Int(4294967295),
+        DataType::UInt32,
+        b"\x01\xff\xff\xff\xff",
+    ),
+    (
+        Seen::Int(0),
+        DataType::UInt64,
+        b"\x01\x00\x00\x00\x00\x00\x00\x00\x00",
+    ),
+    (
+        Seen::Int(18446744073709551615),
+        DataType::UInt64,
+        b"\x01\xff\xff\xff\xff\xff\xff\xff\xff",
+    ),
+    (Seen::Null, DataType::Int8, b"\x00"),
+    (Seen::Null, DataType::Int16, b"\x00"),
+    (Seen::Null, DataType::Int32, b"\x00"),
+    (Seen::Null, DataType::Int64, b"\x00"),
+    (Seen::Null, DataType::Int128, b"\x00"),
+    (Seen::Null, DataType::UInt8, b"\x00"),
+    (Seen::Null, DataType::UInt16, b"\x00"),
+    (Seen::Null, DataType::UInt32, b"\x00"),
+    (Seen::Null, DataType::UInt64, b"\x00"),
+    (Seen::Null, DataType::Date, b"\x00"),
+    (Seen::Null, DataType::Boolean, b"\x00"),
+    (Seen::Null, DataType::String, b"\x00"),
+    (Seen::Truth(false), DataType::Boolean, b"\x01\x00"),
+    (Seen::Truth(true), DataType::Boolean, b"\x01\x01"),
+    (Seen::Word(""), DataType::String, b"\x01\x00\x00"),
+    (Seen::Word("a"), DataType::String, b"\x01a\x00\x00"),
+    (Seen::Word("\0"), DataType::String, b"\x01\x00\x01\x00\x00"),
+    (
+        Seen::Word("\0\0"),
+        DataType::String,
+        b"\x01\x00\x01\x00\x01\x00\x00",
+    ),
+    (
+        Seen::Word("a\0b"),
+        DataType::String,
+        b"\x01a\x00\x01b\x00\x00",
+    ),
+    (
+        Seen::Word("\u{e9}\u{10348}"),
+        DataType::String,
+        b"\x01\xc3\xa9\xf0\x90\x8d\x88\x00\x00",
+    ),
 ];
 
 #[test]
-fn signed_numbers(rt: HostRuntime) -> Result<(), Fail> {
-    for (dtype, width, number, code) in &SIGNED {
-        let goes = number_goes(rt.alloc(), *number, *dtype, code, *width)?;
-        assert!(rt; goes, "{number} of {dtype:?}");
+fn keys_go_both_ways(rt: HostRuntime) -> Result<(), Fail> {
+    for (place, (seen, dtype, code)) in KEYS.iter().enumerate() {
+        assert!(rt;
+            goes_both_ways(rt.alloc(), *seen, *dtype, code)?,
+            "key {place}"
+        );
     }
     Ok(())
 }
 
-#[test]
-fn unsigned_numbers(rt: HostRuntime) -> Result<(), Fail> {
-    for (dtype, width, number, code) in &UNSIGNED {
-        let goes = number_goes(rt.alloc(), *number, *dtype, code, *width)?;
-        assert!(rt; goes, "{number} of {dtype:?}");
-    }
-    Ok(())
-}
-
-/// All types.
-const TYPES: [DataType; 12] = [
-    DataType::Int8,
-    DataType::Int16,
-    DataType::Int32,
-    DataType::Int64,
-    DataType::Int128,
-    DataType::UInt8,
-    DataType::UInt16,
-    DataType::UInt32,
-    DataType::UInt64,
-    DataType::Date,
-    DataType::Boolean,
-    DataType::String,
-];
-
-#[test]
-fn nulls(rt: HostRuntime) -> Result<(), Fail> {
-    for dtype in TYPES {
-        let goes = goes_both_ways(rt.alloc(), &[AnyValue::Null], dtype, b"\x00")?;
-        assert!(rt; goes, "{dtype:?}");
-    }
-    Ok(())
-}
-
-#[test]
-fn truths(rt: HostRuntime) -> Result<(), Fail> {
-    for (truth, code) in &[(false, b"\x01\x00"), (true, b"\x01\x01")] {
-        let value = [AnyValue::Boolean(*truth)];
-        let goes = goes_both_ways(rt.alloc(), &value, DataType::Boolean, *code)?;
-        assert!(rt; goes, "{truth}");
-    }
-    Ok(())
-}
-
-/// Whether a text has this code.
-fn text_goes(alloc: Global, text: &str, code: &[u8]) -> Result<bool, DecodeError> {
-    let value = [AnyValue::Text(Text::new(alloc, text)?)];
-    goes_both_ways(alloc, &value, DataType::String, code)
-}
-
-/// Texts and their codes.
-const TEXTS: [(&str, &[u8]); 6] = [
-    ("", b"\x01\x00\x00"),
-    ("a", b"\x01a\x00\x00"),
-    ("\0", b"\x01\x00\x01\x00\x00"),
-    ("\0\0", b"\x01\x00\x01\x00\x01\x00\x00"),
-    ("a\0b", b"\x01a\x00\x01b\x00\x00"),
-    ("\u{e9}\u{10348}", b"\x01\xc3\xa9\xf0\x90\x8d\x88\x00\x00"),
-];
-
-#[test]
-fn texts(rt: HostRuntime) -> Result<(), Fail> {
-    for (text, code) in &TEXTS {
-        assert!(rt; text_goes(rt.alloc(), text, code)?, "{text:?}");
-    }
-    Ok(())
-}
-
-/// Whether a code is written into a buffer in the place of what stood there.
-fn replaces(
-    alloc: Global,
-    values: &[AnyValue],
-    types: &[DataType],
-    code: &[u8],
-) -> Result<bool, AllocError>
-    requires { AreOfTypes types.now values.now }
-{
-    let mut key = Vec::from_slice(alloc, b"what stood there")?;
-    encode_key_into(&mut key, values, types)?;
-    Ok(key.as_slice() == code)
+/// Whether null and 258 have the code of a key of two types, and it is read as these.
+fn is_tuple(alloc: Global, code: &[u8]) -> Result<bool, DecodeError> {
+    let types = [DataType::Int64, DataType::Int16];
+    let values = [AnyValue::Null, AnyValue::Int(258)];
+    Ok(have_code(alloc, &values, &types, code)? && are_read(alloc, code, &types, &values)?)
 }
 
 #[test]
 fn tuples(rt: HostRuntime) -> Result<(), Fail> {
-    let alloc = rt.alloc();
-    let types = [DataType::Int64, DataType::Int16];
-    let code = b"\x00\x01\x81\x02";
-    let values = [AnyValue::Null, AnyValue::Int(258)];
-    assert!(rt; are_read(alloc, b"", &[], &[])?);
-    assert!(rt; replaces(alloc, &values, &types, code)?);
-    assert!(rt; are_read(alloc, code, &types, &values)?);
+    assert!(rt; are_read(rt.alloc(), b"", &[], &[])? && is_tuple(rt.alloc(), b"\x00\x01\x81\x02")?);
     Ok(())
+}
+
+/// Whether a key has this fold, and these partitions of 16 and of 2.
+fn has_partitions(key: &[u8], number: u64, of_16: usize, of_2: usize) -> bool {
+    fold(key) == number && partition_of(key, 16) == of_16 && partition_of(key, 2) == of_2
 }
 
 #[test]
 fn partitions(rt: HostRuntime) {
-    for (key, number, of_16, of_2) in [
-        (b"\x01a\x00\x00", 123008, 0, 0),
-        (b"\x01b\x00\x00", 123969, 1, 1),
-    ] {
-        assert!(rt; fold(key) == number);
-        assert!(rt; partition_of(key, 16) == of_16);
-        assert!(rt; partition_of(key, 2) == of_2);
-    }
-    assert!(rt; fold(b"") == 0);
-    assert!(rt; partition_of(b"\x01\x80\x00\x00\x00\x00\x00\x00\x02", 16) == 3);
+    let folds = has_partitions(b"\x01a\x00\x00", 123008, 0, 0)
+        && has_partitions(b"\x01b\x00\x00", 123969, 1, 1)
+        && fold(b"") == 0
+        && partition_of(b"\x01\x80\x00\x00\x00\x00\x00\x00\x02", 16) == 3;
+    assert!(rt; folds);
 }
 
 /// Whether bytes are read as no key of the types.
@@ -230,31 +235,31 @@ fn are_no_key(alloc: Global, bytes: &[u8], types: &[DataType]) -> bool {
 }
 
 /// Bytes that are no key of a type.
-const NO_KEYS: [(&[u8], DataType); 18] = [
-    (b"", DataType::Int8),
-    (b"\x02", DataType::Boolean),
-    (b"\x02\x80", DataType::Int8),
-    (b"\x00\x00", DataType::Int8),
-    (b"\x01", DataType::Int8),
-    (b"\x01\x80\x00", DataType::Int8),
-    (b"\x01\x80", DataType::Int16),
-    (b"\x01\x80\x00\x00\x00\x00\x00\x00", DataType::Int64),
-    (b"\x01\x80\x00\x00\x00\x00\x00\x00\x00", DataType::Date),
-    (b"\x01", DataType::Boolean),
-    (b"\x01\x02", DataType::Boolean),
-    (b"\x01\x01\x00", DataType::Boolean),
-    (b"\x01", DataType::String),
-    (b"\x01a", DataType::String),
-    (b"\x01a\x00", DataType::String),
-    (b"\x01\x00\x02\x00\x00", DataType::String),
-    (b"\x01a\x00\x00\x00", DataType::String),
-    (b"\x01\xff\x00\x00", DataType::String),
+const NO_KEYS: [(&[u8], &[DataType]); 19] = [
+    (b"\x00", &[]),
+    (b"", &[DataType::Int8]),
+    (b"\x02", &[DataType::Boolean]),
+    (b"\x02\x80", &[DataType::Int8]),
+    (b"\x00\x00", &[DataType::Int8]),
+    (b"\x01", &[DataType::Int8]),
+    (b"\x01\x80\x00", &[DataType::Int8]),
+    (b"\x01\x80", &[DataType::Int16]),
+    (b"\x01\x80\x00\x00\x00\x00\x00\x00", &[DataType::Int64]),
+    (b"\x01\x80\x00\x00\x00\x00\x00\x00\x00", &[DataType::Date]),
+    (b"\x01", &[DataType::Boolean]),
+    (b"\x01\x02", &[DataType::Boolean]),
+    (b"\x01\x01\x00", &[DataType::Boolean]),
+    (b"\x01", &[DataType::String]),
+    (b"\x01a", &[DataType::String]),
+    (b"\x01a\x00", &[DataType::String]),
+    (b"\x01\x00\x02\x00\x00", &[DataType::String]),
+    (b"\x01a\x00\x00\x00", &[DataType::String]),
+    (b"\x01\xff\x00\x00", &[DataType::String]),
 ];
 
 #[test]
 fn no_keys(rt: HostRuntime) {
-    for (bytes, dtype) in &NO_KEYS {
-        assert!(rt; are_no_key(rt.alloc(), bytes, &[*dtype]), "{bytes:?}");
+    for (bytes, types) in &NO_KEYS {
+        assert!(rt; are_no_key(rt.alloc(), bytes, types), "{bytes:?}");
     }
-    assert!(rt; are_no_key(rt.alloc(), b"\x00", &[]));
 }

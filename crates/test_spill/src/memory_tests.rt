@@ -1,10 +1,10 @@
 //! Calls that want memory: `rt try --test --fail-alloc N` refuses the allocation of number N.
 
-use crate::frames::{TWO_ROWS, payload_of, row_of};
+use crate::frames::{TWO_ROWS, is_two_rows, payload_of, row_of};
 use pipe_columns::{AnyValue, DataType, Text};
 use pipe_spill::{
-    DecodeError, FrameError, KeyBytes, decode_key, encode_key, read_frame, write_frame,
-    write_payloads,
+    DecodeError, FrameError, KeyBytes, SpillPayload, decode_key, encode_key, read_frame,
+    write_frame, write_payloads,
 };
 use std::alloc::AllocError;
 use std::test::Fail;
@@ -39,7 +39,7 @@ fn memory_for_a_frame(rt: HostRuntime) -> Result<(), Fail> {
     let alloc = rt.alloc();
     let rows = [row_of(alloc, 1, 2, 6)?, row_of(alloc, 2, 2, 7)?];
     match write_frame(alloc, &rows, &[DataType::Int64]) {
-        Ok(frame) => assert!(rt; frame.as_slice() == TWO_ROWS.as_slice()),
+        Ok(frame) => assert!(rt; is_two_rows(&frame)),
         Err(AllocError) => return Err("write_frame wants memory".into()),
     }
     Ok(())
@@ -48,9 +48,16 @@ fn memory_for_a_frame(rt: HostRuntime) -> Result<(), Fail> {
 #[test]
 fn memory_for_a_frame_of_payloads(rt: HostRuntime) -> Result<(), Fail> {
     let alloc = rt.alloc();
-    let payloads = [payload_of(alloc, 1, 2, 6)?, payload_of(alloc, 2, 2, 7)?];
+    let none = SpillPayload {
+        rows: Vec::new(alloc),
+    };
+    let payloads = [
+        payload_of(alloc, 1, 2, 6)?,
+        none,
+        payload_of(alloc, 2, 2, 7)?,
+    ];
     match write_payloads(alloc, &payloads, &[DataType::Int64]) {
-        Ok(frame) => assert!(rt; frame.as_slice() == TWO_ROWS.as_slice()),
+        Ok(frame) => assert!(rt; is_two_rows(&frame)),
         Err(AllocError) => return Err("write_payloads wants memory".into()),
     }
     Ok(())

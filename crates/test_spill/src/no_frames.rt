@@ -7,40 +7,84 @@ use std::alloc::{AllocError, Global};
 use std::test::Fail;
 
 /// Writes a row's place, key and inputs.
-fn write_row(alloc: Global, text: &mut String, row: &SpillRow) -> Result<(), AllocError> {
-    let key = row.key.as_slice();
+fn write_row(text: &mut String, row: &SpillRow) -> Result<(), AllocError> {
     let place = row.place;
+    let key = row.key.as_slice();
     let values = row.values.as_slice();
-    let line = format!(in alloc; "{}.{} {key:?} {values:?}\n", place.chunk, place.row)?;
-    text.push_str(line.as_str())
+    write!(text, "{}.{} {key:?} {values:?}\n", place.chunk, place.row)
 }
 
 /// What bytes are read as: each row's place, key and inputs, or the error.
-fn answer_of(
+fn write_answer(
     alloc: Global,
+    text: &mut String,
     bytes: &[u8],
-    key_type: DataType,
-    input_type: DataType,
-) -> Result<String, AllocError> {
-    match read_frame(alloc, bytes, &[key_type], &[input_type]) {
+    dtype: DataType,
+) -> Result<(), AllocError> {
+    match read_frame(alloc, bytes, &[dtype], &[dtype]) {
         Ok(rows) => {
-            let mut text = String::new(alloc);
             for row in &rows {
-                write_row(alloc, &mut text, row)?;
+                write_row(text, row)?;
             }
-            Ok(text)
+            Ok(())
         }
-        Err(error) => format!(in alloc; "{error:?}"),
+        Err(error) => write!(text, "{error:?}"),
     }
 }
 
+/// The frame of a row of texts.
+const WORDS: [u8; 32] = [
+    0, 0, 0, 0, 0, 0, 0, 1, 0, 0, 0, 7, 0, 0, 0, 0, 0, 0, 0, 0, 0, 0, 0, 4, //
+    1, b'k', 0, 0, 1, b'v', 0, 0,
+];
+
+/// The same with a key that is no text.
+const NO_KEY: [u8; 32] = [
+    0, 0, 0, 0, 0, 0, 0, 1, 0, 0, 0, 7, 0, 0, 0, 0, 0, 0, 0, 0, 0, 0, 0, 4, //
+    1, 255, 0, 0, 1, b'v', 0, 0,
+];
+
+/// The same with an input that is none.
+const NO_INPUT: [u8; 32] = [
+    0, 0, 0, 0, 0, 0, 0, 1, 0, 0, 0, 7, 0, 0, 0, 0, 0, 0, 0, 0, 0, 0, 0, 4, //
+    1, b'k', 0, 0, 1, 255, 0, 0,
+];
+
+/// The frame of two rows with one byte more.
+const LONGER: [u8; 77] = [
+    0, 0, 0, 0, 0, 0, 0, 2, //
+    0, 0, 0, 0, 0, 0, 0, 1, 0, 0, 0, 0, 0, 0, 0, 9, //
+    1, 128, 0, 0, 0, 0, 0, 0, 2, 1, 128, 0, 0, 0, 0, 0, 0, 6, //
+    0, 0, 0, 0, 0, 0, 0, 2, 0, 0, 0, 0, 0, 0, 0, 9, //
+    1, 128, 0, 0, 0, 0, 0, 0, 2, 1, 128, 0, 0, 0, 0, 0, 0, 7, 0,
+];
+
+/// Bytes, the type of key and input, and what they are read as.
+const READ: [(&[u8], DataType, &str); 6] = [
+    (
+        &TWO_ROWS,
+        DataType::Int64,
+        "0.1 [1, 128, 0, 0, 0, 0, 0, 0, 2] [Int(6)]\n\
+        0.2 [1, 128, 0, 0, 0, 0, 0, 0, 2] [Int(7)]\n",
+    ),
+    (&LONGER, DataType::Int64, "NotAFrame"),
+    (&[0; 8], DataType::Int64, ""),
+    (
+        &WORDS,
+        DataType::String,
+        "7.0 [1, 107, 0, 0] [Text(Text { inner: \"v\" })]\n",
+    ),
+    (&NO_KEY, DataType::String, "NotAFrame"),
+    (&NO_INPUT, DataType::String, "NotAFrame"),
+];
+
 #[test]
-fn rows_are_read_back(rt: HostRuntime) -> Result<(), Fail> {
-    let alloc = rt.alloc();
-    let answer = answer_of(alloc, &TWO_ROWS, DataType::Int64, DataType::Int64)?;
-    let want = "0.1 [1, 128, 0, 0, 0, 0, 0, 0, 2] [Int(6)]\n\
-        0.2 [1, 128, 0, 0, 0, 0, 0, 0, 2] [Int(7)]\n";
-    assert!(rt; answer.as_str() == want, "{answer}");
+fn frames_are_read(rt: HostRuntime) -> Result<(), Fail> {
+    for (bytes, dtype, want) in &READ {
+        let mut answer = String::new(rt.alloc());
+        write_answer(rt.alloc(), &mut answer, bytes, *dtype)?;
+        assert!(rt; answer.as_str() == *want, "{answer}");
+    }
     Ok(())
 }
 
@@ -71,60 +115,7 @@ fn bad_frames(rt: HostRuntime) {
         }
         assert!(rt; is_refused(rt.alloc(), &bytes), "{byte} at {at}");
     }
-}
-
-#[test]
-fn frames_that_are_too_short(rt: HostRuntime) {
     for len in [0, 7, 9, 75] {
         assert!(rt; is_refused(rt.alloc(), &TWO_ROWS[..len]), "{len} bytes");
     }
-}
-
-/// The frame with one byte more.
-fn longer(alloc: Global) -> Result<Vec<u8>, AllocError> {
-    let mut bytes = Vec::from_slice(alloc, &TWO_ROWS)?;
-    bytes.push(0)?;
-    Ok(bytes)
-}
-
-#[test]
-fn a_frame_that_is_too_long(rt: HostRuntime) -> Result<(), Fail> {
-    assert!(rt; is_refused(rt.alloc(), &longer(rt.alloc())?));
-    Ok(())
-}
-
-#[test]
-fn a_frame_of_no_rows(rt: HostRuntime) -> Result<(), Fail> {
-    let answer = answer_of(rt.alloc(), &[0; 8], DataType::Int64, DataType::Int64)?;
-    assert!(rt; answer.is_empty(), "{answer}");
-    Ok(())
-}
-
-/// What a frame of a row of texts with this key and this input of one byte is read as.
-fn texts_answer(alloc: Global, key: u8, input: u8) -> Result<String, AllocError> {
-    let frame = [
-        0, 0, 0, 0, 0, 0, 0, 1, 0, 0, 0, 7, 0, 0, 0, 0, 0, 0, 0, 0, 0, 0, 0, 4, //
-        1, key, 0, 0, 1, input, 0, 0,
-    ];
-    answer_of(alloc, &frame, DataType::String, DataType::String)
-}
-
-/// Bytes of a key and of an input, and what the frame is read as.
-const TEXTS: [(u8, u8, &str); 3] = [
-    (
-        b'k',
-        b'v',
-        "7.0 [1, 107, 0, 0] [Text(Text { inner: \"v\" })]\n",
-    ),
-    (255, b'v', "NotAFrame"),
-    (b'k', 255, "NotAFrame"),
-];
-
-#[test]
-fn texts_in_frames(rt: HostRuntime) -> Result<(), Fail> {
-    for (key, input, want) in &TEXTS {
-        let answer = texts_answer(rt.alloc(), *key, *input)?;
-        assert!(rt; answer.as_str() == *want, "{answer}");
-    }
-    Ok(())
 }

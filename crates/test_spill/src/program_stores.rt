@@ -9,37 +9,39 @@ use std::fs;
 use std::test::Fail;
 use tool_stores::{ProgramStores, StoreMaker};
 
-/// Whether a store gives a frame back that it is given.
-fn gives_back<S: SpillStore>(rt: HostRuntime, store: &mut S) -> Result<bool, Fail>
+/// Whether a store has no file at a path before its first put, and then gives its frame back.
+fn gives_back<S: SpillStore>(rt: HostRuntime, store: &mut S, path: &str) -> Result<bool, Fail>
     requires { S.held store.old < 2 ^ 64 - 1 }
 {
+    if fs::metadata(&rt, path).is_ok() {
+        return Ok(false);
+    }
     let number = store.put(b"frame")?;
     let mut bytes = Vec::new(rt.alloc());
     store.get(number, &mut bytes)?;
     Ok(bytes.as_slice() == b"frame".as_slice())
 }
 
-#[test]
-fn a_store_in_memory_gives_its_frame_back(rt: HostRuntime) -> Result<(), Fail> {
+/// Whether that is so of a store of the program, in memory or in a folder.
+fn made_gives_back(rt: HostRuntime, dir: Option<&Text>, path: &str) -> Result<bool, Fail> {
     let mut stores = ProgramStores::new(&rt, rt.alloc());
-    let mut store = stores.make(None, 3)?;
-    assert!(rt; gives_back(rt, &mut store)?);
-    Ok(())
+    let mut store = stores.make(dir, 3)?;
+    gives_back(rt, &mut store, path)
 }
 
-/// Whether a store in a folder has no file before its first put, and then gives its frame back.
-fn writes_late(rt: HostRuntime, dir: &str, path: &str) -> Result<bool, Fail> {
-    let dir = Text::new(rt.alloc(), dir)?;
-    let mut stores = ProgramStores::new(&rt, rt.alloc());
-    let mut store = stores.make(Some(&dir), 3)?;
-    Ok(fs::metadata(&rt, path).is_err() && gives_back(rt, &mut store)?)
+/// The file of the store in the folder.
+const PATH: &str = "made/partition-3.spill";
+
+#[test]
+fn a_store_in_memory_gives_its_frame_back(rt: HostRuntime) -> Result<(), Fail> {
+    assert!(rt; made_gives_back(rt, None, PATH)?);
+    Ok(())
 }
 
 #[test]
 fn a_store_in_a_folder_writes_the_file_of_its_partition(rt: HostRuntime) -> Result<(), Fail> {
     fs::create_dir(&rt, "made")?;
-    assert!(rt; writes_late(rt, "made", "made/partition-3.spill")?);
-    assert!(rt; holds(rt, "made/partition-3.spill", "frame")?);
-    fs::remove_dir_all(&rt, "made")?;
+    let dir = Text::new(rt.alloc(), "made")?;
+    assert!(rt; made_gives_back(rt, Some(&dir), PATH)? && holds(rt, PATH, "frame")?);
     Ok(())
 }

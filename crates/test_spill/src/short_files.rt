@@ -1,6 +1,6 @@
 //! Stores over a file system whose files take few bytes and then fail.
 
-use crate::stores::{add, get_line, put_line};
+use crate::stores::{write_get, write_put};
 use pipe_columns::Text;
 use pipe_spill::FileStore;
 use std::alloc::{AllocError, Allocator, Global};
@@ -133,21 +133,24 @@ impl<'a> Files for ShortFiles<'a> {
     }
 }
 
-/// A call of a store.
+/// A call of a store, or what is done to its file.
 enum Call {
     /// A put into a file that takes so many bytes at once, and so many in all.
     Put(usize, usize, &'static str),
     /// A get of the frame of a number.
     Get(u64),
+    /// The file of a path is made to hold a text.
+    Overwrite(&'static str, &'static str),
 }
 
-/// What a store answers to a call, as a line.
-fn line_of<'a>(
-    alloc: Global,
+/// Writes what a store answers to a call, as a line.
+fn write_line<'a>(
+    rt: HostRuntime,
+    lines: &mut String,
     store: &mut FileStore<ShortFiles<'a>>,
     room: &Cell<Room>,
     call: &Call,
-) -> Result<String, AllocError> {
+) -> Result<(), Fail> {
     match call {
         Call::Put(at_once, left, frame) => {
             room.set(Room {
@@ -155,33 +158,11 @@ fn line_of<'a>(
                 left: *left,
                 fault: room.get().fault,
             });
-            put_line(alloc, store, *frame)
+            Ok(write_put(lines, store, *frame)?)
         }
-        Call::Get(number) => get_line(alloc, store, *number),
+        Call::Get(number) => Ok(write_get(rt.alloc(), lines, store, *number)?),
+        Call::Overwrite(path, text) => Ok(fs::write(&rt, *path, *text)?),
     }
-}
-
-/// Puts what a store answers to calls behind other lines.
-fn add_lines<'a>(
-    lines: &mut String,
-    alloc: Global,
-    store: &mut FileStore<ShortFiles<'a>>,
-    room: &Cell<Room>,
-    calls: &[Call],
-) -> Result<(), AllocError> {
-    for call in calls {
-        add(lines, line_of(alloc, store, room, call)?)?;
-    }
-    Ok(())
-}
-
-/// No room, and how a write then fails.
-fn no_room(fault: ErrorKind) -> Cell<Room> {
-    Cell::new(Room {
-        at_once: 0,
-        left: 0,
-        fault,
-    })
 }
 
 /// The store of partition 0 in a folder of such files.
@@ -194,13 +175,38 @@ fn short_store<'a>(
     FileStore::new(ShortFiles { rt, room }, rt.alloc(), &dir, 0)
 }
 
-/// What a store in a folder answers to calls.
-fn refused_lines(rt: HostRuntime, dir: &str, calls: &[Call]) -> Result<String, AllocError> {
-    let room = no_room(ErrorKind::Other);
+/// Writes what a store in a folder answers to calls, where a write without room fails so.
+fn write_lines(
+    rt: HostRuntime,
+    lines: &mut String,
+    dir: &str,
+    fault: ErrorKind,
+    calls: &[Call],
+) -> Result<(), Fail> {
+    let room = Cell::new(Room {
+        at_once: 0,
+        left: 0,
+        fault,
+    });
     let mut store = short_store(rt, dir, &room)?;
+    for call in calls {
+        write_line(rt, lines, &mut store, &room, call)?;
+    }
+    Ok(())
+}
+
+/// Whether a store in a new folder answers these lines to calls.
+fn answers(
+    rt: HostRuntime,
+    dir: &str,
+    fault: ErrorKind,
+    calls: &[Call],
+    want: &str,
+) -> Result<bool, Fail> {
+    fs::create_dir(&rt, dir)?;
     let mut lines = String::new(rt.alloc());
-    add_lines(&mut lines, rt.alloc(), &mut store, &room, calls)?;
-    Ok(lines)
+    write_lines(rt, &mut lines, dir, fault, calls)?;
+    Ok(lines.as_str() == want)
 }
 
 /// Calls of which the second finds too little room.
@@ -217,40 +223,25 @@ const REFUSED: [Call; 6] = [
 fn a_refused_put_spoils_nothing(rt: HostRuntime) -> Result<(), Fail> {
     let want = "put Ok(0)\nput Err(Failed)\nget Ok(()) first\n\
         put Ok(1)\nget Ok(()) next\nget Ok(()) first\n";
-    fs::create_dir(&rt, "short")?;
-    let lines = refused_lines(rt, "short", &REFUSED)?;
-    assert!(rt; lines.as_str() == want, "{lines}");
-    fs::remove_dir_all(&rt, "short")?;
+    assert!(rt; answers(rt, "short", ErrorKind::Other, &REFUSED, want)?);
     Ok(())
 }
 
-/// Calls of a file that takes no byte at once, and then of one that does.
-const STARVED: [Call; 5] = [
+/// Calls of a file that takes no byte at once, and then of one that does, but is cut before the second frame is read.
+const STARVED: [Call; 7] = [
     Call::Put(0, 9, "frame"),
     Call::Put(0, 0, "frame"),
     Call::Put(0, 0, ""),
     Call::Get(0),
     Call::Put(9, 9, "frame"),
+    Call::Overwrite("starved/partition-0.spill", "fram"),
+    Call::Get(1),
 ];
-
-/// What a store answers to these calls, and to a get of the second frame when its file was cut.
-fn starved_lines(rt: HostRuntime, dir: &str, path: &str) -> Result<String, Fail> {
-    let room = no_room(ErrorKind::OutOfMemory);
-    let mut store = short_store(rt, dir, &room)?;
-    let mut lines = String::new(rt.alloc());
-    add_lines(&mut lines, rt.alloc(), &mut store, &room, &STARVED)?;
-    fs::write(&rt, path, "fram")?;
-    add_lines(&mut lines, rt.alloc(), &mut store, &room, &[Call::Get(1)])?;
-    Ok(lines)
-}
 
 #[test]
 fn files_that_take_or_give_too_little(rt: HostRuntime) -> Result<(), Fail> {
     let want = "put Err(Failed)\nput Err(Memory)\nput Ok(0)\nget Ok(()) \n\
         put Ok(1)\nget Err(Failed) \n";
-    fs::create_dir(&rt, "starved")?;
-    let lines = starved_lines(rt, "starved", "starved/partition-0.spill")?;
-    assert!(rt; lines.as_str() == want, "{lines}");
-    fs::remove_dir_all(&rt, "starved")?;
+    assert!(rt; answers(rt, "starved", ErrorKind::OutOfMemory, &STARVED, want)?);
     Ok(())
 }

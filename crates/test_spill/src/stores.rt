@@ -9,96 +9,111 @@ use std::alloc::{AllocError, Global};
 use std::fs;
 use std::test::Fail;
 
-/// The answer to a put, as a line.
-pub(crate) fn put_line<S: SpillStore>(
-    alloc: Global,
+/// Writes the answer to a put, as a line.
+pub(crate) fn write_put<S: SpillStore>(
+    lines: &mut String,
     store: &mut S,
     frame: &str,
-) -> Result<String, AllocError> {
+) -> Result<(), AllocError> {
     if store.held() == u64::MAX {
-        return Ok(String::new(alloc));
+        return Ok(());
     }
     let answer = store.put(frame.as_bytes());
-    format!(in alloc; "put {answer:?}\n")
+    write!(lines, "put {answer:?}\n")
 }
 
-/// The answer to a get and the text that it leaves, as a line.
-pub(crate) fn get_line<S: SpillStore>(
+/// Writes the answer to a get and the text that it leaves, as a line.
+pub(crate) fn write_get<S: SpillStore>(
     alloc: Global,
+    lines: &mut String,
     store: &mut S,
     number: u64,
-) -> Result<String, AllocError> {
+) -> Result<(), AllocError> {
     if number >= store.held() {
-        return Ok(String::new(alloc));
+        return Ok(());
     }
     let mut into = Vec::from_slice(alloc, b"before")?;
     let answer = store.get(number, &mut into);
-    let text = String::from_utf8_lossy(alloc, &into)?;
-    format!(in alloc; "get {answer:?} {text}\n")
-}
-
-/// Puts a line behind others.
-pub(crate) fn add(lines: &mut String, line: String) -> Result<(), AllocError> {
-    lines.push_str(line.as_str())
+    write!(
+        lines,
+        "get {answer:?} {}\n",
+        str::from_utf8(&into).unwrap_or("no text")
+    )
 }
 
 /// Puts two frames and gets each that is held. It writes down the answers, a line each.
-fn put_and_get<S: SpillStore>(alloc: Global, store: &mut S) -> Result<String, AllocError> {
-    let mut lines = String::new(alloc);
-    for frame in ["one", "second"] {
-        add(&mut lines, put_line(alloc, store, frame)?)?;
-    }
+fn put_and_get<S: SpillStore>(
+    alloc: Global,
+    lines: &mut String,
+    store: &mut S,
+) -> Result<(), AllocError> {
+    write_put(lines, store, "one")?;
+    write_put(lines, store, "second")?;
     for number in 0..store.held() {
-        add(&mut lines, get_line(alloc, store, number)?)?;
+        write_get(alloc, lines, store, number)?;
     }
-    Ok(lines)
+    Ok(())
 }
 
-/// The answers of a store in memory of which one call fails.
-fn failing_lines(alloc: Global, failing: u64) -> Result<String, AllocError> {
+/// Whether a store answers these lines.
+fn answers<S: SpillStore>(alloc: Global, store: &mut S, want: &str) -> Result<bool, AllocError> {
+    let mut lines = String::new(alloc);
+    put_and_get(alloc, &mut lines, store)?;
+    Ok(lines.as_str() == want)
+}
+
+/// Whether a store lends just these frames.
+fn are_lent(store: &MemoryStore, frames: &[&str]) -> bool {
+    for (held, frame) in store.frames().iter().zip(frames) {
+        if held.as_slice() != frame.as_bytes() {
+            return false;
+        }
+    }
+    store.frames().len() == frames.len()
+}
+
+/// Whether a store in memory of which one call fails answers these lines, and lends these frames.
+fn holds_frames(
+    alloc: Global,
+    failing: u64,
+    want: &str,
+    frames: &[&str],
+) -> Result<bool, AllocError> {
     let mut store = MemoryStore::new(alloc, Vec::from_slice(alloc, &[failing])?);
-    put_and_get(alloc, &mut store)
+    Ok(answers(alloc, &mut store, want)? && are_lent(&store, frames))
 }
 
-/// Numbers of calls that fail, and what the store answers then.
-const FAILING: [(u64, &str); 5] = [
+/// Numbers of calls that fail, what the store answers then, and the frames that it lends.
+const FAILING: [(u64, &str, &[&str]); 5] = [
     (
         9,
         "put Ok(0)\nput Ok(1)\nget Ok(()) one\nget Ok(()) second\n",
+        &["one", "second"],
     ),
-    (0, "put Err(Failed)\nput Ok(0)\nget Ok(()) second\n"),
-    (1, "put Ok(0)\nput Err(Failed)\nget Ok(()) one\n"),
+    (
+        0,
+        "put Err(Failed)\nput Ok(0)\nget Ok(()) second\n",
+        &["second"],
+    ),
+    (1, "put Ok(0)\nput Err(Failed)\nget Ok(()) one\n", &["one"]),
     (
         2,
         "put Ok(0)\nput Ok(1)\nget Err(Failed) \nget Ok(()) second\n",
+        &["one", "second"],
     ),
     (
         3,
         "put Ok(0)\nput Ok(1)\nget Ok(()) one\nget Err(Failed) \n",
+        &["one", "second"],
     ),
 ];
 
 #[test]
 fn listed_calls_of_a_store_fail(rt: HostRuntime) -> Result<(), Fail> {
-    for (failing, want) in &FAILING {
-        let lines = failing_lines(rt.alloc(), *failing)?;
-        assert!(rt; lines.as_str() == *want, "call {failing} fails: {lines}");
+    for (failing, want, frames) in &FAILING {
+        let holds = holds_frames(rt.alloc(), *failing, want, frames)?;
+        assert!(rt; holds, "call {failing} fails");
     }
-    Ok(())
-}
-
-/// Whether a store lends the two frames that it was given.
-fn are_lent(store: &MemoryStore) -> bool {
-    let frames = store.frames();
-    frames.len() == 2 && frames[1].as_slice() == b"second".as_slice()
-}
-
-#[test]
-fn frames_of_a_store_are_lent(rt: HostRuntime) -> Result<(), Fail> {
-    let alloc = rt.alloc();
-    let mut store = MemoryStore::new(alloc, Vec::new(alloc));
-    put_and_get(alloc, &mut store)?;
-    assert!(rt; are_lent(&store));
     Ok(())
 }
 
@@ -118,11 +133,10 @@ fn file_store(
 }
 
 /// Whether a store in a file of a folder answers these lines.
-fn answers(rt: HostRuntime, dir: &str, want: &str) -> Result<bool, AllocError> {
+fn file_answers(rt: HostRuntime, dir: &str, want: &str) -> Result<bool, AllocError> {
     let mut store = file_store(rt, dir, 3)?;
     share(&store);
-    let lines = put_and_get(rt.alloc(), &mut store)?;
-    Ok(lines.as_str() == want)
+    answers(rt.alloc(), &mut store, want)
 }
 
 /// Whether a file holds this text.
@@ -135,37 +149,38 @@ fn frames_in_a_file_are_read_back(rt: HostRuntime) -> Result<(), Fail> {
     let both = "put Ok(0)\nput Ok(1)\nget Ok(()) one\nget Ok(()) second\n";
     fs::create_dir(&rt, "spills")?;
     fs::write(&rt, "spills/partition-3.spill", "of a former run")?;
-    assert!(rt; answers(rt, "spills", both)?);
-    assert!(rt; holds(rt, "spills/partition-3.spill", "onesecond")?);
-    fs::remove_dir_all(&rt, "spills")?;
+    let answers = file_answers(rt, "spills", both)?;
+    assert!(rt; answers && holds(rt, "spills/partition-3.spill", "onesecond")?);
     Ok(())
 }
 
 #[test]
 fn folders_that_are_absent(rt: HostRuntime) -> Result<(), Fail> {
     let refused = "put Err(Failed)\nput Err(Failed)\n";
-    for name in &["absent", ""] {
-        assert!(rt; answers(rt, name, refused)?, "in {name:?}");
-    }
-    for path in &["/partition-3.spill", "partition-3.spill"] {
-        assert!(rt; fs::metadata(&rt, path).is_err(), "{path}");
-    }
+    let answers = file_answers(rt, "absent", refused)? && file_answers(rt, "", refused)?;
+    let none = fs::metadata(&rt, "/partition-3.spill").is_err()
+        && fs::metadata(&rt, "partition-3.spill").is_err();
+    assert!(rt; answers && none);
     Ok(())
 }
 
-/// A store of one frame whose file was taken away.
-fn without_file(rt: HostRuntime) -> Result<FileStore<HostRuntime>, Fail> {
-    let mut store = file_store(rt, ".", 7)?;
+/// Whether a store answers these lines when its file with one frame was taken away.
+fn answers_without_file(
+    rt: HostRuntime,
+    store: &mut FileStore<HostRuntime>,
+    want: &str,
+) -> Result<bool, Fail>
+    requires { held_of store.old.frames ≡ 0 }
+{
     store.put(b"frame")?;
     fs::remove_file(&rt, "./partition-7.spill")?;
-    Ok(store)
+    Ok(answers(rt.alloc(), store, want)?)
 }
 
 #[test]
 fn a_file_that_was_taken_away(rt: HostRuntime) -> Result<(), Fail> {
     let refused = "put Err(Failed)\nput Err(Failed)\nget Err(Failed) \n";
-    let mut store = without_file(rt)?;
-    let lines = put_and_get(rt.alloc(), &mut store)?;
-    assert!(rt; lines.as_str() == refused);
+    let mut store = file_store(rt, ".", 7)?;
+    assert!(rt; answers_without_file(rt, &mut store, refused)?);
     Ok(())
 }

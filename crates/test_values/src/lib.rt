@@ -4,6 +4,8 @@
 #[cfg(test)]
 mod inputs;
 #[cfg(test)]
+mod made;
+#[cfg(test)]
 mod native;
 #[cfg(test)]
 mod plain;

@@ -3,14 +3,14 @@
 use pipe_columns::DataType;
 use pipe_native::NumericNative;
 use std::cmp::Ordering;
-use std::test::Fail;
 
-/// Whether a type keeps its least and greatest number, orders them by value, and wraps from the
-/// greatest to the least and back.
-fn wraps_at<K: NumericNative>(least: i128, greatest: i128) -> bool {
+/// Whether a type has a name, keeps its least and greatest number, orders them by value, and wraps
+/// from the greatest to the least and back.
+fn wraps_at<K: NumericNative>(dtype: DataType, least: i128, greatest: i128) -> bool {
     let low = K::narrowed(least);
     let high = K::narrowed(greatest);
-    low.widened() == least
+    K::dtype() == dtype
+        && low.widened() == least
         && high.widened() == greatest
         && low.compare(high) == Ordering::Less
         && high.compare(low) == Ordering::Greater
@@ -28,43 +28,25 @@ fn narrows_past<K: NumericNative>(least: i128, greatest: i128) -> bool {
     }
 }
 
-#[test]
-fn signed_edges(rt: HostRuntime) -> Result<(), Fail> {
-    assert!(rt; wraps_at::<i8>(-128, 127));
-    assert!(rt; narrows_past::<i8>(-128, 127));
-    assert!(rt; wraps_at::<i16>(-32768, 32767));
-    assert!(rt; narrows_past::<i16>(-32768, 32767));
-    assert!(rt; wraps_at::<i32>(-2147483648, 2147483647));
-    assert!(rt; narrows_past::<i32>(-2147483648, 2147483647));
-    assert!(rt; wraps_at::<i64>(-9223372036854775808, 9223372036854775807));
-    assert!(rt; narrows_past::<i64>(-9223372036854775808, 9223372036854775807));
-    assert!(rt; wraps_at::<i128>(i128::MIN, i128::MAX));
-    Ok(())
+/// Whether a type has a name and these edges.
+fn has_edges<K: NumericNative>(dtype: DataType, least: i128, greatest: i128) -> bool {
+    wraps_at::<K>(dtype, least, greatest) && narrows_past::<K>(least, greatest)
 }
 
 #[test]
-fn unsigned_edges(rt: HostRuntime) -> Result<(), Fail> {
-    assert!(rt; wraps_at::<u8>(0, 255));
-    assert!(rt; narrows_past::<u8>(0, 255));
-    assert!(rt; wraps_at::<u16>(0, 65535));
-    assert!(rt; narrows_past::<u16>(0, 65535));
-    assert!(rt; wraps_at::<u32>(0, 4294967295));
-    assert!(rt; narrows_past::<u32>(0, 4294967295));
-    assert!(rt; wraps_at::<u64>(0, 18446744073709551615));
-    assert!(rt; narrows_past::<u64>(0, 18446744073709551615));
-    Ok(())
+fn signed_edges(rt: HostRuntime) {
+    let long = has_edges::<i64>(DataType::Int64, -9223372036854775808, 9223372036854775807);
+    assert!(rt; has_edges::<i8>(DataType::Int8, -128, 127));
+    assert!(rt; has_edges::<i16>(DataType::Int16, -32768, 32767));
+    assert!(rt; has_edges::<i32>(DataType::Int32, -2147483648, 2147483647));
+    assert!(rt; long);
+    assert!(rt; wraps_at::<i128>(DataType::Int128, i128::MIN, i128::MAX));
 }
 
 #[test]
-fn names(rt: HostRuntime) -> Result<(), Fail> {
-    assert_eq!(rt; i8::dtype(), DataType::Int8);
-    assert_eq!(rt; i16::dtype(), DataType::Int16);
-    assert_eq!(rt; i32::dtype(), DataType::Int32);
-    assert_eq!(rt; i64::dtype(), DataType::Int64);
-    assert_eq!(rt; i128::dtype(), DataType::Int128);
-    assert_eq!(rt; u8::dtype(), DataType::UInt8);
-    assert_eq!(rt; u16::dtype(), DataType::UInt16);
-    assert_eq!(rt; u32::dtype(), DataType::UInt32);
-    assert_eq!(rt; u64::dtype(), DataType::UInt64);
-    Ok(())
+fn unsigned_edges(rt: HostRuntime) {
+    assert!(rt; has_edges::<u8>(DataType::UInt8, 0, 255));
+    assert!(rt; has_edges::<u16>(DataType::UInt16, 0, 65535));
+    assert!(rt; has_edges::<u32>(DataType::UInt32, 0, 4294967295));
+    assert!(rt; has_edges::<u64>(DataType::UInt64, 0, 18446744073709551615));
 }

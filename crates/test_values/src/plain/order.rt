@@ -1,98 +1,135 @@
 //! Groups in the order of their first rows.
 
-use super::{Given, NULLS, Wanted, answered};
-use std::alloc::{AllocError, Global};
-use std::process::Abort;
+use super::{BY_K, Case, NULLS, check};
+use crate::made::{Row, Seen};
 use std::test::Fail;
 
-/// Rows whose key and value are each of some numbers.
-fn rows_of(alloc: Global, numbers: &[i64]) -> Result<Vec<Given>, AllocError> {
-    let mut rows = Vec::new(alloc);
-    for number in numbers {
-        rows.push([None, Some(*number), Some(*number)])?;
-    }
-    Ok(rows)
-}
+const FIVE: &[Row] = &[
+    &[Seen::Null, Seen::Int(5), Seen::Int(5)],
+    &[Seen::Null, Seen::Int(3), Seen::Int(3)],
+    &[Seen::Null, Seen::Int(1), Seen::Int(1)],
+    &[Seen::Null, Seen::Int(2), Seen::Int(2)],
+    &[Seen::Null, Seen::Int(4), Seen::Int(4)],
+];
 
-/// Asserts what some rows answer by k, for what is asked.
-fn check(
-    rt: &(impl Abort + Alloc<A = Global>),
-    rows: &[Given],
-    cases: &[(Wanted, &str)],
-) -> Result<(), Fail> {
-    let alloc = rt.alloc();
-    for (wanted, due) in cases {
-        let text = answered(alloc, &["k"], *wanted, &[rows])?;
-        assert!(rt; text.as_str() == *due, "{text} in place of {due}");
-    }
-    Ok(())
-}
+const ELEVEN: &[Row] = &[
+    &[Seen::Null, Seen::Int(0), Seen::Int(0)],
+    &[Seen::Null, Seen::Int(1), Seen::Int(1)],
+    &[Seen::Null, Seen::Int(2), Seen::Int(2)],
+    &[Seen::Null, Seen::Int(3), Seen::Int(3)],
+    &[Seen::Null, Seen::Int(4), Seen::Int(4)],
+    &[Seen::Null, Seen::Int(5), Seen::Int(5)],
+    &[Seen::Null, Seen::Int(6), Seen::Int(6)],
+    &[Seen::Null, Seen::Int(7), Seen::Int(7)],
+    &[Seen::Null, Seen::Int(8), Seen::Int(8)],
+    &[Seen::Null, Seen::Int(9), Seen::Int(9)],
+    &[Seen::Null, Seen::Int(10), Seen::Int(10)],
+];
+
+/// The greatest length of a slice, and the last row at which one may begin.
+const MOST: usize = 18446744073709551615;
+
+const LAST: i64 = 9223372036854775807;
+
+const SLICES: &[Case] = &[
+    (
+        BY_K,
+        (Some((2, 10)), false, 1),
+        &[FIVE],
+        " 3 3 1; 4 4 1; 5 5 1;",
+    ),
+    (BY_K, (Some((0, 2)), false, 1), &[FIVE], " 1 1 1; 2 2 1;"),
+    (
+        BY_K,
+        (Some((1, MOST)), false, 1),
+        &[FIVE],
+        " 2 2 1; 3 3 1; 4 4 1; 5 5 1;",
+    ),
+    (BY_K, (Some((LAST, MOST)), false, 1), &[FIVE], ""),
+    (BY_K, (Some((0, 0)), false, 1), &[FIVE], ""),
+    (BY_K, (Some((11, 1)), false, 1), &[ELEVEN], ""),
+    (BY_K, (Some((10, 1)), false, 1), &[ELEVEN], " 10 10 1;"),
+    (
+        BY_K,
+        (Some((3, 4)), false, 2),
+        &[ELEVEN],
+        " 7 7 1; 9 9 1; 0 0 1; 2 2 1;",
+    ),
+    (BY_K, (Some((11, 1)), false, 2), &[ELEVEN], ""),
+];
 
 #[test]
 fn slices(rt: HostRuntime) -> Result<(), Fail> {
-    let alloc = rt.alloc();
-    let most = 18446744073709551615;
-    let last = 9223372036854775807;
-    let five = rows_of(alloc, &[5, 3, 1, 2, 4])?;
-    let cases: &[(Wanted, &str)] = &[
-        ((Some((2, 10)), false, 1), " 3 3 1; 4 4 1; 5 5 1;"),
-        ((Some((0, 2)), false, 1), " 1 1 1; 2 2 1;"),
-        ((Some((1, most)), false, 1), " 2 2 1; 3 3 1; 4 4 1; 5 5 1;"),
-        ((Some((last, most)), false, 1), ""),
-        ((Some((0, 0)), false, 1), ""),
-    ];
-    check(&rt, &five, cases)?;
-    let eleven = rows_of(alloc, &[0, 1, 2, 3, 4, 5, 6, 7, 8, 9, 10])?;
-    let cases: &[(Wanted, &str)] = &[
-        ((Some((11, 1)), false, 1), ""),
-        ((Some((10, 1)), false, 1), " 10 10 1;"),
-        ((Some((3, 4)), false, 2), " 7 7 1; 9 9 1; 0 0 1; 2 2 1;"),
-        ((Some((11, 1)), false, 2), ""),
-    ];
-    check(&rt, &eleven, cases)
+    check(&rt, SLICES)
 }
+
+const FRONT: &[Row] = &[
+    &[Seen::Null, Seen::Int(4), Seen::Int(1)],
+    &[Seen::Null, Seen::Int(1), Seen::Int(2)],
+];
+
+const BACK: &[Row] = &[
+    &[Seen::Null, Seen::Int(2), Seen::Int(3)],
+    &[Seen::Null, Seen::Int(1), Seen::Int(4)],
+];
+
+const KEPT_ORDER: &[Case] = &[
+    (
+        BY_K,
+        (None, true, 1),
+        &[FRONT, BACK],
+        " 4 1 1; 1 6 2; 2 3 1;",
+    ),
+    (BY_K, (Some((1, 1)), true, 1), &[FRONT, BACK], " 1 6 2;"),
+    (BY_K, (Some((0, 0)), true, 1), &[FRONT, BACK], ""),
+    (
+        BY_K,
+        (None, false, 1),
+        &[FRONT, BACK],
+        " 1 6 2; 2 3 1; 4 1 1;",
+    ),
+    (
+        BY_K,
+        (None, true, 2),
+        &[FRONT, BACK],
+        " 4 1 1; 1 6 2; 2 3 1;",
+    ),
+    (BY_K, (Some((1, 1)), true, 2), &[FRONT, BACK], " 1 6 2;"),
+    (BY_K, (None, true, 1), TEN, " 3 3 3; 2 40 4; 1 300 3;"),
+];
+
+const THREE: &[Row] = &[&[Seen::Null, Seen::Int(3), Seen::Int(1)]];
+
+const TWO: &[Row] = &[&[Seen::Null, Seen::Int(2), Seen::Int(10)]];
+
+const ONE: &[Row] = &[&[Seen::Null, Seen::Int(1), Seen::Int(100)]];
+
+/// Chunks of one row each.
+const TEN: &[&[Row]] = &[THREE, TWO, TWO, ONE, THREE, TWO, TWO, ONE, THREE, ONE];
 
 #[test]
 fn kept_order(rt: HostRuntime) -> Result<(), Fail> {
-    let alloc = rt.alloc();
-    let front: &[Given] = &[[None, Some(4), Some(1)], [None, Some(1), Some(2)]];
-    let back: &[Given] = &[[None, Some(2), Some(3)], [None, Some(1), Some(4)]];
-    let cases: &[(Wanted, &str)] = &[
-        ((None, true, 1), " 4 1 1; 1 6 2; 2 3 1;"),
-        ((Some((1, 1)), true, 1), " 1 6 2;"),
-        ((Some((0, 0)), true, 1), ""),
-        ((None, false, 1), " 1 6 2; 2 3 1; 4 1 1;"),
-        ((None, true, 2), " 4 1 1; 1 6 2; 2 3 1;"),
-        ((Some((1, 1)), true, 2), " 1 6 2;"),
-    ];
-    for (wanted, due) in cases {
-        let text = answered(alloc, &["k"], *wanted, &[front, back])?;
-        assert!(rt; text.as_str() == *due, "{text} in place of {due}");
-    }
-    Ok(())
+    check(&rt, KEPT_ORDER)
 }
 
-#[test]
-fn many_chunks(rt: HostRuntime) -> Result<(), Fail> {
-    let three: &[Given] = &[[None, Some(3), Some(1)]];
-    let two: &[Given] = &[[None, Some(2), Some(10)]];
-    let one: &[Given] = &[[None, Some(1), Some(100)]];
-    let ten: &[&[Given]] = &[three, two, two, one, three, two, two, one, three, one];
-    let text = answered(rt.alloc(), &["k"], (None, true, 1), ten)?;
-    assert!(rt; text.as_str() == " 3 3 3; 2 40 4; 1 300 3;", "{text}");
-    Ok(())
-}
+const FOUR: &[Row] = &[
+    &[Seen::Null, Seen::Int(1), Seen::Int(10)],
+    &[Seen::Null, Seen::Int(2), Seen::Int(20)],
+    &[Seen::Null, Seen::Int(3), Seen::Int(30)],
+    &[Seen::Null, Seen::Int(4), Seen::Int(40)],
+];
 
-const FOUR: [Given; 4] = [
-    [None, Some(1), Some(10)],
-    [None, Some(2), Some(20)],
-    [None, Some(3), Some(30)],
-    [None, Some(4), Some(40)],
+const PARTITIONS: &[Case] = &[
+    (
+        BY_K,
+        (None, false, 2),
+        &[FOUR],
+        " 1 10 1; 3 30 1; 2 20 1; 4 40 1;",
+    ),
+    (BY_K, (None, false, 2), &[NULLS], " null 4 2; 2 2 1;"),
 ];
 
 #[test]
 fn partitions(rt: HostRuntime) -> Result<(), Fail> {
-    let halves = (None, false, 2);
-    check(&rt, &FOUR, &[(halves, " 1 10 1; 3 30 1; 2 20 1; 4 40 1;")])?;
-    check(&rt, &NULLS, &[(halves, " null 4 2; 2 2 1;")])
+    check(&rt, PARTITIONS)
 }
