@@ -22,7 +22,7 @@ shares_at picks events faults =
 
 -- an empty store that tells its frames and never fails, with so many faults
 abbrev pub empty_store : ℕ → StoreSeen
-empty_store faults = record { held = 0; told = Some []; faults = faults; sure = true }
+empty_store faults = record { held = 0; told = Some []; faults = faults; sure = true; path = None }
 
 -- the open run of a first round over it: a dump that finds nothing
 abbrev pub first_of_two : ℕ → Run

@@ -48,7 +48,7 @@ impl<S: SpillStore + Drop> Model for Contents<S> {
       partitions = c.partitions;
       table = c.table;
       waiting = c.waiting.items;
-      store = store_seen S.held S.told S.faults S.sure c.store;
+      store = store_seen S.held S.told S.faults S.sure S.path c.store;
       marks = c.marks.items;
       journal = c.journal;
       book = c.book.items;
@@ -68,7 +68,7 @@ impl<S: SpillStore + Drop> Contents<S> {
         store: S,
     ) -> Contents<S>
         ensures { result ≡ new_partition number partitions table book.items
-            (store_seen S.held S.told S.faults S.sure store) }
+            (store_seen S.held S.told S.faults S.sure S.path store) }
     {
         Contents {
             number,
