@@ -123,7 +123,8 @@ module _ (r : Run) (chunks : List DataChunk) (query : QueryTree) (alike : AreAli
   store-alike before s frames has = record {
     told = has.told ∙ ap (λ (more : List (List ℕ)). with_frames before.told more) (bytes-alike frames);
     held = has.held;
-    sure = has.sure; path = has.path;
+    sure = has.sure;
+    path = has.path;
   }
 
   -- frames of pieces

@@ -52,7 +52,8 @@ kept-more s now new was more = record {
   store = record {
     told = more.store.told ∙ was.store.told;
     held = more.store.held ∙ was.store.held;
-    sure = more.store.sure ∙ was.store.sure; path = more.store.path ∙ was.store.path;
+    sure = more.store.sure ∙ was.store.sure;
+    path = more.store.path ∙ was.store.path;
     faults = omega (arith, was.store.faults, more.store.faults);
   };
   others = more.others ∙ ap (λ (x : PartitionSeen). record x { table = new.table; waiting = new.waiting; store = new.store; marks = new.marks }) was.others;

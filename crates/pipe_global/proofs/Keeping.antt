@@ -144,7 +144,8 @@ module _ (r : Run) (s seen : PartitionSeen) (h : SharesSeen) (w : ℕ) (view : s
         partitions = ap (λ (x : PartitionSeen). x.partitions) m.others;
         shape = m.taken.shape.0;
         limit = m.taken.shape.1;
-        sure = ap (λ (x : PartitionSeen). x.store.sure) m.others; path = ap (λ (x : PartitionSeen). x.store.path) m.others;
+        sure = ap (λ (x : PartitionSeen). x.store.sure) m.others;
+        path = ap (λ (x : PartitionSeen). x.store.path) m.others;
         journal = ap (λ (x : PartitionSeen). x.journal) m.others;
         book = ap (λ (x : PartitionSeen). x.book) m.others;
       })
@@ -174,7 +175,8 @@ module _ (r : Run) (s seen : PartitionSeen) (h : SharesSeen) (w : ℕ) (view : s
         partitions = ap (λ (x : PartitionSeen). x.partitions) d.others;
         shape = ap (λ (t : Table). t.shape) table;
         limit = ap (λ (t : Table). t.limit) table;
-        sure = d.store.sure; path = d.store.path;
+        sure = d.store.sure;
+        path = d.store.path;
         journal = journal;
         book = ap (λ (x : PartitionSeen). x.book) d.others;
       })

@@ -69,7 +69,8 @@ module _ (x : Setting) (o : Bool) (before more : List DataChunk) (faults : List 
         limit = is.limit;
         replayed = subst (λ (made : Replayed). StandsFor onto p made s) (sym same_replay) (stands-on p (replay from p s.journal) s same is.replayed);
         numbers = is.numbers;
-        sure = is.sure ∙ sym (counted-at x.stores faults p same).sure; path = is.path ∙ sym (counted-at x.stores faults p same).path;
+        sure = is.sure ∙ sym (counted-at x.stores faults p same).sure;
+        path = is.path ∙ sym (counted-at x.stores faults p same).path;
         journal = within-on from onto p s.journal on refl is.journal;
         workers = is.workers;
         book = is.book;

@@ -32,7 +32,8 @@ module _ (r : Run) (faults : List ℕ) (same : length faults ≡ length r.stores
           arrived = is.replayed.arrived;
         };
         numbers = is.numbers;
-        sure = is.sure ∙ alike.sure; path = is.path ∙ alike.path;
+        sure = is.sure ∙ alike.sure;
+        path = is.path ∙ alike.path;
         journal = record { workers = is.journal.workers; plans = is.journal.plans };
         workers = is.workers;
         book = is.book;

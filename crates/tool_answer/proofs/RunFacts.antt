@@ -4,7 +4,7 @@ use Rattle.std.specs.Prelude.{◌⊎◌, ◌&&◌, IfErr, IfOk, IfSome, IsTrue, 
 use Rattle.std.specs.Cmp.Derive.{both_true}
 use Rattle.std.specs.List.{All, list_all, slice_index_or}
 use Rattle.std.proofs.lemmas.Bool.{false≢true, le-leb, lt-ltb}
-use Rattle.std.proofs.lemmas.List.{length-map}
+use Rattle.std.proofs.lemmas.List.{ext_get_or, get_or-map, length-map}
 use Rattle.std.proofs.lemmas.List.Elements.{All-from_get_or, All-head, All-nil, All-tail}
 use Rattle.pipe_columns.specs.Causes.{Rose}
 use Rattle.pipe_columns.specs.declared.data_chunk.DataChunk.{DataChunk}
@@ -22,6 +22,7 @@ use Rattle.pipe_columns.specs.declared.data_type.DataType.{DataType}
 use Rattle.pipe_plan.specs.declared.limits.SinkKind.{SinkKind}
 use Rattle.pipe_plan.specs.declared.limits.SinkKind.TheVariants as sink_kind
 use Rattle.pipe_plan.specs.Run.{Run, StoreSeen, tells}
+use Rattle.tool_stores.specs.StorePath.{store_paths}
 use Rattle.pipe_run.specs.Answered.{HasFrames, HaveWholeFrames, IsAnswered}
 use Rattle.pipe_run.specs.Fed.{FedSeen}
 use Rattle.pipe_run.specs.declared.error.PipeError.TheVariants as pipe_error
@@ -108,23 +109,31 @@ plan-fits held told faults sure path p n items can number new count =
     (same-number (length (map held items)) l.partitions (length-map items held ∙ count)))
     (held-few held told faults sure path p.spill_dir items new)
 
+-- the paths of stores as they are seen
+seen-paths : {S : Type 0} (held : S → ℕ) (told : S → Option (List (List ℕ))) (faults : S → ℕ) (sure : S → Bool) (path : S → Option (List ℕ)) (items : List S)
+    → map (λ (s : StoreSeen). s.path) (stores_seen held told faults sure path items) ≡ map path items
+seen-paths held told faults sure path [] = refl
+seen-paths held told faults sure path (x ∷ xs) = ap (λ l. path x ∷ l) (seen-paths held told faults sure path xs)
+
 -- how a run was begun
 pub record Began (p : PlanSeen) (q : Query) (made : List StoreSeen) (s : FedSeen) : Type 0 where
   pub new : All (IsMade p.spill_dir) made
   pub count : length made ≡ p.limits.partitions
+  pub paths : map (λ s. s.path) made ≡ store_paths p.spill_dir p.limits.partitions
   pub setting : s.setting ≡ setting_of p q made
 
 pub began-of : {S : Type 0} (held : S → ℕ) (told : S → Option (List (List ℕ))) (faults : S → ℕ) (sure : S → Bool) (path : S → Option (List ℕ)) (p : PlanSeen) (q : Query) (items : List S) (s : FedSeen)
-    → All (IsMade p.spill_dir) (stores_seen held told faults sure path items) → length items ≡ p.limits.partitions → s.setting ≡ setting_of p q (stores_seen held told faults sure path items)
-    → Began p q (stores_seen held told faults sure path items) s
-began-of held told faults sure path p q items s new count setting = record { new = new; count = length-map items _ ∙ count; setting = setting }
+    → All (IsMade p.spill_dir) (stores_seen held told faults sure path items) → length items ≡ p.limits.partitions → map path items ≡ store_paths p.spill_dir p.limits.partitions
+    → s.setting ≡ setting_of p q (stores_seen held told faults sure path items) → Began p q (stores_seen held told faults sure path items) s
+began-of held told faults sure path p q items s new count paths setting =
+    record { new = new; count = length-map items _ ∙ count; paths = seen-paths held told faults sure path items ∙ paths; setting = setting }
 
 -- the same of a query that is told as the narrowed one
 pub began-narrow : {S : Type 0} (held : S → ℕ) (told : S → Option (List (List ℕ))) (faults : S → ℕ) (sure : S → Bool) (path : S → Option (List ℕ)) (p : PlanSeen) (q now : Query) (ws : List Bool) (items : List S) (s : FedSeen)
-    → All (IsMade p.spill_dir) (stores_seen held told faults sure path items) → length items ≡ p.limits.partitions → now ≡ narrowed_query ws q → s.setting ≡ setting_of p now (stores_seen held told faults sure path items)
+    → All (IsMade p.spill_dir) (stores_seen held told faults sure path items) → length items ≡ p.limits.partitions → map path items ≡ store_paths p.spill_dir p.limits.partitions → now ≡ narrowed_query ws q → s.setting ≡ setting_of p now (stores_seen held told faults sure path items)
     → Began p (narrowed_query ws q) (stores_seen held told faults sure path items) s
-began-narrow held told faults sure path p q now ws items s new count is setting =
-    began-of held told faults sure path p (narrowed_query ws q) items s new count (setting ∙ ap (λ (k : Query). setting_of p k (stores_seen held told faults sure path items)) is)
+began-narrow held told faults sure path p q now ws items s new count paths is setting =
+    began-of held told faults sure path p (narrowed_query ws q) items s new count paths (setting ∙ ap (λ (k : Query). setting_of p k (stores_seen held told faults sure path items)) is)
 
 -- the columns that are read are those of its query
 pub fields-narrow : (p : PlanSeen) (q now : Query) (ws : List Bool) (made : List StoreSeen) (s : FedSeen) (schema fields : List Field) → now ≡ narrowed_query ws q → s.setting ≡ setting_of p now made
@@ -162,9 +171,10 @@ left-read p q ws made stores s told first began reader back =
 
 -- stores as they are made have the frames of no run
 pub front-made : {S : Type 0} (held : S → ℕ) (told : S → Option (List (List ℕ))) (faults : S → ℕ) (sure : S → Bool) (path : S → Option (List ℕ)) (p : PlanSeen) (q : Query) (Fed : Bool → List DataChunk → Type 0) (items now : List S)
-    → CanRun p → All (IsMade p.spill_dir) (stores_seen held told faults sure path items) → length items ≡ p.limits.partitions → Fed true [] → now ≡ items
+    → CanRun p → All (IsMade p.spill_dir) (stores_seen held told faults sure path items) → length items ≡ p.limits.partitions → map path items ≡ store_paths p.spill_dir p.limits.partitions
+    → Fed true [] → now ≡ items
     → HaveFront p (query_tree q) Fed (stores_seen held told faults sure path now)
-front-made {S = S} held told faults sure path p q Fed items now can new count none same =
+front-made {S = S} held told faults sure path p q Fed items now can new count paths none same =
     let made : List StoreSeen = stores_seen held told faults sure path items in
     let fit : setting_fits (setting_of p q made) ≡ true =
     ap (λ l. limits_fit p.limits (length p.actions) l) (map-map items)
@@ -173,6 +183,7 @@ front-made {S = S} held told faults sure path p q Fed items now can new count no
       made = made;
       are_made = new;
       count = length-map items _ ∙ count;
+      paths = seen-paths held told faults sure path items ∙ paths;
       chunks = [];
       is_open = true;
       fed = none;
@@ -217,6 +228,17 @@ whole-are r stores all = record { count = all.count; each = λ k lt. ((all.each 
 
 pub replayed-are : (r : Run) (out : GroupByOutput) (stores : List StoreSeen) → IsAnswered r out stores → HaveFrames r stores
 replayed-are r out stores is = record { count = is.frames.count; each = λ k lt. (_, is.frames.each k lt) }
+
+-- stores that have frames of a run have the paths that they were made with
+pub paths-kept : (r : Run) (stores : List StoreSeen) → length r.stores ≡ r.limits.partitions → HaveFrames r stores → map (λ (s : StoreSeen). s.path) stores ≡ map (λ (s : StoreSeen). s.path) r.stores
+paths-kept r stores count frames =
+    let path : StoreSeen → Option (List ℕ) = λ s. s.path in
+    ext_get_or None (map path stores) (map path r.stores) (length-map stores path ∙ frames.count ∙ sym count ∙ sym (length-map r.stores path))
+    (λ k lt.
+    let here : k < r.limits.partitions = omega (arith, lt, length-map stores path, frames.count) in
+    get_or-map path stores k no_store None (omega (arith, here, frames.count))
+    ∙ (frames.each k here).1.path
+    ∙ sym (get_or-map path r.stores k no_store None (omega (arith, here, count))))
 
 module _ (p : PlanSeen) (q : QueryTree) (is_open : Bool) (chunks : List DataChunk) (made : List StoreSeen) (stores : List StoreSeen)
     (new : All (IsMade p.spill_dir) made) (count : length made ≡ p.limits.partitions)
@@ -288,7 +310,7 @@ module _ (p : PlanSeen) (q : Query) (ws : List Bool) (covered : covers ws (query
   have = whole-are (asked_run p (query_tree q) left.is_open wide made) stores whole
 
   pub run-front : HaveFront p (query_tree q) (AreFedInput p (query_tree q) told) stores
-  run-front = record { made = made; are_made = began.new; count = began.count; chunks = wide; is_open = left.is_open; fed = left.wide.fed; fit = left.wide.fit; frames = whole }
+  run-front = record { made = made; are_made = began.new; count = began.count; paths = began.paths; chunks = wide; is_open = left.is_open; fed = left.wide.fed; fit = left.wide.fit; frames = whole }
 
   pub run-sound : All (λ (x : StoreSeen). IsTrue x.sure → x.faults ≡ 0) stores → p.spill_dir ≡ None → All IsSoundStore stores
   run-sound never = all-sound p (query_tree q) left.is_open wide made stores began.new began.count have never
@@ -361,6 +383,7 @@ has-run p q ws covered made stores s told first out began reader from =
       made = made;
       are_made = began.new;
       count = began.count;
+      paths = began.paths;
       chunks = whole.whole;
       are_input = whole.input;
       few = sym (few-same ws whole.whole) ∙ ap are_few whole.wanted ∙ from.few;

@@ -10,6 +10,7 @@ ghost use Rattle.pipe_run.specs.Refusals.{limits_fit};
 ghost use Rattle.pipe_words.specs.Plans.{CanRun, plan_seen};
 ghost use Rattle.tool_words.specs.Asked.{asks, does_keep};
 ghost use Rattle.pipe_plan.specs.Stores.{stores_seen};
+ghost use Rattle.tool_stores.specs.StorePath.{store_paths};
 ghost use Rattle.tool_answer.specs.Asking.{files_asked};
 ghost use Rattle.tool_answer.specs.Ended.{IsMade, IsSoundStore};
 ghost use Rattle.tool_answer.specs.Faults.{IsCaused};
@@ -92,6 +93,8 @@ pub fn run_question<
     requires made { All (IsMade question.plan.spill_dir)
         (stores_seen S.held S.told S.faults S.sure S.path stores.items) }
     requires count { length stores.items ≡ question.plan.limits.partitions }
+    requires paths { map S.path stores.items
+        ≡ store_paths question.plan.spill_dir question.plan.limits.partitions }
     ensures answered { IfOk result.0 (λ out. HasRunTo (plan_seen question.plan)
         (query_tree question.query) (I.told input.old) out
         (stores_seen S.held S.told S.faults S.sure S.path result.1.items)) }

@@ -26,18 +26,18 @@ pub returns-in-Err-clause-stopped : goal.returns-in-Err-clause-stopped
 returns-in-Err-clause-stopped g c =
     let store = g.S.SpillStore in
     subst (λ (t : QueryTree). HaveFront (plan_seen c.args.question.plan) t (AreFedMade c.args.question.rows) (stores_seen store.held store.told store.faults store.sure store.path c.in-Err.stores.items)) c.requires.query
-    (front-made store.held store.told store.faults store.sure store.path (plan_seen c.args.question.plan) c.args.question.query (AreFedMade c.args.question.rows) c.args.stores.items c.in-Err.stores.items c.requires.runs c.requires.made c.requires.count (made-none c.args.question.rows) c.in-Err.ensures.back)
+    (front-made store.held store.told store.faults store.sure store.path (plan_seen c.args.question.plan) c.args.question.query (AreFedMade c.args.question.rows) c.args.stores.items c.in-Err.stores.items c.requires.runs c.requires.made c.requires.count c.requires.paths (made-none c.args.question.rows) c.in-Err.ensures.back)
 
 pub returns-in-Ok-ended-clause-answered : goal.returns-in-Ok-ended-clause-answered
 returns-in-Ok-ended-clause-answered g c =
     let store = g.S.SpillStore in
-    let began = began-of store.held store.told store.faults store.sure store.path (plan_seen c.args.question.plan) c.args.question.query c.args.stores.items c.in-Ok.run' c.requires.made c.requires.count c.in-Ok.ensures.setting in
+    let began = began-of store.held store.told store.faults store.sure store.path (plan_seen c.args.question.plan) c.args.question.query c.args.stores.items c.in-Ok.run' c.requires.made c.requires.count c.requires.paths c.in-Ok.ensures.setting in
     has-made (plan_seen c.args.question.plan) c.args.question.query c.args.question.rows (stores_seen store.held store.told store.faults store.sure store.path c.args.stores.items) (stores_seen store.held store.told store.faults store.sure store.path c.run_made-ended.result.1.items) c.in-Ok.run' c.in-Ok-ended.groups began c.requires.query (ok-at c.run_made-ended.result.0 c.in-Ok-ended.groups _ c.in-Ok-ended.is c.run_made-ended.ensures.answered)
 
 pub returns-in-Ok-ended-clause-in_memory : goal.returns-in-Ok-ended-clause-in_memory
 returns-in-Ok-ended-clause-in_memory g c =
     let store = g.S.SpillStore in
-    let began = began-of store.held store.told store.faults store.sure store.path (plan_seen c.args.question.plan) c.args.question.query c.args.stores.items c.in-Ok.run' c.requires.made c.requires.count c.in-Ok.ensures.setting in
+    let began = began-of store.held store.told store.faults store.sure store.path (plan_seen c.args.question.plan) c.args.question.query c.args.stores.items c.in-Ok.run' c.requires.made c.requires.count c.requires.paths c.in-Ok.ensures.setting in
     let never = never-seen store.held store.told store.faults store.sure store.path store.never_failed c.run_made-ended.result.1.items in
     has-made-sound (plan_seen c.args.question.plan) c.args.question.rows c.in-Ok-ended.groups (stores_seen store.held store.told store.faults store.sure store.path c.run_made-ended.result.1.items)
     (has-made (plan_seen c.args.question.plan) c.args.question.query c.args.question.rows (stores_seen store.held store.told store.faults store.sure store.path c.args.stores.items) (stores_seen store.held store.told store.faults store.sure store.path c.run_made-ended.result.1.items) c.in-Ok.run' c.in-Ok-ended.groups began c.requires.query (ok-at c.run_made-ended.result.0 c.in-Ok-ended.groups _ c.in-Ok-ended.is c.run_made-ended.ensures.answered)) never
@@ -45,7 +45,7 @@ returns-in-Ok-ended-clause-in_memory g c =
 pub returns-clause-cause : goal.returns-clause-cause
 returns-clause-cause g c =
     let store = g.S.SpillStore in
-    let began = began-of store.held store.told store.faults store.sure store.path (plan_seen c.args.question.plan) c.args.question.query c.args.stores.items c.in-Ok.run' c.requires.made c.requires.count c.in-Ok.ensures.setting in
+    let began = began-of store.held store.told store.faults store.sure store.path (plan_seen c.args.question.plan) c.args.question.query c.args.stores.items c.in-Ok.run' c.requires.made c.requires.count c.requires.paths c.in-Ok.ensures.setting in
     let never = never-seen store.held store.told store.faults store.sure store.path store.never_failed c.run_made-ended.result.1.items in
     λ told. rw c.file_fault.ensures (made-caused (plan_seen c.args.question.plan) c.args.question.query c.args.question.rows c.requires.query (stores_seen store.held store.told store.faults store.sure store.path c.args.stores.items) (stores_seen store.held store.told store.faults store.sure store.path c.run_made-ended.result.1.items) c.in-Ok.run' began (err-at c.run_made-ended.result.0 c.in-Err-ended.error _ c.in-Err-ended.is c.run_made-ended.ensures.back) told never c.in-Err-ended.error (err-at c.run_made-ended.result.0 c.in-Err-ended.error _ c.in-Err-ended.is c.run_made-ended.ensures.cause))
 
@@ -57,12 +57,12 @@ returns-clause-of_stores g c =
 pub returns-clause-stopped : goal.returns-clause-stopped
 returns-clause-stopped g c =
     let store = g.S.SpillStore in
-    let began = began-of store.held store.told store.faults store.sure store.path (plan_seen c.args.question.plan) c.args.question.query c.args.stores.items c.in-Ok.run' c.requires.made c.requires.count c.in-Ok.ensures.setting in
+    let began = began-of store.held store.told store.faults store.sure store.path (plan_seen c.args.question.plan) c.args.question.query c.args.stores.items c.in-Ok.run' c.requires.made c.requires.count c.requires.paths c.in-Ok.ensures.setting in
     made-front (plan_seen c.args.question.plan) c.args.question.query c.args.question.rows c.requires.query (stores_seen store.held store.told store.faults store.sure store.path c.args.stores.items) (stores_seen store.held store.told store.faults store.sure store.path c.run_made-ended.result.1.items) c.in-Ok.run' began (err-at c.run_made-ended.result.0 c.in-Err-ended.error _ c.in-Err-ended.is c.run_made-ended.ensures.back)
 
 pub returns-clause-in_memory : goal.returns-clause-in_memory
 returns-clause-in_memory g c =
     let store = g.S.SpillStore in
-    let began = began-of store.held store.told store.faults store.sure store.path (plan_seen c.args.question.plan) c.args.question.query c.args.stores.items c.in-Ok.run' c.requires.made c.requires.count c.in-Ok.ensures.setting in
+    let began = began-of store.held store.told store.faults store.sure store.path (plan_seen c.args.question.plan) c.args.question.query c.args.stores.items c.in-Ok.run' c.requires.made c.requires.count c.requires.paths c.in-Ok.ensures.setting in
     let never = never-seen store.held store.told store.faults store.sure store.path store.never_failed c.run_made-ended.result.1.items in
     made-sound (plan_seen c.args.question.plan) c.args.question.query c.args.question.rows c.requires.query (stores_seen store.held store.told store.faults store.sure store.path c.args.stores.items) (stores_seen store.held store.told store.faults store.sure store.path c.run_made-ended.result.1.items) c.in-Ok.run' began (err-at c.run_made-ended.result.0 c.in-Err-ended.error _ c.in-Err-ended.is c.run_made-ended.ensures.back) never
