@@ -1,5 +1,5 @@
 -- Of the proofs alone: runs of tests, over chunks that were tried.
-use Rattle.std.specs.Prelude.{◌≡◌, ◌≤◌, ◌^◌, false, List, length, map}
+use Rattle.std.specs.Prelude.{◌≡◌, ◌≤◌, ◌^◌, false, List, length, map, [], None}
 use Rattle.std.specs.List.{All}
 use Rattle.pipe_columns.specs.declared.data_chunk.DataChunk.{DataChunk}
 use Rattle.pipe_columns.specs.declared.schema.Field.{Field}
