@@ -24,7 +24,6 @@ loop-partition-preserved g c =
             faults = c.in_ok-make.ensures.faults;
             tells = λ none. c.in_ok-make.ensures.tells (none-mapped (λ f. f.now) c.args.folder none);
             sure = λ none. c.in_ok-make.ensures.sure (none-mapped (λ f. f.now) c.args.folder none);
-            path = λ none. c.in_ok-make.ensures.path (none-mapped (λ f. f.now) c.args.folder none);
           });
       count = search rules;
       paths = paths-more (option_map (λ f. f.now) c.args.folder) c.loop-partition.partition [] (map g.M.Store.SpillStore.path c.loop-partition.stores.items) (map g.M.Store.SpillStore.path c.push.new.self.items)
