@@ -124,6 +124,7 @@ module _ (r : Run) (chunks : List DataChunk) (query : QueryTree) (alike : AreAli
     told = has.told ∙ ap (λ (more : List (List ℕ)). with_frames before.told more) (bytes-alike frames);
     held = has.held;
     sure = has.sure;
+    path = has.path;
   }
 
   -- frames of pieces

@@ -38,6 +38,7 @@ replayed-none r p partitions table book store run lt all zeros shape limit none 
       };
       numbers = omega (arith, held, former);
       sure = ap (λ (x : StoreSeen). x.sure) is;
+      path = ap (λ (x : StoreSeen). x.path) is;
       journal = within-none r p;
       workers = ap (λ (l : List ℕ). length l) zeros ∙ length-replicate {A = ℕ} r.limits.workers 0;
       book = λ w below. ap (λ (l : List ℕ). slice_index_or l w 0) zeros ∙ get_or-replicate {A = ℕ} r.limits.workers w 0 0 below;

@@ -83,7 +83,7 @@ module _ (s new : PartitionSeen) (local left : Table) (none : s.waiting ≡ []) 
   pub local-kept : KeepsRest s new
   local-kept = record {
     shape = t.shape;
-    store = rw store record { told = refl; held = refl; sure = refl; faults = omega arith };
+    store = rw store record { told = refl; held = refl; sure = refl; path = refl; faults = omega arith };
     others =
         let waits : new.waiting ≡ s.waiting = ap (λ (x : PartitionSeen). x.waiting) t.others in
         let marked : new.marks ≡ s.marks = ap (λ (x : PartitionSeen). x.marks) t.others in
@@ -235,7 +235,7 @@ module _ (s now : PartitionSeen) (local left : Table) (kept : KeepsRest s now) w
   pub kept-given : (new : PartitionSeen) → new ≡ without_groups now → KeepsRest s new
   kept-given new is = subst (KeepsRest s) (sym is) (kept-more s now (without_groups now) kept (record {
     shape = (refl, refl);
-    store = record { told = refl; held = refl; sure = refl; faults = omega arith };
+    store = record { told = refl; held = refl; sure = refl; path = refl; faults = omega arith };
     others = refl;
   }))
 

@@ -44,7 +44,7 @@ kept-asked s new a =
     }
 
 pub kept-none : (s : PartitionSeen) → KeepsRest s s
-kept-none s = record { shape = (refl, refl); store = record { told = refl; held = refl; sure = refl; faults = omega arith }; others = refl }
+kept-none s = record { shape = (refl, refl); store = record { told = refl; held = refl; sure = refl; path = refl; faults = omega arith }; others = refl }
 
 pub kept-more : (s now new : PartitionSeen) → KeepsRest s now → KeepsRest now new → KeepsRest s new
 kept-more s now new was more = record {
@@ -53,6 +53,7 @@ kept-more s now new was more = record {
     told = more.store.told ∙ was.store.told;
     held = more.store.held ∙ was.store.held;
     sure = more.store.sure ∙ was.store.sure;
+    path = more.store.path ∙ was.store.path;
     faults = omega (arith, was.store.faults, more.store.faults);
   };
   others = more.others ∙ ap (λ (x : PartitionSeen). record x { table = new.table; waiting = new.waiting; store = new.store; marks = new.marks }) was.others;
@@ -161,7 +162,7 @@ module _ (s mid : PartitionSeen) (m : Mark) (rows : List SpillRow) (new : Partit
   frame-kept : KeepsRest s new
   frame-kept = kept-more s mid new (kept-asked s mid asked) (record {
     shape = taken.taken.shape;
-    store = rw store-same record { told = refl; held = refl; sure = refl; faults = omega arith };
+    store = rw store-same record { told = refl; held = refl; sure = refl; path = refl; faults = omega arith };
     others =
         let waiting : new.waiting ≡ mid.waiting = ap (λ (x : PartitionSeen). x.waiting) taken.others in
         taken.others ∙ rw (waiting, store-same) refl;
@@ -236,7 +237,7 @@ gathered-waiting s new t = record {
   kept : KeepsRest s new
   kept = record {
     shape = t.taken.shape;
-    store = rw store record { told = refl; held = refl; sure = refl; faults = omega arith };
+    store = rw store record { told = refl; held = refl; sure = refl; path = refl; faults = omega arith };
     others = t.others ∙ rw (waiting, marks, store) refl;
   }
 

@@ -127,7 +127,7 @@ module _ (r : Run) (s seen : PartitionSeen) (h : SharesSeen) (w : ℕ) (view : s
 
   pub arrive-next : (payload : Payload) → next_event r h seen.number ≡ Some (event.Arrive h.worker) → payload ≡ next_payload r h seen.number → IsReplayed r s.number (with_payload s w payload)
   arrive-next payload next is =
-      replayed-more r s.number s (with_payload s w payload) (event.Arrive w) at (record { number = refl; partitions = refl; shape = refl; limit = refl; sure = refl; journal = refl; book = refl }) lt
+      replayed-more r s.number s (with_payload s w payload) (event.Arrive w) at (record { number = refl; partitions = refl; shape = refl; limit = refl; sure = refl; path = refl; journal = refl; book = refl }) lt
       (next-own (λ v. event.Arrive v) next)
       (stands-arrival r s.number (replay r s.number s.journal) s at.replayed w (next_piece r w s.number (events_by w s.journal)) payload (piece-own payload is)) at.numbers
 
@@ -145,6 +145,7 @@ module _ (r : Run) (s seen : PartitionSeen) (h : SharesSeen) (w : ℕ) (view : s
         shape = m.taken.shape.0;
         limit = m.taken.shape.1;
         sure = ap (λ (x : PartitionSeen). x.store.sure) m.others;
+        path = ap (λ (x : PartitionSeen). x.store.path) m.others;
         journal = ap (λ (x : PartitionSeen). x.journal) m.others;
         book = ap (λ (x : PartitionSeen). x.book) m.others;
       })
@@ -175,6 +176,7 @@ module _ (r : Run) (s seen : PartitionSeen) (h : SharesSeen) (w : ℕ) (view : s
         shape = ap (λ (t : Table). t.shape) table;
         limit = ap (λ (t : Table). t.limit) table;
         sure = d.store.sure;
+        path = d.store.path;
         journal = journal;
         book = ap (λ (x : PartitionSeen). x.book) d.others;
       })

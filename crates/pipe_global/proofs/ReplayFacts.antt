@@ -51,6 +51,7 @@ pub record GoesOn (s : PartitionSeen) (e : PartitionEvent) (new : PartitionSeen)
   pub shape : new.table.shape ≡ s.table.shape
   pub limit : new.table.limit ≡ s.table.limit
   pub sure : new.store.sure ≡ s.store.sure
+  pub path : new.store.path ≡ s.store.path
   pub journal : new.journal ≡ s.journal ++ e ∷ []
   pub book : new.book ≡ one_more_at s.book (worker_of e)
 
@@ -66,6 +67,7 @@ replayed-more r p s new e at on lt next stands room = record {
   replayed = subst (λ (l : List PartitionEvent). StandsFor r p (replay r p l) new) (sym on.journal) (subst (λ (m : Replayed). StandsFor r p m new) (sym (replay-push r p s.journal e)) stands);
   numbers = room;
   sure = on.sure ∙ at.sure;
+  path = on.path ∙ at.path;
   journal = subst (IsWithin r p) (sym on.journal) (within-next r p s.journal e at.journal lt (ap (λ n. slice_get (plan r (worker_of e) p) n) (sym (at.book (worker_of e) lt)) ∙ next));
   workers = ap (λ (l : List ℕ). length l) on.book ∙ length-set s.book (worker_of e) (slice_index_or s.book (worker_of e) 0 + 1) ∙ at.workers;
   book = λ w below.
@@ -88,6 +90,7 @@ replayed-kept r p s new failed at k =
       replayed = subst (λ (l : List PartitionEvent). StandsFor r p (replay r p l) new) (sym journal) (stands-kept r p (replay r p s.journal) s at.replayed failed new k);
       numbers = rw k.store.held at.numbers;
       sure = k.store.sure ∙ at.sure;
+      path = k.store.path ∙ at.path;
       journal = rw journal at.journal;
       workers = rw book at.workers;
       book = λ w below. rw (book, journal) (at.book w below);

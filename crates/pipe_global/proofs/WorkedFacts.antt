@@ -73,6 +73,7 @@ carried n m s is =
       replayed = subst (λ (made : Replayed). StandsFor onto 0 made s) (sym (replay-on from onto 0 s.journal (on n m) (omega arith) refl is.journal)) (stands-on n m (replay from 0 s.journal) s is.replayed);
       numbers = is.numbers;
       sure = is.sure;
+      path = is.path;
       journal = within-on from onto 0 s.journal (on n m) refl is.journal;
       workers = is.workers;
       book = is.book;

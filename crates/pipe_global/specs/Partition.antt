@@ -48,7 +48,7 @@ pub record IsRunnable (r : Run) : Type 0 where
 
 -- what stands for the store past the last
 abbrev pub no_store : StoreSeen
-no_store = record { held = 0; told = None; faults = 0; sure = false }
+no_store = record { held = 0; told = None; faults = 0; sure = false; path = None }
 
 -- the store of partition p, as the run found it
 abbrev pub store_of : Run → ℕ → StoreSeen
@@ -102,6 +102,7 @@ pub record IsReplayed (r : Run) (p : ℕ) (s : PartitionSeen) : Type 0 where
   pub replayed : StandsFor r p (replay r p s.journal) s
   pub numbers : s.store.held < 2 ^ 64 - 1
   pub sure : s.store.sure ≡ (store_of r p).sure
+  pub path : s.store.path ≡ (store_of r p).path
   pub journal : IsWithin r p s.journal
   pub workers : length s.book ≡ r.limits.workers
   pub book :

@@ -15,6 +15,7 @@ pub record IsStoreKept (s new : StoreSeen) : Type 0 where
   pub told : new.told ≡ s.told
   pub held : new.held ≡ s.held
   pub sure : new.sure ≡ s.sure
+  pub path : new.path ≡ s.path
   pub faults : s.faults ≤ new.faults
 
 -- where an event was refused: all is as before, but for room, faults, and whether a put was refused

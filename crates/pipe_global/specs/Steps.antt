@@ -35,6 +35,7 @@ pub record HasFrame (puts : Bool) (s new : StoreSeen) (frame : List ℕ) : Type 
   pub told : new.told ≡ (if puts then with_frame s.told frame else s.told)
   pub held : new.held ≡ (if puts then s.held + 1 else s.held)
   pub sure : new.sure ≡ s.sure
+  pub path : new.path ≡ s.path
   pub faults : s.faults ≤ new.faults
 
 -- whether a dump puts a frame

@@ -52,6 +52,7 @@ impl<S: SpillStore + Drop> ClosedPartition<S> {
         ensures held { S.held result.1 ≡ self.store.held }
         ensures faults { S.faults result.1 ≡ self.store.faults }
         ensures sure { S.sure result.1 ≡ self.store.sure }
+        ensures path { S.path result.1 ≡ self.store.path }
     {
         self.contents.into_parts()
     }

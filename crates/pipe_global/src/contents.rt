@@ -48,7 +48,7 @@ impl<S: SpillStore + Drop> Model for Contents<S> {
       partitions = c.partitions;
       table = c.table;
       waiting = c.waiting.items;
-      store = store_seen S.held S.told S.faults S.sure c.store;
+      store = store_seen S.held S.told S.faults S.sure S.path c.store;
       marks = c.marks.items;
       journal = c.journal;
       book = c.book.items;
@@ -68,7 +68,7 @@ impl<S: SpillStore + Drop> Contents<S> {
         store: S,
     ) -> Contents<S>
         ensures { result ≡ new_partition number partitions table book.items
-            (store_seen S.held S.told S.faults S.sure store) }
+            (store_seen S.held S.told S.faults S.sure S.path store) }
     {
         Contents {
             number,
@@ -143,6 +143,7 @@ impl<S: SpillStore + Drop> Contents<S> {
         ensures held { S.held result.1 ≡ self.store.held }
         ensures faults { S.faults result.1 ≡ self.store.faults }
         ensures sure { S.sure result.1 ≡ self.store.sure }
+        ensures path { S.path result.1 ≡ self.store.path }
     {
         let Contents {
             number: _,

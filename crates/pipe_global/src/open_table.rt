@@ -91,7 +91,7 @@ fn locks_of<S: SpillStore + Drop, R: Naming>(
     requires places { vec_len places ≡ vec_len stores }
     requires each { All (IsEmptyPlace R.run.query R.run.limits.workers) places.items }
     requires stores { AreStoresFrom R.run 0
-        (stores_seen S.held S.told S.faults S.sure stores.items) }
+        (stores_seen S.held S.told S.faults S.sure S.path stores.items) }
     requires events { (events.parts ≡ vec_len stores) × (events.amount ≡ 0) }
     requires refusals { (refusals.parts ≡ vec_len stores) × (refusals.amount ≡ 0) }
     ensures { vec_len result ≡ vec_len stores }
@@ -142,7 +142,7 @@ impl<S: SpillStore + Drop, R: Naming> GlobalTable<S, R> {
         requires numbers { (R.run.limits.workers ≡ workers)
             × (R.run.limits.payload_limit ≡ payload_limit) }
         requires count { vec_len stores ≡ R.run.limits.partitions }
-        requires stores { R.run.stores ≡ stores_seen S.held S.told S.faults S.sure stores.items }
+        requires stores { R.run.stores ≡ stores_seen S.held S.told S.faults S.sure S.path stores.items }
         ensures len { IfOk result (λ r. vec_len r.1 ≡ R.run.limits.workers) }
         ensures unused { IfOk result (λ r. AreUnused R.run.limits.partitions r.1.items) }
         ensures back { IfErr result (λ e. e.1.items ≡ stores.items) }

@@ -33,7 +33,7 @@ impl<S: SpillStore + Drop, R: Naming> Partition<S, R> {
         requires shape { place.table.shape ≡ shape_of R.run.query }
         requires table { (place.table.limit ≡ None) × (place.table.groups ≡ []) }
         requires book { place.book.items ≡ replicate R.run.limits.workers 0 }
-        requires store { store_seen S.held S.told S.faults S.sure store ≡ store_of R.run number }
+        requires store { store_seen S.held S.told S.faults S.sure S.path store ≡ store_of R.run number }
         requires limit { limit ≡ R.run.limits.payload_limit }
         requires event_part { (event_part.parts ≡ 1) × (event_part.amount ≡ 0) }
         requires fault_part { (fault_part.parts ≡ 1) × (fault_part.amount ≡ 0) }

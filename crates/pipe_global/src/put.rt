@@ -46,6 +46,7 @@ fn put_frame<S: SpillStore>(
     ensures refused_told { OnErr result (S.told store.new ≡ S.told store.old) }
     ensures refused_held { OnErr result (S.held store.new ≡ S.held store.old) }
     ensures sure { S.sure store.new ≡ S.sure store.old }
+    ensures path { S.path store.new ≡ S.path store.old }
     ensures cause { HasCause (S.faults store.old) (S.faults store.new)
         (IsErrOf result dump_error.Store) }
 {
@@ -97,6 +98,7 @@ pub(crate) fn put_waiting<S: SpillStore>(
     ensures refused_told { OnErr result (S.told store.new ≡ S.told store.old) }
     ensures refused_held { OnErr result (S.held store.new ≡ S.held store.old) }
     ensures sure { S.sure store.new ≡ S.sure store.old }
+    ensures path { S.path store.new ≡ S.path store.old }
     ensures cause { HasCause (S.faults store.old) (S.faults store.new)
         (IsErrOf result dump_error.Store) }
 {

@@ -64,7 +64,7 @@ module _ (x : Setting) (chunks : List DataChunk) (s : FedSeen) (view : typed_see
     each = λ p lt.
         let r = run_over x o chunks in
         subst (λ (j : List PartitionEvent). HasFrames (store_of r p) r (replay r p j).frames (slice_index_or x.stores p no_store)) (sym (none-journal x.limits.partitions p))
-        (record { told = told-none (store_of r p).told; held = omega arith; sure = refl });
+        (record { told = told-none (store_of r p).told; held = omega arith; sure = refl; path = refl });
   }
 
   -- where a run is given up

@@ -40,11 +40,11 @@ impl<'a, S: SpillStore + Drop + Send> GroupByRun<'a, S> {
           limits = limits.now;
           actions = map (λ v. v.items) actions.items;
           rules = [];
-          stores = stores_seen S.held S.told S.faults S.sure stores.items;
+          stores = stores_seen S.held S.told S.faults S.sure S.path stores.items;
         }) }
         ensures chunks { IfOk result (λ r. r.chunks ≡ []) }
         ensures counted { IfOk result (λ r. NoneFell
-            (stores_seen S.held S.told S.faults S.sure stores.items) r.stores) }
+            (stores_seen S.held S.told S.faults S.sure S.path stores.items) r.stores) }
         ensures cause { IfErr result (λ e. IsBeginCause
             (limits_fit limits.now (vec_len actions) (map (λ s. S.held s) stores.items))
             (first_fault query.now)
@@ -76,11 +76,11 @@ impl<'a, S: SpillStore + Drop + Send> GroupByRun<'a, S> {
           limits = limits.now;
           actions = map (λ v. v.items) actions.items;
           rules = rules.items;
-          stores = stores_seen S.held S.told S.faults S.sure stores.items;
+          stores = stores_seen S.held S.told S.faults S.sure S.path stores.items;
         }) }
         ensures chunks { IfOk result (λ r. r.chunks ≡ []) }
         ensures counted { IfOk result (λ r. NoneFell
-            (stores_seen S.held S.told S.faults S.sure stores.items) r.stores) }
+            (stores_seen S.held S.told S.faults S.sure S.path stores.items) r.stores) }
         ensures cause { IfErr result (λ e. IsBeginCause
             (limits_fit limits.now (vec_len actions) (map (λ s. S.held s) stores.items)
             && (vec_len rules == limits.now.workers))
@@ -114,11 +114,11 @@ impl<'a, S: SpillStore + Drop + Send> GroupByRun<'a, S> {
           limits = limits.now;
           actions = map (λ v. v.items) actions.items;
           rules = rules.items;
-          stores = stores_seen S.held S.told S.faults S.sure stores.items;
+          stores = stores_seen S.held S.told S.faults S.sure S.path stores.items;
         }) }
         ensures chunks { IfOk result (λ r. r.chunks ≡ []) }
         ensures counted { IfOk result (λ r. NoneFell
-            (stores_seen S.held S.told S.faults S.sure stores.items) r.stores) }
+            (stores_seen S.held S.told S.faults S.sure S.path stores.items) r.stores) }
         ensures cause { IfErr result (λ e. IsBeginCause
             (limits_fit limits.now (vec_len actions) (map (λ s. S.held s) stores.items))
             (first_fault query.now)

@@ -31,12 +31,12 @@ impl<'a, S: SpillStore + Drop + Send> GroupByRun<'a, S> {
             (CanFeed self.entry.setting.query.schema (self.entry.chunks ++ chunks.items)) }
         ensures counted { IfOk result (λ r. NoneFell self.entry.stores r.0.stores) }
         ensures cause { IfErr result (λ e. IsFeedCause self.entry chunks.items
-            (stores_seen S.held S.told S.faults S.sure e.1.items) e.0) }
+            (stores_seen S.held S.told S.faults S.sure S.path e.1.items) e.0) }
         ensures untouched { IfErr result (λ e. IsBadChunks e.0 →
-            stores_seen S.held S.told S.faults S.sure e.1.items ≡ self.entry.stores) }
+            stores_seen S.held S.told S.faults S.sure S.path e.1.items ≡ self.entry.stores) }
         ensures back { IfErr result (λ e. HaveWholeFrames
             (run_over self.entry.setting true (chunks_reached self.entry chunks.items e.0))
-            (stores_seen S.held S.told S.faults S.sure e.1.items)) }
+            (stores_seen S.held S.told S.faults S.sure S.path e.1.items)) }
     {
         match self.kind {
             Kind::Generic(run) => match run.feed_lent(rt, alloc, gate, chunks) {
@@ -71,12 +71,12 @@ impl<'a, S: SpillStore + Drop + Send> GroupByRun<'a, S> {
             (CanFeed self.entry.setting.query.schema (self.entry.chunks ++ chunks.items)) }
         ensures counted { IfOk result (λ r. NoneFell self.entry.stores r.stores) }
         ensures cause { IfErr result (λ e. IsFeedCause self.entry chunks.items
-            (stores_seen S.held S.told S.faults S.sure e.1.items) e.0) }
+            (stores_seen S.held S.told S.faults S.sure S.path e.1.items) e.0) }
         ensures untouched { IfErr result (λ e. IsBadChunks e.0 →
-            stores_seen S.held S.told S.faults S.sure e.1.items ≡ self.entry.stores) }
+            stores_seen S.held S.told S.faults S.sure S.path e.1.items ≡ self.entry.stores) }
         ensures back { IfErr result (λ e. HaveWholeFrames
             (run_over self.entry.setting true (chunks_reached self.entry chunks.items e.0))
-            (stores_seen S.held S.told S.faults S.sure e.1.items)) }
+            (stores_seen S.held S.told S.faults S.sure S.path e.1.items)) }
     {
         match self.kind {
             Kind::Generic(run) => match run.feed(rt, alloc, gate, chunks) {

@@ -52,9 +52,9 @@ impl<'a, S: SpillStore + Drop + Send> GroupByRun<'a, S> {
     /// Gives the run up, and hands the stores back, in order. It takes no memory.
     pub fn into_stores(self) -> Vec<S>
         ensures frames { HaveReplayedFrames (run_over self.entry.setting true self.entry.chunks)
-            self.entry.journals (stores_seen S.held S.told S.faults S.sure result.items) }
+            self.entry.journals (stores_seen S.held S.told S.faults S.sure S.path result.items) }
         ensures back { HaveWholeFrames (run_over self.entry.setting true self.entry.chunks)
-            (stores_seen S.held S.told S.faults S.sure result.items) }
+            (stores_seen S.held S.told S.faults S.sure S.path result.items) }
     {
         match self.kind {
             Kind::Generic(run) => run.into_stores(),

@@ -60,11 +60,11 @@ impl<'a, S: SpillStore + Drop> TypedRun<'a, S> {
           limits = limits.now;
           actions = map (λ v. v.items) actions.items;
           rules = rules.items;
-          stores = stores_seen S.held S.told S.faults S.sure stores.items;
+          stores = stores_seen S.held S.told S.faults S.sure S.path stores.items;
         }) }
         ensures chunks { IfOk result (λ r. r.chunks ≡ []) }
         ensures same { IfOk result (λ r. r.stores ≡
-            stores_seen S.held S.told S.faults S.sure stores.items) }
+            stores_seen S.held S.told S.faults S.sure S.path stores.items) }
         ensures cause { IfErr result (λ e. IsBeginCause
             (limits_fit limits.now (vec_len actions) (map (λ s. S.held s) stores.items))
             (first_fault query.now)

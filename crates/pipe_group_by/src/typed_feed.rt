@@ -85,12 +85,12 @@ impl<'a, S: SpillStore + Drop> TypedRun<'a, S> {
             (CanFeed self.entry.setting.query.schema (self.entry.chunks ++ chunks.items)) }
         ensures same { IfOk result (λ r. r.0.stores ≡ self.entry.stores) }
         ensures cause { IfErr result (λ e. IsFeedCause self.entry chunks.items
-            (stores_seen S.held S.told S.faults S.sure e.1.items) e.0) }
+            (stores_seen S.held S.told S.faults S.sure S.path e.1.items) e.0) }
         ensures untouched { IfErr result (λ e.
-            stores_seen S.held S.told S.faults S.sure e.1.items ≡ self.entry.stores) }
+            stores_seen S.held S.told S.faults S.sure S.path e.1.items ≡ self.entry.stores) }
         ensures back { IfErr result (λ e. HaveWholeFrames
             (run_over self.entry.setting true (chunks_reached self.entry chunks.items e.0))
-            (stores_seen S.held S.told S.faults S.sure e.1.items)) }
+            (stores_seen S.held S.told S.faults S.sure S.path e.1.items)) }
     {
         let TypedRun {
             query,

@@ -65,12 +65,12 @@ impl<'a, S: SpillStore + Drop> TypedRun<'a, S> {
     pub(crate) fn finish(self, alloc: Global) -> (Result<GroupByOutput, PipeError>, Vec<S>)
         ensures answered { IfOk result.0 (λ out. IsAnswered
             (run_over self.entry.setting false self.entry.chunks) out
-            (stores_seen S.held S.told S.faults S.sure result.1.items)) }
+            (stores_seen S.held S.told S.faults S.sure S.path result.1.items)) }
         ensures cause { IfErr result.0 (λ e. IsFinishCause self.entry
-            (stores_seen S.held S.told S.faults S.sure result.1.items) e) }
+            (stores_seen S.held S.told S.faults S.sure S.path result.1.items) e) }
         ensures back { IfErr result.0 (λ _. HaveWholeFrames
             (run_over self.entry.setting false self.entry.chunks)
-            (stores_seen S.held S.told S.faults S.sure result.1.items)) }
+            (stores_seen S.held S.told S.faults S.sure S.path result.1.items)) }
     {
         let TypedRun {
             query,

@@ -43,7 +43,7 @@ impl<'a, S: SpillStore + Drop> Model for TypedRun<'a, S> {
       limits = r.limits;
       actions = map (λ v. v.items) r.actions.items;
       rules = r.rules.items;
-      stores = stores_seen S.held S.told S.faults S.sure r.stores.items;
+      stores = stores_seen S.held S.told S.faults S.sure S.path r.stores.items;
     }) (map (λ c. c.value) r.chunks.items) };
 
     ghost invariant = { λ r. IsTypedRun (record {
@@ -51,7 +51,7 @@ impl<'a, S: SpillStore + Drop> Model for TypedRun<'a, S> {
       limits = r.limits;
       actions = map (λ v. v.items) r.actions.items;
       rules = r.rules.items;
-      stores = stores_seen S.held S.told S.faults S.sure r.stores.items;
+      stores = stores_seen S.held S.told S.faults S.sure S.path r.stores.items;
     }) (map (λ c. c.value) r.chunks.items) r.sinks.items r.rows × (r.journal ≡ []) };
 }
 
@@ -68,11 +68,11 @@ impl<'a, S: SpillStore + Drop> TypedRun<'a, S> {
 
     /// Gives the run up, and hands the stores back, in order. It takes no memory.
     pub(crate) fn into_stores(self) -> Vec<S>
-        ensures same { stores_seen S.held S.told S.faults S.sure result.items ≡ self.entry.setting.stores }
+        ensures same { stores_seen S.held S.told S.faults S.sure S.path result.items ≡ self.entry.setting.stores }
         ensures frames { HaveReplayedFrames (run_over self.entry.setting true self.entry.chunks)
-            self.entry.journals (stores_seen S.held S.told S.faults S.sure result.items) }
+            self.entry.journals (stores_seen S.held S.told S.faults S.sure S.path result.items) }
         ensures back { HaveWholeFrames (run_over self.entry.setting true self.entry.chunks)
-            (stores_seen S.held S.told S.faults S.sure result.items) }
+            (stores_seen S.held S.told S.faults S.sure S.path result.items) }
     {
         let TypedRun { stores, .. } = self;
         stores

@@ -31,8 +31,8 @@ pub(crate) fn run_typed<S: SpillStore + Drop, H: Threads + Sync>(
       limits = limits.now;
       actions = map (λ v. v.items) actions.items;
       rules = rules.items;
-      stores = stores_seen S.held S.told S.faults S.sure stores.items;
-    }) chunks.items result.0 (stores_seen S.held S.told S.faults S.sure result.1.items) }
+      stores = stores_seen S.held S.told S.faults S.sure S.path stores.items;
+    }) chunks.items result.0 (stores_seen S.held S.told S.faults S.sure S.path result.1.items) }
 {
     let run = match TypedRun::begin(alloc, query, limits, actions, rules, stores) {
         Ok(run) => run,

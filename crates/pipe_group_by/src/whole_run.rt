@@ -35,8 +35,8 @@ pub fn run_group_by<S: SpillStore + Drop + Send, G: Gate + Sync, H: Threads + Wa
       limits = limits.now;
       actions = map (λ v. v.items) actions.items;
       rules = [];
-      stores = stores_seen S.held S.told S.faults S.sure stores.items;
-    }) chunks.items result.0 (stores_seen S.held S.told S.faults S.sure result.1.items) }
+      stores = stores_seen S.held S.told S.faults S.sure S.path stores.items;
+    }) chunks.items result.0 (stores_seen S.held S.told S.faults S.sure S.path result.1.items) }
 {
     run_by(
         rt,
@@ -71,8 +71,8 @@ pub fn run_group_by_rules<S: SpillStore + Drop + Send, G: Gate + Sync, H: Thread
       limits = limits.now;
       actions = map (λ v. v.items) actions.items;
       rules = rules.items;
-      stores = stores_seen S.held S.told S.faults S.sure stores.items;
-    }) chunks.items result.0 (stores_seen S.held S.told S.faults S.sure result.1.items) }
+      stores = stores_seen S.held S.told S.faults S.sure S.path stores.items;
+    }) chunks.items result.0 (stores_seen S.held S.told S.faults S.sure S.path result.1.items) }
 {
     if rules.len() != limits.workers {
         return (Err(PipeError::Limits), stores);
@@ -99,8 +99,8 @@ fn run_by<S: SpillStore + Drop + Send, G: Gate + Sync, H: Threads + Wait + Sync>
       limits = limits.now;
       actions = map (λ v. v.items) actions.items;
       rules = rules.items;
-      stores = stores_seen S.held S.told S.faults S.sure stores.items;
-    }) chunks.items result.0 (stores_seen S.held S.told S.faults S.sure result.1.items) }
+      stores = stores_seen S.held S.told S.faults S.sure S.path stores.items;
+    }) chunks.items result.0 (stores_seen S.held S.told S.faults S.sure S.path result.1.items) }
 {
     if !is_generic(limits.sink) {
         return run_typed(rt, alloc, chunks, query, limits, actions, rules, stores);

@@ -10,12 +10,14 @@ use Rattle.pipe_plan.specs.declared.limits.Limits.{Limits}
 use Rattle.pipe_plan.specs.declared.limits.SinkKind.{SinkKind}
 use Rattle.pipe_plan.specs.declared.limits.SinkKind.TheVariants as sink_kind
 
--- a store as a run finds it: how many frames it holds, which it tells, its faults, if it is sure
+-- a store as a run finds it: how many frames it holds, which it tells, its faults, if it is
+-- sure, and the path of its file, if it has one
 pub record StoreSeen : Type 0 where
   pub held : ℕ
   pub told : Option (List (List ℕ))
   pub faults : ℕ
   pub sure : Bool
+  pub path : Option (List ℕ)
 
 -- whether a store tells its frames
 abbrev pub tells : StoreSeen → Bool

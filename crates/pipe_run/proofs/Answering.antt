@@ -40,13 +40,13 @@ whole-journal r p s is = record {
 
 -- a store that tells and holds as another does has its frames
 frames-kept : (r : Run) (p : ℕ) (s new : PartitionSeen) (frames : List (List Row)) → KeepsRest s new → HasFrames (store_of r p) r frames s.store → HasFrames (store_of r p) r frames new.store
-frames-kept r p s new frames kept has = record { told = kept.store.told ∙ has.told; held = kept.store.held ∙ has.held; sure = kept.store.sure ∙ has.sure }
+frames-kept r p s new frames kept has = record { told = kept.store.told ∙ has.told; held = kept.store.held ∙ has.held; sure = kept.store.sure ∙ has.sure; path = kept.store.path ∙ has.path }
 
 -- partitions that weren't asked
 pub kept-same : (closed : List PartitionSeen) → AreSamePartitions closed closed
 kept-same closed = record {
   count = refl;
-  each = λ p d lt. record { shape = (refl, refl); store = record { told = refl; held = refl; sure = refl; faults = omega arith }; others = refl };
+  each = λ p d lt. record { shape = (refl, refl); store = record { told = refl; held = refl; sure = refl; path = refl; faults = omega arith }; others = refl };
 }
 
 -- ---- all partitions
@@ -71,7 +71,7 @@ module _ (r : Run) (closed after : List PartitionSeen) (d : PartitionSeen) (stan
         let is = stand.each p d below in
         subst (λ (j : List PartitionEvent). HasFrames (store_of r p) r (replay r p j).frames (slice_index_or (stores_of after) p no_store)) (sym (journal-kept p lt))
         (subst (HasFrames (store_of r p) r (replay r p s.journal).frames) (sym (store-at p lt))
-        (frames-kept r p s (slice_index_or after p d) (replay r p s.journal).frames (kept.each p d below) (record { told = is.replayed.told; held = is.replayed.held; sure = is.sure })));
+        (frames-kept r p s (slice_index_or after p d) (replay r p s.journal).frames (kept.each p d below) (record { told = is.replayed.told; held = is.replayed.held; sure = is.sure; path = is.path })));
   }
 
   whole-kept : 0 < r.limits.buffer_size → HaveWholeFrames r (stores_of after)

@@ -28,6 +28,7 @@ rest-trans a b c x y = record {
     told = y.store.told ∙ x.store.told;
     held = y.store.held ∙ x.store.held;
     sure = y.store.sure ∙ x.store.sure;
+    path = y.store.path ∙ x.store.path;
     faults = omega (arith, x.store.faults, y.store.faults);
   };
   others = y.others ∙ ap (λ (s : PartitionSeen). record s { table = c.table; waiting = c.waiting; store = c.store; marks = c.marks }) x.others;

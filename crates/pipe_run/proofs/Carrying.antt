@@ -14,14 +14,15 @@ pub record IsAlike (a b : StoreSeen) : Type 0 where
   pub held : b.held ≡ a.held
   pub told : b.told ≡ a.told
   pub sure : b.sure ≡ a.sure
+  pub path : b.path ≡ a.path
 
 -- so are all stores of a run that counts elsewhere
 pub counted-at : (stores : List StoreSeen) (faults : List ℕ) (p : ℕ) → length faults ≡ length stores
     → IsAlike (slice_index_or stores p no_store) (slice_index_or (map (λ e. with_faults e.0 e.1) (zip stores faults)) p no_store)
-counted-at [] [] p same = record { held = refl; told = refl; sure = refl }
+counted-at [] [] p same = record { held = refl; told = refl; sure = refl; path = refl }
 counted-at [] (n ∷ faults) p same = absurd (omega (arith, same))
 counted-at (s ∷ stores) [] p same = absurd (omega (arith, same))
-counted-at (s ∷ stores) (n ∷ faults) zero same = record { held = refl; told = refl; sure = refl }
+counted-at (s ∷ stores) (n ∷ faults) zero same = record { held = refl; told = refl; sure = refl; path = refl }
 counted-at (s ∷ stores) (n ∷ faults) (suc p) same = counted-at stores faults p (omega (arith, same))
 
 -- and its count is the one that is named
@@ -69,6 +70,7 @@ module _ (x : Setting) (o : Bool) (before more : List DataChunk) (faults : List 
         replayed = subst (λ (made : Replayed). StandsFor onto p made s) (sym same_replay) (stands-on p (replay from p s.journal) s same is.replayed);
         numbers = is.numbers;
         sure = is.sure ∙ sym (counted-at x.stores faults p same).sure;
+        path = is.path ∙ sym (counted-at x.stores faults p same).path;
         journal = within-on from onto p s.journal on refl is.journal;
         workers = is.workers;
         book = is.book;

@@ -75,7 +75,7 @@ pub stands-frames : (r : Run) (p : ℕ) (s : PartitionSeen) → 0 < r.limits.buf
 stands-frames r p s some is = record {
   frames = (replay r p s.journal).frames;
   pieces = frames-apart r p s.journal some is.journal;
-  has = record { told = is.replayed.told; held = is.replayed.held; sure = is.sure };
+  has = record { told = is.replayed.told; held = is.replayed.held; sure = is.sure; path = is.path };
 }
 
 pub stand-frames : (r : Run) (closed : List PartitionSeen) (stores : List StoreSeen) → 0 < r.limits.buffer_size → stores ≡ map (λ c. c.store) closed → AllStand r closed → HaveWholeFrames r stores

@@ -33,6 +33,7 @@ module _ (r : Run) (faults : List ℕ) (same : length faults ≡ length r.stores
         };
         numbers = is.numbers;
         sure = is.sure ∙ alike.sure;
+        path = is.path ∙ alike.path;
         journal = record { workers = is.journal.workers; plans = is.journal.plans };
         workers = is.workers;
         book = is.book;

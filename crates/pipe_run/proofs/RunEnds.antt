@@ -84,7 +84,7 @@ frames-shut x chunks stores some all =
           record {
             frames = has.frames;
             pieces = pieces-on (run_over x true chunks) (run_over x false chunks) p (λ w. payloads-on (run_over x true chunks) (run_over x false chunks) on w p some refl) has.frames refl has.pieces;
-            has = record { told = has.has.told; held = has.has.held; sure = has.has.sure };
+            has = record { told = has.has.told; held = has.has.held; sure = has.has.sure; path = has.has.path };
           };
     }
 
@@ -105,7 +105,7 @@ untouched-in x o chunks fit =
           record {
             frames = [];
             pieces = frames-apart r p [] limits.buffer (within-none r p);
-            has = record { told = told-none (store_of r p).told; held = omega arith; sure = refl };
+            has = record { told = told-none (store_of r p).told; held = omega arith; sure = refl; path = refl };
           };
     }
 

@@ -127,7 +127,7 @@ asked s y local slice given = record {
 pub keeps-itself : (x : PartitionSeen) → KeepsRest x x
 keeps-itself x = record {
   shape = (refl, refl);
-  store = record { told = refl; held = refl; sure = refl; faults = omega arith };
+  store = record { told = refl; held = refl; sure = refl; path = refl; faults = omega arith };
   others = refl;
 }
 

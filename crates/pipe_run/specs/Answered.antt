@@ -17,6 +17,7 @@ pub record HasFrames (before : StoreSeen) (r : Run) (frames : List (List Row)) (
   pub told : s.told ≡ with_frames before.told (map (frame_bytes_of r.query) frames)
   pub held : s.held ≡ before.held + length frames
   pub sure : s.sure ≡ before.sure
+  pub path : s.path ≡ before.path
 
 -- the stores of a run have their former frames, and then those of the replay of their journals
 pub record HaveReplayedFrames (r : Run) (journals : List (List PartitionEvent))

@@ -32,7 +32,7 @@ run_over s is_open chunks = record {
 -- a store whose count of faults stands elsewhere
 abbrev pub with_faults : StoreSeen → ℕ → StoreSeen
 with_faults s faults =
-    record { held = s.held; told = s.told; faults = faults; sure = s.sure }
+    record { held = s.held; told = s.told; faults = faults; sure = s.sure; path = s.path }
 
 -- a run whose stores' counts of faults stand elsewhere
 abbrev pub counted_from : Run → List ℕ → Run

@@ -80,11 +80,11 @@ impl<'a, S: SpillStore + Drop + Send> GenericRun<'a, S> {
           limits = limits.now;
           actions = map (λ v. v.items) actions.items;
           rules = rules.items;
-          stores = stores_seen S.held S.told S.faults S.sure stores.items;
+          stores = stores_seen S.held S.told S.faults S.sure S.path stores.items;
         }) }
         ensures chunks { IfOk result (λ r. r.chunks ≡ []) }
         ensures counted { IfOk result (λ r. NoneFell
-            (stores_seen S.held S.told S.faults S.sure stores.items) r.stores) }
+            (stores_seen S.held S.told S.faults S.sure S.path stores.items) r.stores) }
         ensures cause { IfErr result (λ e. IsBeginCause
             (limits_fit limits.now (vec_len actions) (map (λ s. S.held s) stores.items))
             (first_fault query.now)
@@ -121,11 +121,11 @@ impl<'a, S: SpillStore + Drop + Send> GenericRun<'a, S> {
           limits = limits.now;
           actions = map (λ v. v.items) actions.items;
           rules = rules.items;
-          stores = stores_seen S.held S.told S.faults S.sure stores.items;
+          stores = stores_seen S.held S.told S.faults S.sure S.path stores.items;
         }) }
         ensures chunks { IfOk result (λ r. r.chunks ≡ []) }
         ensures counted { IfOk result (λ r. NoneFell
-            (stores_seen S.held S.told S.faults S.sure stores.items) r.stores) }
+            (stores_seen S.held S.told S.faults S.sure S.path stores.items) r.stores) }
         ensures back { IfErr result (λ e. e.1.items ≡ stores.items) }
     {
         // Called for what its clauses say.
@@ -205,7 +205,7 @@ fn begun_of<'a, S: SpillStore + Drop>(
       limits = limits.now;
       actions = map (λ v. v.items) actions.items;
       rules = rules.items;
-      stores = stores_seen S.held S.told S.faults S.sure (map (λ s. s.value) former.items);
+      stores = stores_seen S.held S.told S.faults S.sure S.path (map (λ s. s.value) former.items);
     } }
 {
     Begun {

@@ -31,7 +31,7 @@ impl<'a, S: SpillStore + Drop> Model for Begun<'a, S> {
       limits = b.limits;
       actions = map (λ v. v.items) b.actions.items;
       rules = b.rules.items;
-      stores = map (λ s. store_seen S.held S.told S.faults S.sure s.value) b.former.items;
+      stores = map (λ s. store_seen S.held S.told S.faults S.sure S.path s.value) b.former.items;
     } };
 }
 

@@ -52,16 +52,16 @@ fn finish_with<S: SpillStore + Drop + Send, G: Gate + Sync, H: Threads + Wait + 
     requires room { (vec_len room ≡ 0) × (vec_len closed ≤ vec_capacity room) }
     ensures answered { IfOk result.0 (λ out. IsAnswered
         (run_over begun.now false (map (λ c. c.value) chunks.now)) out
-        (stores_seen S.held S.told S.faults S.sure result.1.items)) }
+        (stores_seen S.held S.told S.faults S.sure S.path result.1.items)) }
     ensures cause { IfErr result.0 (λ e. IsFinishCause (record {
       setting = begun.now;
       chunks = map (λ c. c.value) chunks.now;
       journals = map (λ c. c.journal) closed.items;
       stores = map (λ c. c.store) closed.items;
-    }) (stores_seen S.held S.told S.faults S.sure result.1.items) e) }
+    }) (stores_seen S.held S.told S.faults S.sure S.path result.1.items) e) }
     ensures back { IfErr result.0 (λ _. HaveWholeFrames
         (run_over begun.now false (map (λ c. c.value) chunks.now))
-        (stores_seen S.held S.told S.faults S.sure result.1.items)) }
+        (stores_seen S.held S.told S.faults S.sure S.path result.1.items)) }
 {
     let Ended { closed, rested } = match round(
         rt,
@@ -106,12 +106,12 @@ impl<'a, S: SpillStore + Drop + Send> GenericRun<'a, S> {
     ) -> (Result<GroupByOutput, PipeError>, Vec<S>)
         ensures answered { IfOk result.0 (λ out. IsAnswered
             (run_over self.entry.setting false self.entry.chunks) out
-            (stores_seen S.held S.told S.faults S.sure result.1.items)) }
+            (stores_seen S.held S.told S.faults S.sure S.path result.1.items)) }
         ensures cause { IfErr result.0 (λ e. IsFinishCause self.entry
-            (stores_seen S.held S.told S.faults S.sure result.1.items) e) }
+            (stores_seen S.held S.told S.faults S.sure S.path result.1.items) e) }
         ensures back { IfErr result.0 (λ _. HaveWholeFrames
             (run_over self.entry.setting false self.entry.chunks)
-            (stores_seen S.held S.told S.faults S.sure result.1.items)) }
+            (stores_seen S.held S.told S.faults S.sure S.path result.1.items)) }
     {
         let GenericRun {
             begun,

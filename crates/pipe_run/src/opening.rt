@@ -102,7 +102,7 @@ fn opened_named<S: SpillStore + Drop, R: Naming, H: Wait>(
     requires limits { AreLimits begun.now.limits }
     requires generic { is_generic begun.now.limits.sink ≡ true }
     requires count { vec_len stores ≡ begun.now.limits.partitions }
-    requires stores { begun.now.stores ≡ stores_seen S.held S.told S.faults S.sure stores.items }
+    requires stores { begun.now.stores ≡ stores_seen S.held S.told S.faults S.sure S.path stores.items }
     requires former { All (λ s. s.held < 2 ^ 63) begun.now.stores }
     ensures whole { IfOk result (λ v. AreWholePartitions R.run v.items) }
     ensures counted { IfOk result (λ v. AreCounted R.run v.items) }
@@ -128,7 +128,7 @@ pub(crate) fn opened<S: SpillStore + Drop, H: Wait>(
     requires limits { AreLimits begun.now.limits }
     requires generic { is_generic begun.now.limits.sink ≡ true }
     requires count { vec_len stores ≡ begun.now.limits.partitions }
-    requires stores { begun.now.stores ≡ stores_seen S.held S.told S.faults S.sure stores.items }
+    requires stores { begun.now.stores ≡ stores_seen S.held S.told S.faults S.sure S.path stores.items }
     requires former { All (λ s. s.held < 2 ^ 63) begun.now.stores }
     ensures whole { IfOk result (λ v. AreWholePartitions (run_over begun.now true []) v.items) }
     ensures counted { IfOk result (λ v. AreCounted (run_over begun.now true []) v.items) }

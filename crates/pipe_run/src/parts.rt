@@ -24,7 +24,7 @@ pub(crate) fn parts_of<S: SpillStore + Drop>(
     requires stores { (vec_len stores ≡ 0) × (vec_len closed ≤ vec_capacity stores) }
     requires few { sum_by (λ c. c.arrived) closed.items < 2 ^ 64 }
     ensures journals { result.journals.items ≡ map (λ c. c.journal) closed.items }
-    ensures stores { stores_seen S.held S.told S.faults S.sure result.stores.items
+    ensures stores { stores_seen S.held S.told S.faults S.sure S.path result.stores.items
         ≡ map (λ c. c.store) closed.items }
     ensures arrived { result.arrived ≡ sum_by (λ c. c.arrived) closed.items }
 {

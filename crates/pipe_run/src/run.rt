@@ -132,12 +132,12 @@ impl<'a, S: SpillStore + Drop + Send> GenericRun<'a, S> {
             (CanFeed self.entry.setting.query.schema (self.entry.chunks ++ chunks.items)) }
         ensures counted { IfOk result (λ r. NoneFell self.entry.stores r.0.stores) }
         ensures cause { IfErr result (λ e. IsFeedCause self.entry chunks.items
-            (stores_seen S.held S.told S.faults S.sure e.1.items) e.0) }
+            (stores_seen S.held S.told S.faults S.sure S.path e.1.items) e.0) }
         ensures untouched { IfErr result (λ e. IsBadChunks e.0 →
-            stores_seen S.held S.told S.faults S.sure e.1.items ≡ self.entry.stores) }
+            stores_seen S.held S.told S.faults S.sure S.path e.1.items ≡ self.entry.stores) }
         ensures back { IfErr result (λ e. HaveWholeFrames
             (run_over self.entry.setting true (chunks_reached self.entry chunks.items e.0))
-            (stores_seen S.held S.told S.faults S.sure e.1.items)) }
+            (stores_seen S.held S.told S.faults S.sure S.path e.1.items)) }
     {
         let GenericRun {
             begun,
@@ -188,12 +188,12 @@ impl<'a, S: SpillStore + Drop + Send> GenericRun<'a, S> {
             (CanFeed self.entry.setting.query.schema (self.entry.chunks ++ chunks.items)) }
         ensures counted { IfOk result (λ r. NoneFell self.entry.stores r.stores) }
         ensures cause { IfErr result (λ e. IsFeedCause self.entry chunks.items
-            (stores_seen S.held S.told S.faults S.sure e.1.items) e.0) }
+            (stores_seen S.held S.told S.faults S.sure S.path e.1.items) e.0) }
         ensures untouched { IfErr result (λ e. IsBadChunks e.0 →
-            stores_seen S.held S.told S.faults S.sure e.1.items ≡ self.entry.stores) }
+            stores_seen S.held S.told S.faults S.sure S.path e.1.items ≡ self.entry.stores) }
         ensures back { IfErr result (λ e. HaveWholeFrames
             (run_over self.entry.setting true (chunks_reached self.entry chunks.items e.0))
-            (stores_seen S.held S.told S.faults S.sure e.1.items)) }
+            (stores_seen S.held S.told S.faults S.sure S.path e.1.items)) }
     {
         match self.feed_lent(rt, alloc, gate, chunks) {
             Ok((run, chunks)) => {
@@ -216,9 +216,9 @@ impl<'a, S: SpillStore + Drop + Send> GenericRun<'a, S> {
     /// Gives the run up, and hands the stores back, in order. It takes no memory.
     pub fn into_stores(self) -> Vec<S>
         ensures frames { HaveReplayedFrames (run_over self.entry.setting true self.entry.chunks)
-            self.entry.journals (stores_seen S.held S.told S.faults S.sure result.items) }
+            self.entry.journals (stores_seen S.held S.told S.faults S.sure S.path result.items) }
         ensures back { HaveWholeFrames (run_over self.entry.setting true self.entry.chunks)
-            (stores_seen S.held S.told S.faults S.sure result.items) }
+            (stores_seen S.held S.told S.faults S.sure S.path result.items) }
     {
         let GenericRun {
             begun,

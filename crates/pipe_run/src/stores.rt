@@ -12,7 +12,7 @@ pub(crate) fn stores_of<S: SpillStore + Drop>(
     mut room: Vec<S>,
 ) -> Vec<S>
     requires { (vec_len room ≡ 0) × (vec_len closed ≤ vec_capacity room) }
-    ensures { stores_seen S.held S.told S.faults S.sure result.items ≡ map (λ c. c.store) closed.items }
+    ensures { stores_seen S.held S.told S.faults S.sure S.path result.items ≡ map (λ c. c.store) closed.items }
 {
     for partition in closed {
         let (_journal, store) = partition.into_parts();

@@ -38,8 +38,8 @@ pub fn run_generic<S: SpillStore + Drop + Send, G: Gate + Sync, H: Threads + Wai
       limits = limits.now;
       actions = map (λ v. v.items) actions.items;
       rules = rules.items;
-      stores = stores_seen S.held S.told S.faults S.sure stores.items;
-    }) chunks.items result.0 (stores_seen S.held S.told S.faults S.sure result.1.items) }
+      stores = stores_seen S.held S.told S.faults S.sure S.path stores.items;
+    }) chunks.items result.0 (stores_seen S.held S.told S.faults S.sure S.path result.1.items) }
 {
     let checked = match checked_query(alloc, query, limits, actions.len(), &stores) {
         Ok(checked) => checked,

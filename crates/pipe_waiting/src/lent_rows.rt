@@ -1,7 +1,8 @@
 //! Rows that are read one after another from bytes that are lent.
 
-ghost use Rattle.std.specs.Prelude.{◌≡◌, IfNone, IfOk, IfSome, OnErr};
-ghost use Rattle.pipe_waiting.specs.Waiting.{HoldRows, IsNext};
+ghost use Rattle.std.specs.Prelude.{◌≡◌, IfNone, IfOk, IfSome, List, OnErr};
+ghost use Rattle.pipe_columns.specs.declared.data_type.DataType.{DataType};
+ghost use Rattle.pipe_waiting.specs.Waiting.{AreWaiting, HoldRows, IsNext, left_rows, waiting_rows};
 
 use crate::read_inputs::read_inputs;
 use crate::row_head::take_key;
@@ -39,6 +40,10 @@ impl WaitingRows {
     pub fn lend(&self) -> LentRows<'_>
         ensures count { result.count ≡ self.now.count }
         ensures bytes { result.bytes ≡ self.now.bytes }
+        ensures typed { (types : List DataType) → AreWaiting types self.now
+            → HoldRows types result.count result.bytes }
+        ensures rows { (types : List DataType)
+            → left_rows types result ≡ waiting_rows types self.now }
     {
         LentRows {
             count: self.count,

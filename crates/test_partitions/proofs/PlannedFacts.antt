@@ -42,14 +42,14 @@ runnable stores count empty = record {
 
 -- ---- the stores
 
-module _ {S : Type 0} (held : S → ℕ) (told : S → Option (List (List ℕ))) (faults : S → ℕ) (sure : S → Bool) (xs : List S) where
+module _ {S : Type 0} (held : S → ℕ) (told : S → Option (List (List ℕ))) (faults : S → ℕ) (sure : S → Bool) (path : S → Option (List ℕ)) (xs : List S) where
   -- as many as there are
-  pub count-seen : length xs ≡ 2 → length (stores_seen held told faults sure xs) ≡ 2
-  count-seen two = length-map xs (λ (s : S). record { held = held s; told = told s; faults = faults s; sure = sure s }) ∙ two
+  pub count-seen : length xs ≡ 2 → length (stores_seen held told faults sure path xs) ≡ 2
+  count-seen two = length-map xs (λ (s : S). record { held = held s; told = told s; faults = faults s; sure = sure s; path = path s }) ∙ two
 
   -- and as empty
-  pub empty-seen : All (λ s. held s ≡ 0) xs → All (λ s. s.held ≡ 0) (stores_seen held told faults sure xs)
-  empty-seen none = All-map (λ (s : StoreSeen). s.held ≡ 0) (λ (s : S). record { held = held s; told = told s; faults = faults s; sure = sure s }) xs none
+  pub empty-seen : All (λ s. held s ≡ 0) xs → All (λ s. s.held ≡ 0) (stores_seen held told faults sure path xs)
+  empty-seen none = All-map (λ (s : StoreSeen). s.held ≡ 0) (λ (s : S). record { held = held s; told = told s; faults = faults s; sure = sure s; path = path s }) xs none
 
 -- ---- the shares
 

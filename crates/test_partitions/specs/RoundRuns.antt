@@ -1,5 +1,5 @@
 -- Of the proofs alone: the runs of a test in two rounds, with one worker and one partition.
-use Rattle.std.specs.Prelude.{◌≡◌, ℕ, true, false, [], ◌∷◌, Some, slice_index_or}
+use Rattle.std.specs.Prelude.{◌≡◌, ℕ, true, false, [], ◌∷◌, Some, slice_index_or, None}
 use Rattle.pipe_columns.specs.declared.data_type.DataType.TheVariants as dt
 use Rattle.pipe_plan.specs.Run.{Run, StoreSeen}
 use Rattle.pipe_plan.specs.WorkedRuns.{both_rounds, first_round, in_rounds, left_open, row_at}
@@ -14,7 +14,7 @@ shares_at picks events faults =
 
 -- an empty store that tells its frames and never fails, with so many faults
 abbrev pub empty_store : ℕ → StoreSeen
-empty_store faults = record { held = 0; told = Some []; faults = faults; sure = true }
+empty_store faults = record { held = 0; told = Some []; faults = faults; sure = true; path = None }
 
 -- the open run of a first round over it: a dump that finds nothing
 abbrev pub first_of_two : ℕ → Run

@@ -65,7 +65,7 @@ fn drive<S: SpillStore + Drop, R: Naming, H: Wait>(
     requires faults { (blanks.faults.name ≡ R.fault_ledger) × (blanks.faults.parts ≡ 2) }
     requires query { query_tree query.now ≡ sum_by_number }
     requires run { R.run ≡ second_spills
-        (stores_seen S.held S.told S.faults S.sure stores.items) }
+        (stores_seen S.held S.told S.faults S.sure S.path stores.items) }
     requires count { vec_len stores ≡ 2 }
     requires empty { All (λ s. S.held s ≡ 0) stores.items }
     ensures { IfOk result (λ c. HasEnded c) }

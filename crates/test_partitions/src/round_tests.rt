@@ -1,6 +1,6 @@
 //! One worker's calls over two rounds: a table is closed, and a longer run is resumed on it.
 
-ghost use Rattle.std.specs.Prelude.{◌≡◌, ◌∷◌, [], IfOk};
+ghost use Rattle.std.specs.Prelude.{◌≡◌, ◌∷◌, [], IfOk, None};
 ghost use Rattle.pipe_aggs.specs.QueryTrees.{query_tree};
 ghost use Rattle.pipe_plan.specs.Stores.{stores_seen};
 ghost use Rattle.pipe_plan.specs.WorkedRuns.{sum_by_number};
@@ -44,7 +44,7 @@ fn first_round<R: Naming, H: Wait>(
     requires faults { (blanks.faults.name ≡ R.fault_ledger) × (blanks.faults.parts ≡ 1) }
     requires query { query_tree query.now ≡ sum_by_number }
     requires run { R.run ≡ first_of_two 0 }
-    requires store { stores_seen held_of told_of faults_of is_sure stores.items
+    requires store { stores_seen held_of told_of faults_of is_sure (λ _. None) stores.items
         ≡ empty_store 0 ∷ [] }
     ensures { IfOk result (λ c. HasRested c) }
 {

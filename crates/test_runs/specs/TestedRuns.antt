@@ -1,5 +1,5 @@
 -- Of the proofs alone: runs of tests, over chunks that were tried.
-use Rattle.std.specs.Prelude.{◌≡◌, ◌≤◌, ◌^◌, false, List, length, map, []}
+use Rattle.std.specs.Prelude.{◌≡◌, ◌≤◌, ◌^◌, false, List, length, map, [], None}
 use Rattle.std.specs.List.{All}
 use Rattle.pipe_columns.specs.declared.data_chunk.DataChunk.{DataChunk}
 use Rattle.pipe_columns.specs.declared.schema.Field.{Field}
@@ -24,7 +24,7 @@ pub record AreTaken (fields : List Field) (chunks : List DataChunk) : Type 0 whe
 
 -- a store in memory, as a run finds it
 abbrev pub as_found : MemoryFrames → StoreSeen
-as_found s = record { held = held_of s; told = told_of s; faults = faults_of s; sure = is_sure s }
+as_found s = record { held = held_of s; told = told_of s; faults = faults_of s; sure = is_sure s; path = None }
 
 -- the closed run of a query over chunks, with stores in memory
 abbrev pub tested_run : Query → Limits → List (List SpillAction) → List DataChunk

@@ -2,4 +2,12 @@
 #![tactic(auto)]
 
 #[cfg(test)]
+mod chunk_rows;
+#[cfg(test)]
+mod given_rows;
+#[cfg(test)]
 mod kept_rows;
+#[cfg(test)]
+mod memory_tests;
+#[cfg(test)]
+mod store_frames;

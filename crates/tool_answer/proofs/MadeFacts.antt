@@ -42,6 +42,7 @@ has-made p q m new stores s out began is answered = record {
   new = new;
   are_made = began.new;
   count = began.count;
+  paths = began.paths;
   answered = subst (λ (t : QueryTree). IsAnswered (asked_run p t false (made m) new) out stores) is
       (subst (λ (y : Setting). IsAnswered (run_over y false (made m)) out stores) began.setting answered);
 }
@@ -82,7 +83,7 @@ module _ (p : PlanSeen) (q : Query) (m : Made) (is : query_tree q ≡ made_tree)
 
   -- its stores have whole frames
   pub made-front : HaveFront p made_tree (run.AreFedMade m) stores
-  made-front = record { made = new; are_made = began.new; count = began.count; chunks = back.chunks; is_open = back.is_open; fed = back.fed; fit = fit; frames = whole }
+  made-front = record { made = new; are_made = began.new; count = began.count; paths = began.paths; chunks = back.chunks; is_open = back.is_open; fed = back.fed; fit = fit; frames = whole }
 
   -- without a folder they are sound
   pub made-sound : All (λ (x : StoreSeen). IsTrue x.sure → x.faults ≡ 0) stores → p.spill_dir ≡ None → All IsSoundStore stores

@@ -4,7 +4,7 @@ use Rattle.std.specs.Prelude.{◌⊎◌, ◌&&◌, IfErr, IfOk, IfSome, IsTrue, 
 use Rattle.std.specs.Cmp.Derive.{both_true}
 use Rattle.std.specs.List.{All, list_all, slice_index_or}
 use Rattle.std.proofs.lemmas.Bool.{false≢true, le-leb, lt-ltb}
-use Rattle.std.proofs.lemmas.List.{length-map}
+use Rattle.std.proofs.lemmas.List.{ext_get_or, get_or-map, length-map}
 use Rattle.std.proofs.lemmas.List.Elements.{All-from_get_or, All-head, All-nil, All-tail}
 use Rattle.pipe_columns.specs.Causes.{Rose}
 use Rattle.pipe_columns.specs.declared.data_chunk.DataChunk.{DataChunk}
@@ -22,6 +22,7 @@ use Rattle.pipe_columns.specs.declared.data_type.DataType.{DataType}
 use Rattle.pipe_plan.specs.declared.limits.SinkKind.{SinkKind}
 use Rattle.pipe_plan.specs.declared.limits.SinkKind.TheVariants as sink_kind
 use Rattle.pipe_plan.specs.Run.{Run, StoreSeen, tells}
+use Rattle.tool_stores.specs.StorePath.{store_paths}
 use Rattle.pipe_run.specs.Answered.{HasFrames, HaveWholeFrames, IsAnswered}
 use Rattle.pipe_run.specs.Fed.{FedSeen}
 use Rattle.pipe_run.specs.declared.error.PipeError.TheVariants as pipe_error
@@ -76,13 +77,13 @@ keeps_suits sink_kind.Text (t ∷ u ∷ more) keeps = absurd (false≢true keeps
 -- ---- limits
 
 -- stores as they are made have numbers left
-held-few : {S : Type 0} (held : S → ℕ) (told : S → Option (List (List ℕ))) (faults : S → ℕ) (sure : S → Bool) (folder : Option (List ℕ)) (items : List S)
-    → All (IsMade folder) (stores_seen held told faults sure items) → list_all (λ n. nat_lt n (2 ^ 63)) (map held items) ≡ true
-held-few held told faults sure folder [] all = refl
-held-few {S = S} held told faults sure folder (x ∷ xs) all =
-    let f : S → StoreSeen = λ s. record { held = held s; told = told s; faults = faults s; sure = sure s } in
+held-few : {S : Type 0} (held : S → ℕ) (told : S → Option (List (List ℕ))) (faults : S → ℕ) (sure : S → Bool) (path : S → Option (List ℕ)) (folder : Option (List ℕ)) (items : List S)
+    → All (IsMade folder) (stores_seen held told faults sure path items) → list_all (λ n. nat_lt n (2 ^ 63)) (map held items) ≡ true
+held-few held told faults sure path folder [] all = refl
+held-few {S = S} held told faults sure path folder (x ∷ xs) all =
+    let f : S → StoreSeen = λ s. record { held = held s; told = told s; faults = faults s; sure = sure s; path = path s } in
     both_true (lt-ltb (held x) (2 ^ 63) (omega (arith, (All-head (IsMade folder) (f x) (map f xs) all).held)))
-    (held-few held told faults sure folder xs (All-tail (IsMade folder) (f x) (map f xs) all))
+    (held-few held told faults sure path folder xs (All-tail (IsMade folder) (f x) (map f xs) all))
 
 same-number : (a b : ℕ) → a ≡ b → (a == b) ≡ true
 same-number a b e = rw e (search rules)
@@ -95,10 +96,10 @@ pub rules_fit : (fit : Bool) (n workers : ℕ) → fit ≡ true → n ≡ worker
 rules_fit fit n workers fits each = both_true fits (same-number n workers each)
 
 -- a plan that can be run has limits that fit, over stores as they are made
-pub plan-fits : {S : Type 0} (held : S → ℕ) (told : S → Option (List (List ℕ))) (faults : S → ℕ) (sure : S → Bool) (p : PlanSeen) (n : ℕ) (items : List S)
-    → CanRun p → n ≡ length p.actions → All (IsMade p.spill_dir) (stores_seen held told faults sure items) → length items ≡ p.limits.partitions
+pub plan-fits : {S : Type 0} (held : S → ℕ) (told : S → Option (List (List ℕ))) (faults : S → ℕ) (sure : S → Bool) (path : S → Option (List ℕ)) (p : PlanSeen) (n : ℕ) (items : List S)
+    → CanRun p → n ≡ length p.actions → All (IsMade p.spill_dir) (stores_seen held told faults sure path items) → length items ≡ p.limits.partitions
     → limits_fit p.limits n (map held items) ≡ true
-plan-fits held told faults sure p n items can number new count =
+plan-fits held told faults sure path p n items can number new count =
     let l = p.limits in
     both_true (both_true (both_true (both_true (both_true
     (between 1 256 l.workers can.limits.some_worker can.limits.most_workers)
@@ -106,25 +107,33 @@ plan-fits held told faults sure p n items can number new count =
     (lt-ltb 0 l.buffer_size can.limits.some_buffer))
     (same-number n l.workers (number ∙ can.actions)))
     (same-number (length (map held items)) l.partitions (length-map items held ∙ count)))
-    (held-few held told faults sure p.spill_dir items new)
+    (held-few held told faults sure path p.spill_dir items new)
+
+-- the paths of stores as they are seen
+seen-paths : {S : Type 0} (held : S → ℕ) (told : S → Option (List (List ℕ))) (faults : S → ℕ) (sure : S → Bool) (path : S → Option (List ℕ)) (items : List S)
+    → map (λ (s : StoreSeen). s.path) (stores_seen held told faults sure path items) ≡ map path items
+seen-paths held told faults sure path [] = refl
+seen-paths held told faults sure path (x ∷ xs) = ap (λ l. path x ∷ l) (seen-paths held told faults sure path xs)
 
 -- how a run was begun
 pub record Began (p : PlanSeen) (q : Query) (made : List StoreSeen) (s : FedSeen) : Type 0 where
   pub new : All (IsMade p.spill_dir) made
   pub count : length made ≡ p.limits.partitions
+  pub paths : map (λ s. s.path) made ≡ store_paths p.spill_dir p.limits.partitions
   pub setting : s.setting ≡ setting_of p q made
 
-pub began-of : {S : Type 0} (held : S → ℕ) (told : S → Option (List (List ℕ))) (faults : S → ℕ) (sure : S → Bool) (p : PlanSeen) (q : Query) (items : List S) (s : FedSeen)
-    → All (IsMade p.spill_dir) (stores_seen held told faults sure items) → length items ≡ p.limits.partitions → s.setting ≡ setting_of p q (stores_seen held told faults sure items)
-    → Began p q (stores_seen held told faults sure items) s
-began-of held told faults sure p q items s new count setting = record { new = new; count = length-map items _ ∙ count; setting = setting }
+pub began-of : {S : Type 0} (held : S → ℕ) (told : S → Option (List (List ℕ))) (faults : S → ℕ) (sure : S → Bool) (path : S → Option (List ℕ)) (p : PlanSeen) (q : Query) (items : List S) (s : FedSeen)
+    → All (IsMade p.spill_dir) (stores_seen held told faults sure path items) → length items ≡ p.limits.partitions → map path items ≡ store_paths p.spill_dir p.limits.partitions
+    → s.setting ≡ setting_of p q (stores_seen held told faults sure path items) → Began p q (stores_seen held told faults sure path items) s
+began-of held told faults sure path p q items s new count paths setting =
+    record { new = new; count = length-map items _ ∙ count; paths = seen-paths held told faults sure path items ∙ paths; setting = setting }
 
 -- the same of a query that is told as the narrowed one
-pub began-narrow : {S : Type 0} (held : S → ℕ) (told : S → Option (List (List ℕ))) (faults : S → ℕ) (sure : S → Bool) (p : PlanSeen) (q now : Query) (ws : List Bool) (items : List S) (s : FedSeen)
-    → All (IsMade p.spill_dir) (stores_seen held told faults sure items) → length items ≡ p.limits.partitions → now ≡ narrowed_query ws q → s.setting ≡ setting_of p now (stores_seen held told faults sure items)
-    → Began p (narrowed_query ws q) (stores_seen held told faults sure items) s
-began-narrow held told faults sure p q now ws items s new count is setting =
-    began-of held told faults sure p (narrowed_query ws q) items s new count (setting ∙ ap (λ (k : Query). setting_of p k (stores_seen held told faults sure items)) is)
+pub began-narrow : {S : Type 0} (held : S → ℕ) (told : S → Option (List (List ℕ))) (faults : S → ℕ) (sure : S → Bool) (path : S → Option (List ℕ)) (p : PlanSeen) (q now : Query) (ws : List Bool) (items : List S) (s : FedSeen)
+    → All (IsMade p.spill_dir) (stores_seen held told faults sure path items) → length items ≡ p.limits.partitions → map path items ≡ store_paths p.spill_dir p.limits.partitions → now ≡ narrowed_query ws q → s.setting ≡ setting_of p now (stores_seen held told faults sure path items)
+    → Began p (narrowed_query ws q) (stores_seen held told faults sure path items) s
+began-narrow held told faults sure path p q now ws items s new count paths is setting =
+    began-of held told faults sure path p (narrowed_query ws q) items s new count paths (setting ∙ ap (λ (k : Query). setting_of p k (stores_seen held told faults sure path items)) is)
 
 -- the columns that are read are those of its query
 pub fields-narrow : (p : PlanSeen) (q now : Query) (ws : List Bool) (made : List StoreSeen) (s : FedSeen) (schema fields : List Field) → now ≡ narrowed_query ws q → s.setting ≡ setting_of p now made
@@ -161,18 +170,20 @@ left-read p q ws made stores s told first began reader back =
     }
 
 -- stores as they are made have the frames of no run
-pub front-made : {S : Type 0} (held : S → ℕ) (told : S → Option (List (List ℕ))) (faults : S → ℕ) (sure : S → Bool) (p : PlanSeen) (q : Query) (Fed : Bool → List DataChunk → Type 0) (items now : List S)
-    → CanRun p → All (IsMade p.spill_dir) (stores_seen held told faults sure items) → length items ≡ p.limits.partitions → Fed true [] → now ≡ items
-    → HaveFront p (query_tree q) Fed (stores_seen held told faults sure now)
-front-made {S = S} held told faults sure p q Fed items now can new count none same =
-    let made : List StoreSeen = stores_seen held told faults sure items in
+pub front-made : {S : Type 0} (held : S → ℕ) (told : S → Option (List (List ℕ))) (faults : S → ℕ) (sure : S → Bool) (path : S → Option (List ℕ)) (p : PlanSeen) (q : Query) (Fed : Bool → List DataChunk → Type 0) (items now : List S)
+    → CanRun p → All (IsMade p.spill_dir) (stores_seen held told faults sure path items) → length items ≡ p.limits.partitions → map path items ≡ store_paths p.spill_dir p.limits.partitions
+    → Fed true [] → now ≡ items
+    → HaveFront p (query_tree q) Fed (stores_seen held told faults sure path now)
+front-made {S = S} held told faults sure path p q Fed items now can new count paths none same =
+    let made : List StoreSeen = stores_seen held told faults sure path items in
     let fit : setting_fits (setting_of p q made) ≡ true =
     ap (λ l. limits_fit p.limits (length p.actions) l) (map-map items)
-    ∙ plan-fits held told faults sure p (length p.actions) items can refl new count in
+    ∙ plan-fits held told faults sure path p (length p.actions) items can refl new count in
     rw same (record {
       made = made;
       are_made = new;
       count = length-map items _ ∙ count;
+      paths = seen-paths held told faults sure path items ∙ paths;
       chunks = [];
       is_open = true;
       fed = none;
@@ -180,15 +191,15 @@ front-made {S = S} held told faults sure p q Fed items now can new count none sa
       frames = untouched-in (setting_of p q made) true [] fit;
     })
   where
-    map-map : (xs : List S) → map (λ (s : StoreSeen). s.held) (stores_seen held told faults sure xs) ≡ map held xs
+    map-map : (xs : List S) → map (λ (s : StoreSeen). s.held) (stores_seen held told faults sure path xs) ≡ map held xs
     map-map [] = refl
     map-map (x ∷ xs) = ap (λ l. held x ∷ l) (map-map xs)
 
 -- ---- stores without a folder
 
 -- a store that is sure never failed
-module _ {S : Type 0} (held : S → ℕ) (told : S → Option (List (List ℕ))) (faults : S → ℕ) (sure : S → Bool) (never : (s : S) → IsTrue (sure s) → faults s ≡ 0) where
-  pub never-seen : (items : List S) → All (λ s. IsTrue s.sure → s.faults ≡ 0) (stores_seen held told faults sure items)
+module _ {S : Type 0} (held : S → ℕ) (told : S → Option (List (List ℕ))) (faults : S → ℕ) (sure : S → Bool) (path : S → Option (List ℕ)) (never : (s : S) → IsTrue (sure s) → faults s ≡ 0) where
+  pub never-seen : (items : List S) → All (λ s. IsTrue s.sure → s.faults ≡ 0) (stores_seen held told faults sure path items)
   never-seen [] k d lt = absurd (omega (arith, lt))
   never-seen (s ∷ ss) zero d lt = never s
   never-seen (s ∷ ss) (suc k) d lt = never-seen ss k d (omega (arith, lt))
@@ -217,6 +228,17 @@ whole-are r stores all = record { count = all.count; each = λ k lt. ((all.each 
 
 pub replayed-are : (r : Run) (out : GroupByOutput) (stores : List StoreSeen) → IsAnswered r out stores → HaveFrames r stores
 replayed-are r out stores is = record { count = is.frames.count; each = λ k lt. (_, is.frames.each k lt) }
+
+-- stores that have frames of a run have the paths that they were made with
+pub paths-kept : (r : Run) (stores : List StoreSeen) → length r.stores ≡ r.limits.partitions → HaveFrames r stores → map (λ (s : StoreSeen). s.path) stores ≡ map (λ (s : StoreSeen). s.path) r.stores
+paths-kept r stores count frames =
+    let path : StoreSeen → Option (List ℕ) = λ s. s.path in
+    ext_get_or None (map path stores) (map path r.stores) (length-map stores path ∙ frames.count ∙ sym count ∙ sym (length-map r.stores path))
+    (λ k lt.
+    let here : k < r.limits.partitions = omega (arith, lt, length-map stores path, frames.count) in
+    get_or-map path stores k no_store None (omega (arith, here, frames.count))
+    ∙ (frames.each k here).1.path
+    ∙ sym (get_or-map path r.stores k no_store None (omega (arith, here, count))))
 
 module _ (p : PlanSeen) (q : QueryTree) (is_open : Bool) (chunks : List DataChunk) (made : List StoreSeen) (stores : List StoreSeen)
     (new : All (IsMade p.spill_dir) made) (count : length made ≡ p.limits.partitions)
@@ -288,7 +310,7 @@ module _ (p : PlanSeen) (q : Query) (ws : List Bool) (covered : covers ws (query
   have = whole-are (asked_run p (query_tree q) left.is_open wide made) stores whole
 
   pub run-front : HaveFront p (query_tree q) (AreFedInput p (query_tree q) told) stores
-  run-front = record { made = made; are_made = began.new; count = began.count; chunks = wide; is_open = left.is_open; fed = left.wide.fed; fit = left.wide.fit; frames = whole }
+  run-front = record { made = made; are_made = began.new; count = began.count; paths = began.paths; chunks = wide; is_open = left.is_open; fed = left.wide.fed; fit = left.wide.fit; frames = whole }
 
   pub run-sound : All (λ (x : StoreSeen). IsTrue x.sure → x.faults ≡ 0) stores → p.spill_dir ≡ None → All IsSoundStore stores
   run-sound never = all-sound p (query_tree q) left.is_open wide made stores began.new began.count have never
@@ -361,6 +383,7 @@ has-run p q ws covered made stores s told first out began reader from =
       made = made;
       are_made = began.new;
       count = began.count;
+      paths = began.paths;
       chunks = whole.whole;
       are_input = whole.input;
       few = sym (few-same ws whole.whole) ∙ ap are_few whole.wanted ∙ from.few;

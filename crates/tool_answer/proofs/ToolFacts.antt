@@ -1,11 +1,12 @@
 -- How a run of the tool ends.
-use Rattle.std.proofs.Common.{◌≡◌, ◌≢◌, ◌∙◌, ℕ, true, false, List, refl, sym, ap, subst, arith, inl, inr, Option, None, Some}
+use Rattle.std.proofs.Common.{◌≡◌, ◌≢◌, ◌∙◌, ℕ, Bool, true, false, List, map, refl, sym, ap, subst, arith, inl, inr, Option, None, Some}
 use Rattle.std.specs.Prelude.{◌⊎◌, ◌<◌, IfSome, is_some, IsSome, IsTrue, slice_index_or, unwrap_or}
 use Rattle.std.specs.Io.KnownBytes.{Appends}
 use Rattle.std.specs.List.{All}
 use Rattle.std.proofs.lemmas.Bool.{false≢true}
 use Rattle.std.proofs.lemmas.List.Elements.{All-get_or}
 use Rattle.std.proofs.lemmas.Option.{none-some}
+use Rattle.pipe_columns.specs.declared.data_chunk.DataChunk.{DataChunk}
 use Rattle.pipe_global.specs.Partition.{no_store}
 use Rattle.pipe_io.specs.Files.{Files}
 use Rattle.pipe_io.specs.Output.{WroteFront}
@@ -25,15 +26,17 @@ use Rattle.tool_words.specs.declared.refusal.Refusal.TheVariants as refusal
 use Rattle.tool_answer.specs.declared.fault.ToolFault.{ToolFault}
 use Rattle.tool_answer.specs.declared.fault.ToolFault.TheVariants as fault
 use Rattle.tool_answer.specs.declared.status.TheConstants.{DAMAGED, DONE, INPUT_REFUSED, NO_MEMORY, QUERY_REFUSED, STORE_FAILED, WORDS_REFUSED}
-use Rattle.tool_answer.specs.Asking.{asked_run, stop_due}
+use Rattle.tool_run.specs.Answering.{AreFedMade}
+use Rattle.tool_stores.specs.StorePath.{store_paths}
+use Rattle.tool_answer.specs.Asking.{asked_run, due_paths, stop_due}
 use Rattle.tool_answer.specs.Formats.{text_in}
 use Rattle.tool_answer.specs.Ended.{HasFailed, HasUntold, IsSoundStore}
 use Rattle.tool_answer.specs.Faults.{IsCaused, refusal_status, status_of}
 use Rattle.tool_answer.specs.Inside.{EndsMade, EndsRefused, IsLeft, IsUnread}
-use Rattle.tool_answer.specs.Headline.{answer_text, HasAnswer, HasNoRun, HasRun, HasRunTo, HasStopped, IsAnswerWritten, IsBegun, IsWritten}
+use Rattle.tool_answer.specs.Headline.{answer_text, AreFedInput, HasAnswer, HasNoRun, HaveFront, HasRun, HasRunTo, HasStopped, IsAnswerWritten, IsBegun, IsWritten}
 use Rattle.tool_answer.specs.MadeRun.{HasMadeLines, TellAnswer}
 use Rattle.tool_answer.specs.Status.{due_status, EndsAsDue, EndsUnread, FrameDamaged, is_answer, is_unread, IsDue, IsRefusal, stop_status, StoreFailed}
-use Rattle.tool_answer.proofs.RunFacts.{replayed-are, told-made}
+use Rattle.tool_answer.proofs.RunFacts.{paths-kept, replayed-are, told-made, whole-are}
 
 -- ---- a run that was answered
 
@@ -337,3 +340,29 @@ pub told-complete : (f : ToolFault) (a : Asked) (told : Option Files) (stores : 
 told-complete f a told stores status cause (inr is) known due sound input output = is
 told-complete f a None stores status cause (inl is) known due sound input output = absurd (false≢true known)
 told-complete f a (Some files) stores status cause (inl is) known due sound input output = is ∙ calm-fault f a files stores cause due sound input output
+
+-- ---- where the stores lie
+
+front-paths : (p : PlanSeen) (q : QueryTree) (Fed : Bool → List DataChunk → Type 0) (stores : List StoreSeen) → HaveFront p q Fed stores
+    → map (λ (s : StoreSeen). s.path) stores ≡ store_paths p.spill_dir p.limits.partitions
+front-paths p q Fed stores front =
+    let r = asked_run p q front.is_open front.chunks front.made in
+    paths-kept r stores front.count (whole-are r stores front.frames) ∙ front.paths
+
+-- whatever is left of a run, its stores lie where they are due
+pub left-paths : (a : Asked) (told : Option Files) (journals : List (List PartitionEvent)) (stores : List StoreSeen)
+    → HasNoRun journals stores ⊎ HasStopped a told journals stores ⊎ HasRun a told journals stores
+    → HasNoRun journals stores ⊎ (map (λ (s : StoreSeen). s.path) stores ≡ due_paths a)
+left-paths a told journals stores (inl none) = inl none
+left-paths (refused r) told journals stores (inr (inl stopped)) = absurd stopped
+left-paths (refused r) told journals stores (inr (inr run)) = absurd run
+left-paths (asks p q) told journals stores (inr (inl stopped)) = inr (front-paths p q (AreFedInput p q told) stores stopped.1)
+left-paths (asks p q) told journals stores (inr (inr run)) =
+    let has = run.1.run in
+    let r = asked_run p q false has.chunks has.made in
+    inr (paths-kept r stores has.count (replayed-are r run.1.out stores has.answered) ∙ has.paths)
+left-paths (makes p m) told journals stores (inr (inl stopped)) = inr (front-paths p made_tree (AreFedMade m) stores stopped.1)
+left-paths (makes p m) told journals stores (inr (inr run)) =
+    let has = run.1.run in
+    let r = asked_run p made_tree false (made m) has.new in
+    inr (paths-kept r stores has.count (replayed-are r run.1.out stores has.answered) ∙ has.paths)

@@ -1,5 +1,5 @@
 -- What a run of the tool owes: the answer, what is written of it, and what is left of its stores.
-use Rattle.std.specs.Prelude.{◌≡◌, true, false, ℕ, Bool, List, [], All, length, Option, None, IfSome}
+use Rattle.std.specs.Prelude.{◌≡◌, true, false, ℕ, Bool, List, [], All, length, map, Option, None, IfSome}
 use Rattle.std.specs.Io.KnownBytes.{Appends}
 use Rattle.pipe_columns.specs.declared.data_chunk.DataChunk.{DataChunk}
 use Rattle.pipe_io.specs.Files.{Files}
@@ -16,6 +16,7 @@ use Rattle.pipe_words.specs.Plans.{PlanSeen}
 use Rattle.tool_made.specs.MadeQuery.{made_tree}
 use Rattle.tool_run.specs.Answering.{AreFedMade}
 use Rattle.tool_run.specs.Reading.{are_few}
+use Rattle.tool_stores.specs.StorePath.{store_paths}
 use Rattle.tool_words.specs.Asked.{Asked, asks, makes, refused}
 use Rattle.tool_answer.specs.Asking.{asked_run, input_chunks}
 use Rattle.tool_answer.specs.Formats.{text_in}
@@ -39,6 +40,7 @@ pub record HasRunTo
   pub made : List StoreSeen
   pub are_made : All (IsMade p.spill_dir) made
   pub count : length made ≡ p.limits.partitions
+  pub paths : map (λ s. s.path) made ≡ store_paths p.spill_dir p.limits.partitions
   pub chunks : List DataChunk
   pub are_input : AreInput p q told chunks
   pub few : are_few chunks ≡ true
@@ -107,6 +109,7 @@ pub record HaveFront
   pub made : List StoreSeen
   pub are_made : All (IsMade p.spill_dir) made
   pub count : length made ≡ p.limits.partitions
+  pub paths : map (λ s. s.path) made ≡ store_paths p.spill_dir p.limits.partitions
   pub chunks : List DataChunk
   pub is_open : Bool
   pub fed : Fed is_open chunks

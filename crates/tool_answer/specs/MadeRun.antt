@@ -1,5 +1,5 @@
 -- What a run of the tool over generated rows owes.
-use Rattle.std.specs.Prelude.{◌≡◌, ℕ, List, All, false, length}
+use Rattle.std.specs.Prelude.{◌≡◌, ℕ, List, All, false, length, map}
 use Rattle.pipe_model.specs.Answer.{answer}
 use Rattle.pipe_plan.specs.declared.event.PartitionEvent.{PartitionEvent}
 use Rattle.pipe_plan.specs.Run.{StoreSeen}
@@ -10,6 +10,7 @@ use Rattle.tool_made.specs.Made.{made}
 use Rattle.tool_made.specs.MadeQuery.{made_tree}
 use Rattle.tool_made.specs.declared.made.Made.{Made}
 use Rattle.tool_run.specs.MadeLines.{made_lines}
+use Rattle.tool_stores.specs.StorePath.{store_paths}
 use Rattle.tool_answer.specs.Asking.{asked_run}
 use Rattle.tool_answer.specs.Ended.{IsMade}
 
@@ -19,6 +20,7 @@ pub record HasMadeRun
   pub new : List StoreSeen
   pub are_made : All (IsMade p.spill_dir) new
   pub count : length new ≡ p.limits.partitions
+  pub paths : map (λ s. s.path) new ≡ store_paths p.spill_dir p.limits.partitions
   pub answered : IsAnswered (asked_run p made_tree false (made m) new) out stores
 
 -- such a run has these journals and these stores, and these are the lines that tell of it

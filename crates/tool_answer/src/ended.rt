@@ -26,7 +26,7 @@ impl<S: SpillStore + Drop> Model for ToolEnd<S> {
     ghost view = { λ e. record {
       status = e.status;
       journals = e.journals;
-      stores = stores_seen S.held S.told S.faults S.sure e.stores.items;
+      stores = stores_seen S.held S.told S.faults S.sure S.path e.stores.items;
     } };
 }
 
@@ -47,7 +47,7 @@ impl<S: SpillStore + Drop> Model for Ran<S> {
     ghost view = { λ r. record {
       fault = r.fault;
       journals = r.journals;
-      stores = stores_seen S.held S.told S.faults S.sure r.stores.items;
+      stores = stores_seen S.held S.told S.faults S.sure S.path r.stores.items;
     } };
 }
 

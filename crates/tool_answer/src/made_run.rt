@@ -1,6 +1,6 @@
 //! A run over the rows that are generated.
 
-ghost use Rattle.std.specs.Prelude.{◌≡◌, ◌<◌, All, IfErr, IfOk, None, Option, length, true};
+ghost use Rattle.std.specs.Prelude.{◌≡◌, ◌<◌, All, IfErr, IfOk, None, Option, length, map, true};
 ghost use Rattle.pipe_aggs.specs.Faults.{first_fault};
 ghost use Rattle.pipe_aggs.specs.QueryTrees.{query_tree};
 ghost use Rattle.pipe_io.specs.Files.{Files};
@@ -10,6 +10,7 @@ ghost use Rattle.tool_made.specs.MadeQuery.{made_tree};
 ghost use Rattle.tool_run.specs.Answering.{AreFedMade};
 ghost use Rattle.tool_words.specs.Asked.{does_keep, makes};
 ghost use Rattle.pipe_plan.specs.Stores.{stores_seen};
+ghost use Rattle.tool_stores.specs.StorePath.{store_paths};
 ghost use Rattle.tool_answer.specs.Ended.{IsMade, IsSoundStore};
 ghost use Rattle.tool_answer.specs.Faults.{IsCaused};
 ghost use Rattle.tool_answer.specs.Headline.{HaveFront};
@@ -44,18 +45,20 @@ pub fn run_rows<S: SpillStore + Drop + Send, G: Gate + Sync, H: Threads + Wait +
     requires query { query_tree question.query ≡ made_tree }
     requires some { 0 < question.rows.chunk }
     requires made { All (IsMade question.plan.spill_dir)
-        (stores_seen S.held S.told S.faults S.sure stores.items) }
+        (stores_seen S.held S.told S.faults S.sure S.path stores.items) }
     requires count { length stores.items ≡ question.plan.limits.partitions }
+    requires paths { map S.path stores.items
+        ≡ store_paths question.plan.spill_dir question.plan.limits.partitions }
     ensures answered { IfOk result.0 (λ out. HasMadeRun (plan_seen question.plan) question.rows out
-        (stores_seen S.held S.told S.faults S.sure result.1.items)) }
+        (stores_seen S.held S.told S.faults S.sure S.path result.1.items)) }
     ensures cause { IfErr result.0 (λ f. (told : Option Files) → IsCaused f
         (makes (plan_seen question.plan) question.rows) told
-        (stores_seen S.held S.told S.faults S.sure result.1.items)) }
+        (stores_seen S.held S.told S.faults S.sure S.path result.1.items)) }
     ensures of_stores { IfErr result.0 (λ f. IsOfStores f) }
     ensures stopped { IfErr result.0 (λ _. HaveFront (plan_seen question.plan) made_tree
-        (AreFedMade question.rows) (stores_seen S.held S.told S.faults S.sure result.1.items)) }
+        (AreFedMade question.rows) (stores_seen S.held S.told S.faults S.sure S.path result.1.items)) }
     ensures in_memory { question.plan.spill_dir ≡ None
-        → All IsSoundStore (stores_seen S.held S.told S.faults S.sure result.1.items) }
+        → All IsSoundStore (stores_seen S.held S.told S.faults S.sure S.path result.1.items) }
 {
     let MadeQuestion { plan, query, rows } = question;
     let Plan {

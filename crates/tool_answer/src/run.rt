@@ -10,6 +10,7 @@ ghost use Rattle.pipe_run.specs.Refusals.{limits_fit};
 ghost use Rattle.pipe_words.specs.Plans.{CanRun, plan_seen};
 ghost use Rattle.tool_words.specs.Asked.{asks, does_keep};
 ghost use Rattle.pipe_plan.specs.Stores.{stores_seen};
+ghost use Rattle.tool_stores.specs.StorePath.{store_paths};
 ghost use Rattle.tool_answer.specs.Asking.{files_asked};
 ghost use Rattle.tool_answer.specs.Ended.{IsMade, IsSoundStore};
 ghost use Rattle.tool_answer.specs.Faults.{IsCaused};
@@ -58,7 +59,7 @@ pub fn begin_run<'a, S: SpillStore + Drop + Send, H: Wait>(
       limits = limits.now;
       actions = map (λ v. v.items) actions.items;
       rules = rules.items;
-      stores = stores_seen S.held S.told S.faults S.sure stores.items;
+      stores = stores_seen S.held S.told S.faults S.sure S.path stores.items;
     }) }
     ensures chunks { IfOk result (λ r. r.chunks ≡ []) }
     ensures back { IfErr result (λ v. v.items ≡ stores.items) }
@@ -90,14 +91,16 @@ pub fn run_question<
     requires suited { does_keep question.plan.limits.sink
         (key_types (query_tree question.query)) ≡ true }
     requires made { All (IsMade question.plan.spill_dir)
-        (stores_seen S.held S.told S.faults S.sure stores.items) }
+        (stores_seen S.held S.told S.faults S.sure S.path stores.items) }
     requires count { length stores.items ≡ question.plan.limits.partitions }
+    requires paths { map S.path stores.items
+        ≡ store_paths question.plan.spill_dir question.plan.limits.partitions }
     ensures answered { IfOk result.0 (λ out. HasRunTo (plan_seen question.plan)
         (query_tree question.query) (I.told input.old) out
-        (stores_seen S.held S.told S.faults S.sure result.1.items)) }
+        (stores_seen S.held S.told S.faults S.sure S.path result.1.items)) }
     ensures cause { IfErr result.0 (λ f. IsCaused f
         (asks (plan_seen question.plan) (query_tree question.query)) (I.told input.old)
-        (stores_seen S.held S.told S.faults S.sure result.1.items)) }
+        (stores_seen S.held S.told S.faults S.sure S.path result.1.items)) }
     ensures of_run { IfErr result.0 (λ f. IsOfRun f) }
     ensures failed { IsErrOf result.0 fault.InputFailed
         → Rose (I.faults input.old) (I.faults input.new) }
@@ -106,9 +109,9 @@ pub fn run_question<
     ensures stopped { IfErr result.0 (λ _. HaveFront (plan_seen question.plan)
         (query_tree question.query)
         (AreFedInput (plan_seen question.plan) (query_tree question.query) (I.told input.old))
-        (stores_seen S.held S.told S.faults S.sure result.1.items)) }
+        (stores_seen S.held S.told S.faults S.sure S.path result.1.items)) }
     ensures in_memory { question.plan.spill_dir ≡ None
-        → All IsSoundStore (stores_seen S.held S.told S.faults S.sure result.1.items) }
+        → All IsSoundStore (stores_seen S.held S.told S.faults S.sure S.path result.1.items) }
 {
     let Question { plan, query } = question;
     let Plan {

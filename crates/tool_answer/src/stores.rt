@@ -17,7 +17,7 @@ pub fn make_stores<M: StoreMaker>(
     partitions: usize,
 ) -> Result<Vec<M::Store>, AllocError>
     ensures made { IfOk result (λ v. All (IsMade (option_map (λ f. f.now) folder.entry))
-        (stores_seen M.Store.held M.Store.told M.Store.faults M.Store.sure v.items)) }
+        (stores_seen M.Store.held M.Store.told M.Store.faults M.Store.sure M.Store.path v.items)) }
     ensures count { IfOk result (λ v. length v.items ≡ partitions) }
     ensures paths { IfOk result (λ v. map M.Store.path v.items
         ≡ store_paths (option_map (λ f. f.now) folder.entry) partitions) }

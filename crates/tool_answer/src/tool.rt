@@ -1,6 +1,6 @@
 //! One question, from the words of a command to the bytes of its output.
 
-ghost use Rattle.std.specs.Prelude.{◌≡◌, ◌≢◌, ◌⊎◌, ◌++◌, All, IfSome, IsErrOf, IsSome, IsTrue, None, OnErr, OnOk, Some, false, true};
+ghost use Rattle.std.specs.Prelude.{◌≡◌, ◌≢◌, ◌⊎◌, ◌++◌, All, IfSome, IsErrOf, IsSome, IsTrue, None, OnErr, OnOk, Some, false, map, true};
 ghost use Rattle.std.specs.Io.KnownBytes.{Appends};
 ghost use Rattle.pipe_columns.specs.Causes.{HasCause, Rose};
 ghost use Rattle.pipe_io.specs.Output.{WroteFront};
@@ -279,6 +279,10 @@ pub fn run_tool<
         → M.made maker.new ≡ M.made maker.old ++ due_paths (asked words.now) }
     ensures memory_made { HasNoRun result.journals result.stores
         ⊎ (M.made maker.new ≡ M.made maker.old ++ due_paths (asked words.now)) }
+
+    // The stores that are left are those, in their order: each lies where that of its partition is due.
+    ensures paths { HasNoRun result.journals result.stores
+        ⊎ (map (λ s. s.path) result.stores ≡ due_paths (asked words.now)) }
 
     // Whatever the input tells, refused words end the run, and no others do; for them no store is made.
     // Neither for them nor for generated rows is anything read.

@@ -53,13 +53,13 @@ pub(crate) fn feed_files<
     ensures fit { IfOk result (λ r. AllHaveFields run.entry.setting.query.schema r.chunks) }
     ensures counted { IfOk result (λ r. NoneFell run.entry.stores r.stores) }
     ensures cause { IfErr result (λ e. IsRunEnd run.entry (I.told input.old) reader.old
-        (stores_seen S.held S.told S.faults S.sure e.1.items) e.0) }
+        (stores_seen S.held S.told S.faults S.sure S.path e.1.items) e.0) }
     ensures failed { IfErr result (λ e. e.0 ≡ error.Read csv_error.Input
         → Rose (I.faults input.old) (I.faults input.new)) }
     ensures tried { TriedFront (I.tried input.old) (I.tried input.new) reader.old.names }
     ensures back { IfErr result (λ e. HaveFront run.entry.setting
         (AreFedOf (I.told input.old) reader.old)
-        (stores_seen S.held S.told S.faults S.sure e.1.items)) }
+        (stores_seen S.held S.told S.faults S.sure S.path e.1.items)) }
 {
     let mut run = run;
     let mut before = Counted { chunks: 0, rows: 0 };

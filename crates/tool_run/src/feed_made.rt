@@ -35,10 +35,10 @@ pub(crate) fn feed_made<'a, S: SpillStore + Drop + Send, G: Gate + Sync, H: Thre
     ensures all { IfOk result (λ r. r.chunks ≡ made rows.now) }
     ensures counted { IfOk result (λ r. NoneFell run.entry.stores r.stores) }
     ensures cause { IfErr result (λ e. IsFinishCause run.entry
-        (stores_seen S.held S.told S.faults S.sure e.1.items) e.0) }
+        (stores_seen S.held S.told S.faults S.sure S.path e.1.items) e.0) }
     ensures back { IfErr result (λ e. HaveFront run.entry.setting
         (AreFedMade rows.now)
-        (stores_seen S.held S.told S.faults S.sure e.1.items)) }
+        (stores_seen S.held S.told S.faults S.sure S.path e.1.items)) }
 {
     let total = rows.chunks();
     let mut run = run;

@@ -46,15 +46,15 @@ pub fn run_files<
     requires fits { given_fields reader.old ≡ run.setting.query.schema }
     ensures answered { IfOk result.0 (λ out. IsAnsweredFrom run.entry.setting
         (I.told input.old) reader.old out
-        (stores_seen S.held S.told S.faults S.sure result.1.items)) }
+        (stores_seen S.held S.told S.faults S.sure S.path result.1.items)) }
     ensures cause { IfErr result.0 (λ e. IsRunEnd run.entry (I.told input.old) reader.old
-        (stores_seen S.held S.told S.faults S.sure result.1.items) e) }
+        (stores_seen S.held S.told S.faults S.sure S.path result.1.items) e) }
     ensures failed { IfErr result.0 (λ e. e ≡ error.Read csv_error.Input
         → Rose (I.faults input.old) (I.faults input.new)) }
     ensures tried { TriedFront (I.tried input.old) (I.tried input.new) reader.old.names }
     ensures back { IfErr result.0 (λ _. HaveFront run.entry.setting
         (AreFedOf (I.told input.old) reader.old)
-        (stores_seen S.held S.told S.faults S.sure result.1.items)) }
+        (stores_seen S.held S.told S.faults S.sure S.path result.1.items)) }
 {
     let run = match feed_files(rt, alloc, gate, run, input, reader, most, threads) {
         Ok(run) => run,

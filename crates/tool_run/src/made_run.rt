@@ -35,12 +35,12 @@ pub fn run_made<'a, S: SpillStore + Drop + Send, G: Gate + Sync, H: Threads + Wa
     requires fits { made_schema ≡ run.setting.query.schema }
     ensures answered { IfOk result.0 (λ out. IsAnswered
         (run_over run.entry.setting false (made rows.now)) out
-        (stores_seen S.held S.told S.faults S.sure result.1.items)) }
+        (stores_seen S.held S.told S.faults S.sure S.path result.1.items)) }
     ensures cause { IfErr result.0 (λ e. IsFinishCause run.entry
-        (stores_seen S.held S.told S.faults S.sure result.1.items) e) }
+        (stores_seen S.held S.told S.faults S.sure S.path result.1.items) e) }
     ensures back { IfErr result.0 (λ _. HaveFront run.entry.setting
         (AreFedMade rows.now)
-        (stores_seen S.held S.told S.faults S.sure result.1.items)) }
+        (stores_seen S.held S.told S.faults S.sure S.path result.1.items)) }
 {
     let run = match feed_made(rt, alloc, gate, run, rows, most) {
         Ok(run) => run,

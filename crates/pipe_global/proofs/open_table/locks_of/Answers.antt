@@ -15,7 +15,7 @@ pub loop-store-preserved : goal.loop-store-preserved
 loop-store-preserved g c =
     let r = g.R.Naming.run in
     let S = g.row.S.Denot in
-    let seen : S → StoreSeen = λ s. record { held = g.S.SpillStore.held s; told = g.S.SpillStore.told s; faults = g.S.SpillStore.faults s; sure = g.S.SpillStore.sure s } in
+    let seen : S → StoreSeen = λ s. record { held = g.S.SpillStore.held s; told = g.S.SpillStore.told s; faults = g.S.SpillStore.faults s; sure = g.S.SpillStore.sure s; path = g.S.SpillStore.path s } in
     let P : Place → Type 0 = IsEmptyPlace r.query r.limits.workers in
     let old : List S = into_iter_items c.loop-store.store-iterator in
     let new : List S = into_iter_items c.next.new.self in
@@ -41,7 +41,7 @@ pub loop-store-init : goal.loop-store-init
 loop-store-init g c =
     let r = g.R.Naming.run in
     let S = g.row.S.Denot in
-    let seen : S → StoreSeen = λ s. record { held = g.S.SpillStore.held s; told = g.S.SpillStore.told s; faults = g.S.SpillStore.faults s; sure = g.S.SpillStore.sure s } in
+    let seen : S → StoreSeen = λ s. record { held = g.S.SpillStore.held s; told = g.S.SpillStore.told s; faults = g.S.SpillStore.faults s; sure = g.S.SpillStore.sure s; path = g.S.SpillStore.path s } in
     let all : List S = into_iter_items c.into_iter-store-iterator.result in
     let items : all ≡ c.args.stores.items = search rules in
     let none : vec_len c.args.locks ≡ 0 = c.requires.room.0 in
@@ -90,7 +90,7 @@ pub new-requires-clause-store : goal.new-requires-clause-store
 new-requires-clause-store g c =
     let r = g.R.Naming.run in
     let S = g.row.S.Denot in
-    let seen : S → StoreSeen = λ s. record { held = g.S.SpillStore.held s; told = g.S.SpillStore.told s; faults = g.S.SpillStore.faults s; sure = g.S.SpillStore.sure s } in
+    let seen : S → StoreSeen = λ s. record { held = g.S.SpillStore.held s; told = g.S.SpillStore.told s; faults = g.S.SpillStore.faults s; sure = g.S.SpillStore.sure s; path = g.S.SpillStore.path s } in
     let old : List S = into_iter_items c.loop-store.store-iterator in
     let new : List S = into_iter_items c.next.new.self in
     let items : old ≡ c.in-Some.store ∷ new = search rules in

@@ -18,4 +18,4 @@ invariant-loop-store g l =
     × (vec_len l.places ≡ length (into_iter_items l.store-iterator))
     × All (IsEmptyPlace g.R.Naming.run.query g.R.Naming.run.limits.workers) l.places.items
     × AreStoresFrom g.R.Naming.run (vec_len l.locks)
-    (map (λ s. record { held = g.S.SpillStore.held s; told = g.S.SpillStore.told s; faults = g.S.SpillStore.faults s; sure = g.S.SpillStore.sure s }) (into_iter_items l.store-iterator))
+    (map (λ s. record { held = g.S.SpillStore.held s; told = g.S.SpillStore.told s; faults = g.S.SpillStore.faults s; sure = g.S.SpillStore.sure s; path = g.S.SpillStore.path s }) (into_iter_items l.store-iterator))

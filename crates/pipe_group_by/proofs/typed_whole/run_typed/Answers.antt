@@ -15,7 +15,7 @@ use Rattle.pipe_group_by.proofs.typed_whole.run_typed.Goals as goal
 pub returns-in-Err : goal.returns-in-Err
 returns-in-Err g c =
     let S = g.row.S.Denot in
-    let seen : S → StoreSeen = λ s. record { held = g.S.SpillStore.held s; told = g.S.SpillStore.told s; faults = g.S.SpillStore.faults s; sure = g.S.SpillStore.sure s } in
+    let seen : S → StoreSeen = λ s. record { held = g.S.SpillStore.held s; told = g.S.SpillStore.told s; faults = g.S.SpillStore.faults s; sure = g.S.SpillStore.sure s; path = g.S.SpillStore.path s } in
     let x : Setting = record { query = c.args.query.now; limits = c.args.limits.now; actions = map (λ v. v.items) c.args.actions.items; rules = c.args.rules.items; stores = map seen c.args.stores.items } in
     let fits = fits-setting seen (λ v. v.items) c.args.query.now c.args.limits.now c.args.actions.items c.args.rules.items c.args.stores.items c.args.stores.items (vec_len c.args.actions) (omega (arith, c.args.actions.ok.0)) refl in
     begin-ends x c.args.chunks.items (map seen c.in-Err.stores.items) c.in-Err.error
@@ -24,7 +24,7 @@ returns-in-Err g c =
 pub returns-in-Err-feed : goal.returns-in-Err-feed
 returns-in-Err-feed g c =
     let S = g.row.S.Denot in
-    let seen : S → StoreSeen = λ s. record { held = g.S.SpillStore.held s; told = g.S.SpillStore.told s; faults = g.S.SpillStore.faults s; sure = g.S.SpillStore.sure s } in
+    let seen : S → StoreSeen = λ s. record { held = g.S.SpillStore.held s; told = g.S.SpillStore.told s; faults = g.S.SpillStore.faults s; sure = g.S.SpillStore.sure s; path = g.S.SpillStore.path s } in
     let x : Setting = record { query = c.args.query.now; limits = c.args.limits.now; actions = map (λ v. v.items) c.args.actions.items; rules = c.args.rules.items; stores = map seen c.args.stores.items } in
     let fits = fits-setting seen (λ v. v.items) c.args.query.now c.args.limits.now c.args.actions.items c.args.rules.items c.args.stores.items c.args.stores.items (vec_len c.args.actions) (omega (arith, c.args.actions.ok.0)) refl in
     let begin : CanBegin x = record { fit = fits ∙ c.in-Ok.ensures.fit; faultless = c.in-Ok.ensures.faultless; suited = c.in-Ok.ensures.suited } in
@@ -34,7 +34,7 @@ returns-in-Err-feed g c =
 pub returns : goal.returns
 returns g c =
     let S = g.row.S.Denot in
-    let seen : S → StoreSeen = λ s. record { held = g.S.SpillStore.held s; told = g.S.SpillStore.told s; faults = g.S.SpillStore.faults s; sure = g.S.SpillStore.sure s } in
+    let seen : S → StoreSeen = λ s. record { held = g.S.SpillStore.held s; told = g.S.SpillStore.told s; faults = g.S.SpillStore.faults s; sure = g.S.SpillStore.sure s; path = g.S.SpillStore.path s } in
     let x : Setting = record { query = c.args.query.now; limits = c.args.limits.now; actions = map (λ v. v.items) c.args.actions.items; rules = c.args.rules.items; stores = map seen c.args.stores.items } in
     let fits = fits-setting seen (λ v. v.items) c.args.query.now c.args.limits.now c.args.actions.items c.args.rules.items c.args.stores.items c.args.stores.items (vec_len c.args.actions) (omega (arith, c.args.actions.ok.0)) refl in
     let begin : CanBegin x = record { fit = fits ∙ c.in-Ok.ensures.fit; faultless = c.in-Ok.ensures.faultless; suited = c.in-Ok.ensures.suited } in

@@ -23,8 +23,8 @@ returns-in-Err-clause-cause g c =
     let journals = map (λ (p : PartitionSeen). p.journal) c.args.closed.items in
     let seen = map (λ (p : PartitionSeen). p.store) c.args.closed.items in
     let s : FedSeen = record { setting = x; chunks = taken; journals = journals; stores = seen } in
-    subst (IsFinishCause s (map (λ s. record { held = g.S.SpillStore.held s; told = g.S.SpillStore.told s; faults = g.S.SpillStore.faults s; sure = g.S.SpillStore.sure s }) c.stores_of.result.items)) (sym c.error.ensures)
-    (round-cause x taken journals seen s refl (map (λ s. record { held = g.S.SpillStore.held s; told = g.S.SpillStore.told s; faults = g.S.SpillStore.faults s; sure = g.S.SpillStore.sure s }) c.stores_of.result.items)
+    subst (IsFinishCause s (map (λ s. record { held = g.S.SpillStore.held s; told = g.S.SpillStore.told s; faults = g.S.SpillStore.faults s; sure = g.S.SpillStore.sure s; path = g.S.SpillStore.path s }) c.stores_of.result.items)) (sym c.error.ensures)
+    (round-cause x taken journals seen s refl (map (λ s. record { held = g.S.SpillStore.held s; told = g.S.SpillStore.told s; faults = g.S.SpillStore.faults s; sure = g.S.SpillStore.sure s; path = g.S.SpillStore.path s }) c.stores_of.result.items)
     c.args.closed.items c.args.rested.items (total_height taken) c.requires.fed c.in-Err.closed.items c.in-Err.stop c.in-Err.ensures.back c.stores_of.ensures refl c.in-Err.ensures.store)
 
 pub returns-in-Err-clause-back : goal.returns-in-Err-clause-back
@@ -34,7 +34,7 @@ returns-in-Err-clause-back g c =
     let journals = map (λ (p : PartitionSeen). p.journal) c.args.closed.items in
     let seen = map (λ (p : PartitionSeen). p.store) c.args.closed.items in
     let s : FedSeen = record { setting = x; chunks = taken; journals = journals; stores = seen } in
-    round-left x taken journals seen s refl (map (λ s. record { held = g.S.SpillStore.held s; told = g.S.SpillStore.told s; faults = g.S.SpillStore.faults s; sure = g.S.SpillStore.sure s }) c.stores_of.result.items)
+    round-left x taken journals seen s refl (map (λ s. record { held = g.S.SpillStore.held s; told = g.S.SpillStore.told s; faults = g.S.SpillStore.faults s; sure = g.S.SpillStore.sure s; path = g.S.SpillStore.path s }) c.stores_of.result.items)
     c.args.closed.items c.args.rested.items (total_height taken) c.requires.fed c.in-Err.closed.items c.in-Err.ensures.back c.stores_of.ensures
 
 pub answer_of_run-groups-requires-clause-run : goal.answer_of_run-groups-requires-clause-run
@@ -57,8 +57,8 @@ returns-in-Err-groups-clause-cause g c =
     let after = c.answer_of_run-groups.result.1.items in
     let cause : IsAnswerCause (run_over x false taken) c.in-Ok.ended.closed.items after c.in-Err-groups.error =
     subst (λ (r : Result FrameData BatchError). IfErr r (λ e. IsAnswerCause (run_over x false taken) c.in-Ok.ended.closed.items after e)) c.in-Err-groups.is c.answer_of_run-groups.ensures.cause in
-    subst (IsFinishCause s (map (λ s. record { held = g.S.SpillStore.held s; told = g.S.SpillStore.told s; faults = g.S.SpillStore.faults s; sure = g.S.SpillStore.sure s }) c.stores_of-in-Err-groups.result.items)) (sym c.of_groups.ensures)
-    (groups-cause x taken journals seen s refl (map (λ s. record { held = g.S.SpillStore.held s; told = g.S.SpillStore.told s; faults = g.S.SpillStore.faults s; sure = g.S.SpillStore.sure s }) c.stores_of-in-Err-groups.result.items)
+    subst (IsFinishCause s (map (λ s. record { held = g.S.SpillStore.held s; told = g.S.SpillStore.told s; faults = g.S.SpillStore.faults s; sure = g.S.SpillStore.sure s; path = g.S.SpillStore.path s }) c.stores_of-in-Err-groups.result.items)) (sym c.of_groups.ensures)
+    (groups-cause x taken journals seen s refl (map (λ s. record { held = g.S.SpillStore.held s; told = g.S.SpillStore.told s; faults = g.S.SpillStore.faults s; sure = g.S.SpillStore.sure s; path = g.S.SpillStore.path s }) c.stores_of-in-Err-groups.result.items)
     c.args.closed.items c.args.rested.items (total_height taken) c.requires.fed c.in-Ok.ended.closed.items c.answer_of_run-groups.result.1.items c.in-Ok.ensures.whole c.answer_of_run-groups.ensures.kept c.in-Err-groups.error c.stores_of-in-Err-groups.ensures refl c.in-Ok.ensures.counted cause)
 
 pub returns-in-Err-groups-clause-back : goal.returns-in-Err-groups-clause-back
@@ -68,7 +68,7 @@ returns-in-Err-groups-clause-back g c =
     let journals = map (λ (p : PartitionSeen). p.journal) c.args.closed.items in
     let seen = map (λ (p : PartitionSeen). p.store) c.args.closed.items in
     let s : FedSeen = record { setting = x; chunks = taken; journals = journals; stores = seen } in
-    groups-left x taken journals seen s refl (map (λ s. record { held = g.S.SpillStore.held s; told = g.S.SpillStore.told s; faults = g.S.SpillStore.faults s; sure = g.S.SpillStore.sure s }) c.stores_of-in-Err-groups.result.items)
+    groups-left x taken journals seen s refl (map (λ s. record { held = g.S.SpillStore.held s; told = g.S.SpillStore.told s; faults = g.S.SpillStore.faults s; sure = g.S.SpillStore.sure s; path = g.S.SpillStore.path s }) c.stores_of-in-Err-groups.result.items)
     c.args.closed.items c.args.rested.items (total_height taken) c.requires.fed c.in-Ok.ended.closed.items c.answer_of_run-groups.result.1.items c.in-Ok.ensures.whole c.answer_of_run-groups.ensures.kept c.stores_of-in-Err-groups.ensures
 
 pub parts_of-journals-requires-clause-few : goal.parts_of-journals-requires-clause-few
@@ -93,7 +93,7 @@ returns-clause-answered g c =
     let count : c.parts_of-journals.result.arrived ≡ sum_by (λ (p : PartitionSeen). p.arrived) after = search rules in
     let told : All (λ s. tells s ≡ true) x.stores → c.in-Ok-groups.frame ≡ answer taken (query_tree x.query) x.limits.partitions =
     subst (λ (r : Result FrameData BatchError). IfOk r (λ f. All (λ s. tells s ≡ true) x.stores → f ≡ answer taken (query_tree x.query) x.limits.partitions)) c.in-Ok-groups.is c.answer_of_run-groups.ensures.answer in
-    answered-shut x taken journals seen s refl (map (λ s. record { held = g.S.SpillStore.held s; told = g.S.SpillStore.told s; faults = g.S.SpillStore.faults s; sure = g.S.SpillStore.sure s }) c.parts_of-journals.result.stores.items)
+    answered-shut x taken journals seen s refl (map (λ s. record { held = g.S.SpillStore.held s; told = g.S.SpillStore.told s; faults = g.S.SpillStore.faults s; sure = g.S.SpillStore.sure s; path = g.S.SpillStore.path s }) c.parts_of-journals.result.stores.items)
     c.args.closed.items c.args.rested.items (total_height taken) c.requires.fed c.in-Ok.ended.closed.items c.answer_of_run-groups.result.1.items c.in-Ok.ensures.whole c.answer_of_run-groups.ensures.kept c.in-Ok-groups.frame c.new.result c.parts_of-journals.result.arrived c.parts_of-journals.ensures.stores named count told
 
 pub round-requires-clause-generic : goal.round-requires-clause-generic

@@ -20,7 +20,7 @@ overflow_add-arrived g c =
 pub loop-partition-preserved : goal.loop-partition-preserved
 loop-partition-preserved g c =
     let S = g.row.S.Denot in
-    let seen : S → StoreSeen = λ s. record { held = g.S.SpillStore.held s; told = g.S.SpillStore.told s; faults = g.S.SpillStore.faults s; sure = g.S.SpillStore.sure s } in
+    let seen : S → StoreSeen = λ s. record { held = g.S.SpillStore.held s; told = g.S.SpillStore.told s; faults = g.S.SpillStore.faults s; sure = g.S.SpillStore.sure s; path = g.S.SpillStore.path s } in
     let old : List PartitionSeen = into_iter_items c.loop-partition.partition-iterator in
     let new : List PartitionSeen = into_iter_items c.next.new.self in
     let items : old ≡ c.in-Some.partition ∷ new = search rules in

@@ -13,7 +13,7 @@ invariant-loop-partition g l =
     × (vec_len l.stores + length (into_iter_items l.partition-iterator) ≡ vec_len l.fn.closed)
     × (vec_len l.fn.closed ≤ vec_capacity l.stores)
     × (l.journals.items ++ map (λ c. c.journal) (into_iter_items l.partition-iterator) ≡ map (λ c. c.journal) l.fn.closed.items)
-    × (map (λ s. record { held = g.S.SpillStore.held s; told = g.S.SpillStore.told s; faults = g.S.SpillStore.faults s; sure = g.S.SpillStore.sure s }) l.stores.items
+    × (map (λ s. record { held = g.S.SpillStore.held s; told = g.S.SpillStore.told s; faults = g.S.SpillStore.faults s; sure = g.S.SpillStore.sure s; path = g.S.SpillStore.path s }) l.stores.items
     ++ map (λ c. c.store) (into_iter_items l.partition-iterator) ≡ map (λ c. c.store) l.fn.closed.items)
     × (l.arrived + sum_by (λ c. c.arrived) (into_iter_items l.partition-iterator) ≡ sum_by (λ c. c.arrived) l.fn.closed.items)
     × (sum_by (λ c. c.arrived) l.fn.closed.items < 2 ^ 64)

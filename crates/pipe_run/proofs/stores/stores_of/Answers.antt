@@ -7,13 +7,13 @@ use Rattle.pipe_run.proofs.stores.stores_of.Goals as goal
 
 pub loop-partition-preserved : goal.loop-partition-preserved
 loop-partition-preserved g c =
-    let seen : g.row.S.Denot → StoreSeen = λ s. record { held = g.S.SpillStore.held s; told = g.S.SpillStore.told s; faults = g.S.SpillStore.faults s; sure = g.S.SpillStore.sure s } in
+    let seen : g.row.S.Denot → StoreSeen = λ s. record { held = g.S.SpillStore.held s; told = g.S.SpillStore.told s; faults = g.S.SpillStore.faults s; sure = g.S.SpillStore.sure s; path = g.S.SpillStore.path s } in
     let old = into_iter_items c.loop-partition.partition-iterator in
     let new = into_iter_items c.next.new.self in
     let items : old ≡ c.in-Some.partition ∷ new = c.in-Some.ensures.steps.0 in
     let size = ap (λ l. length l) items in
     let parts = c.into_parts-journal.ensures in
-    let same : seen c.into_parts-journal.result.1 ≡ c.in-Some.partition.store = λ i. record { held = parts.held i; told = parts.told i; faults = parts.faults i; sure = parts.sure i } in (
+    let same : seen c.into_parts-journal.result.1 ≡ c.in-Some.partition.store = λ i. record { held = parts.held i; told = parts.told i; faults = parts.faults i; sure = parts.sure i; path = parts.path i } in (
       tt,
       tt,
       omega (arith, size, c.push_reserved.ensures.len, c.loop-partition.invariant.2),
@@ -23,7 +23,7 @@ loop-partition-preserved g c =
 
 pub loop-partition-init : goal.loop-partition-init
 loop-partition-init g c =
-    let seen : g.row.S.Denot → StoreSeen = λ s. record { held = g.S.SpillStore.held s; told = g.S.SpillStore.told s; faults = g.S.SpillStore.faults s; sure = g.S.SpillStore.sure s } in
+    let seen : g.row.S.Denot → StoreSeen = λ s. record { held = g.S.SpillStore.held s; told = g.S.SpillStore.told s; faults = g.S.SpillStore.faults s; sure = g.S.SpillStore.sure s; path = g.S.SpillStore.path s } in
     let iter = into_iter_items c.into_iter-partition-iterator.result in
     let gives : iter ≡ c.args.closed.items = c.into_iter-partition-iterator.ensures.into_iter_gives.0 in
     let none : c.args.room.items ≡ [] = none-left c.args.room.items (sym c.args.room.ok.0 ∙ c.requires.0) in (

@@ -19,7 +19,7 @@ use Rattle.pipe_run.proofs.whole_run.run_generic.Goals as goal
 pub returns-in-Err : goal.returns-in-Err
 returns-in-Err g c =
     let S = g.row.S.Denot in
-    let seen : S → StoreSeen = λ s. record { held = g.S.SpillStore.held s; told = g.S.SpillStore.told s; faults = g.S.SpillStore.faults s; sure = g.S.SpillStore.sure s } in
+    let seen : S → StoreSeen = λ s. record { held = g.S.SpillStore.held s; told = g.S.SpillStore.told s; faults = g.S.SpillStore.faults s; sure = g.S.SpillStore.sure s; path = g.S.SpillStore.path s } in
     let x : Setting = record { query = c.args.query.now; limits = c.args.limits.now; actions = map (λ v. v.items) c.args.actions.items; rules = c.args.rules.items; stores = map seen c.args.stores.items } in
     let fits = fits-setting seen (λ v. v.items) c.args.query.now c.args.limits.now c.args.actions.items c.args.rules.items c.args.stores.items c.deref.result.now c.len.result (omega (arith, c.len.ensures, c.args.actions.ok.0)) c.deref.ensures.value in
     begin-ends x c.args.chunks.items (map seen c.args.stores.items) c.in-Err.error (subst (λ b. IsBeginCause b (first_fault c.args.query.now) (setting_suits x) c.in-Err.error) (sym fits) c.in-Err.ensures.cause) refl
@@ -27,7 +27,7 @@ returns-in-Err g c =
 pub returns-in-Err-checked_rows : goal.returns-in-Err-checked_rows
 returns-in-Err-checked_rows g c =
     let S = g.row.S.Denot in
-    let seen : S → StoreSeen = λ s. record { held = g.S.SpillStore.held s; told = g.S.SpillStore.told s; faults = g.S.SpillStore.faults s; sure = g.S.SpillStore.sure s } in
+    let seen : S → StoreSeen = λ s. record { held = g.S.SpillStore.held s; told = g.S.SpillStore.told s; faults = g.S.SpillStore.faults s; sure = g.S.SpillStore.sure s; path = g.S.SpillStore.path s } in
     let x : Setting = record { query = c.args.query.now; limits = c.args.limits.now; actions = map (λ v. v.items) c.args.actions.items; rules = c.args.rules.items; stores = map seen c.args.stores.items } in
     let fits = fits-setting seen (λ v. v.items) c.args.query.now c.args.limits.now c.args.actions.items c.args.rules.items c.args.stores.items c.deref.result.now c.len.result (omega (arith, c.len.ensures, c.args.actions.ok.0)) c.deref.ensures.value in
     let begin : CanBegin x = record { fit = fits ∙ c.in-Ok.ensures.fit; faultless = c.in-Ok.ensures.faultless; suited = c.in-Ok.ensures.suited } in
@@ -68,7 +68,7 @@ before_chunks-requires-clause-few g c κs within =
 pub returns-in-Err-before_chunks : goal.returns-in-Err-before_chunks
 returns-in-Err-before_chunks g c =
     let S = g.row.S.Denot in
-    let seen : S → StoreSeen = λ s. record { held = g.S.SpillStore.held s; told = g.S.SpillStore.told s; faults = g.S.SpillStore.faults s; sure = g.S.SpillStore.sure s } in
+    let seen : S → StoreSeen = λ s. record { held = g.S.SpillStore.held s; told = g.S.SpillStore.told s; faults = g.S.SpillStore.faults s; sure = g.S.SpillStore.sure s; path = g.S.SpillStore.path s } in
     let x : Setting = record { query = c.args.query.now; limits = c.args.limits.now; actions = map (λ v. v.items) c.args.actions.items; rules = c.args.rules.items; stores = map seen c.args.stores.items } in
     let fits = fits-setting seen (λ v. v.items) c.args.query.now c.args.limits.now c.args.actions.items c.args.rules.items c.args.stores.items c.deref.result.now c.len.result (omega (arith, c.len.ensures, c.args.actions.ok.0)) c.deref.ensures.value in
     let back : c.in-Err-before_chunks.stores.items ≡ c.args.stores.items = search rules in
@@ -77,7 +77,7 @@ returns-in-Err-before_chunks g c =
 pub returns-in-Err-feed : goal.returns-in-Err-feed
 returns-in-Err-feed g c =
     let S = g.row.S.Denot in
-    let seen : S → StoreSeen = λ s. record { held = g.S.SpillStore.held s; told = g.S.SpillStore.told s; faults = g.S.SpillStore.faults s; sure = g.S.SpillStore.sure s } in
+    let seen : S → StoreSeen = λ s. record { held = g.S.SpillStore.held s; told = g.S.SpillStore.told s; faults = g.S.SpillStore.faults s; sure = g.S.SpillStore.sure s; path = g.S.SpillStore.path s } in
     let x : Setting = record { query = c.args.query.now; limits = c.args.limits.now; actions = map (λ v. v.items) c.args.actions.items; rules = c.args.rules.items; stores = map seen c.args.stores.items } in
     let fits = fits-setting seen (λ v. v.items) c.args.query.now c.args.limits.now c.args.actions.items c.args.rules.items c.args.stores.items c.deref.result.now c.len.result (omega (arith, c.len.ensures, c.args.actions.ok.0)) c.deref.ensures.value in
     let begin : CanBegin x = record { fit = fits ∙ c.in-Ok.ensures.fit; faultless = c.in-Ok.ensures.faultless; suited = c.in-Ok.ensures.suited } in
@@ -94,7 +94,7 @@ returns-in-Err-feed g c =
 pub returns : goal.returns
 returns g c =
     let S = g.row.S.Denot in
-    let seen : S → StoreSeen = λ s. record { held = g.S.SpillStore.held s; told = g.S.SpillStore.told s; faults = g.S.SpillStore.faults s; sure = g.S.SpillStore.sure s } in
+    let seen : S → StoreSeen = λ s. record { held = g.S.SpillStore.held s; told = g.S.SpillStore.told s; faults = g.S.SpillStore.faults s; sure = g.S.SpillStore.sure s; path = g.S.SpillStore.path s } in
     let x : Setting = record { query = c.args.query.now; limits = c.args.limits.now; actions = map (λ v. v.items) c.args.actions.items; rules = c.args.rules.items; stores = map seen c.args.stores.items } in
     let fits = fits-setting seen (λ v. v.items) c.args.query.now c.args.limits.now c.args.actions.items c.args.rules.items c.args.stores.items c.deref.result.now c.len.result (omega (arith, c.len.ensures, c.args.actions.ok.0)) c.deref.ensures.value in
     let begin : CanBegin x = record { fit = fits ∙ c.in-Ok.ensures.fit; faultless = c.in-Ok.ensures.faultless; suited = c.in-Ok.ensures.suited } in

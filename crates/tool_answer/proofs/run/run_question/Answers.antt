@@ -15,7 +15,7 @@ use Rattle.tool_answer.proofs.run.run_question.Goals as goal
 pub begin_run-requires-clause-fits : goal.begin_run-requires-clause-fits
 begin_run-requires-clause-fits g c = λ lives bounds.
     let store = g.S.SpillStore in
-    plan-fits store.held store.told store.faults store.sure (plan_seen c.args.question.plan) _ c.args.stores.items c.requires.runs (omega (arith, length-map c.args.question.plan.actions.items (λ l. l.items), c.args.question.plan.actions.ok.0)) c.requires.made c.requires.count
+    plan-fits store.held store.told store.faults store.sure store.path (plan_seen c.args.question.plan) _ c.args.stores.items c.requires.runs (omega (arith, length-map c.args.question.plan.actions.items (λ l. l.items), c.args.question.plan.actions.ok.0)) c.requires.made c.requires.count
 
 pub begin_run-requires-clause-each : goal.begin_run-requires-clause-each
 begin_run-requires-clause-each g c = λ lives bounds. omega (arith, c.requires.runs.rules, c.args.question.plan.rules.ok.0)
@@ -33,12 +33,12 @@ reader_of-requires-clause-wanted g c =
 pub returns-in_default-clause-stopped : goal.returns-in_default-clause-stopped
 returns-in_default-clause-stopped g c =
     let store = g.S.SpillStore in
-    front-made store.held store.told store.faults store.sure (plan_seen c.args.question.plan) c.args.question.query (AreFedInput (plan_seen c.args.question.plan) (query_tree c.args.question.query) (g.I.InputFiles.told c.args.input.now)) c.args.stores.items c.args.stores.items c.requires.runs c.requires.made c.requires.count (fed-none (plan_seen c.args.question.plan) (query_tree c.args.question.query) (g.I.InputFiles.told c.args.input.now)) refl
+    front-made store.held store.told store.faults store.sure store.path (plan_seen c.args.question.plan) c.args.question.query (AreFedInput (plan_seen c.args.question.plan) (query_tree c.args.question.query) (g.I.InputFiles.told c.args.input.now)) c.args.stores.items c.args.stores.items c.requires.runs c.requires.made c.requires.count c.requires.paths (fed-none (plan_seen c.args.question.plan) (query_tree c.args.question.query) (g.I.InputFiles.told c.args.input.now)) refl
 
 pub returns-in-Err-clause-stopped : goal.returns-in-Err-clause-stopped
 returns-in-Err-clause-stopped g c =
     let store = g.S.SpillStore in
-    front-made store.held store.told store.faults store.sure (plan_seen c.args.question.plan) c.args.question.query (AreFedInput (plan_seen c.args.question.plan) (query_tree c.args.question.query) (g.I.InputFiles.told c.args.input.now)) c.args.stores.items c.in-Err.stores.items c.requires.runs c.requires.made c.requires.count (fed-none (plan_seen c.args.question.plan) (query_tree c.args.question.query) (g.I.InputFiles.told c.args.input.now)) c.in-Err.ensures.back
+    front-made store.held store.told store.faults store.sure store.path (plan_seen c.args.question.plan) c.args.question.query (AreFedInput (plan_seen c.args.question.plan) (query_tree c.args.question.query) (g.I.InputFiles.told c.args.input.now)) c.args.stores.items c.in-Err.stores.items c.requires.runs c.requires.made c.requires.count c.requires.paths (fed-none (plan_seen c.args.question.plan) (query_tree c.args.question.query) (g.I.InputFiles.told c.args.input.now)) c.in-Err.ensures.back
 
 pub returns-in_default-reader_of-clause-stopped : goal.returns-in_default-reader_of-clause-stopped
 returns-in_default-reader_of-clause-stopped g c =
@@ -46,8 +46,8 @@ returns-in_default-reader_of-clause-stopped g c =
     let q = c.args.question.query in
     let n = c.in-Ok.narrowed in
     let covered : covers n.wanted.items (query_tree q) ≡ true = c.in-Ok.ensures.covered in
-    let began = began-narrow store.held store.told store.faults store.sure (plan_seen c.args.question.plan) q n.query n.wanted.items c.args.stores.items c.in-Ok-begin_run.run' c.requires.made c.requires.count c.in-Ok.ensures.query c.in-Ok-begin_run.ensures.setting in
-    run-front (plan_seen c.args.question.plan) q n.wanted.items covered (stores_seen store.held store.told store.faults store.sure c.args.stores.items) (stores_seen store.held store.told store.faults store.sure c.into_stores.result.items) c.in-Ok-begin_run.run' began (g.I.InputFiles.told c.args.input.now) (left-none (plan_seen c.args.question.plan) q n.wanted.items (g.I.InputFiles.told c.args.input.now) c.in-Ok-begin_run.run' (stores_seen store.held store.told store.faults store.sure c.into_stores.result.items) c.in-Ok-begin_run.ensures.chunks c.into_stores.ensures.back)
+    let began = began-narrow store.held store.told store.faults store.sure store.path (plan_seen c.args.question.plan) q n.query n.wanted.items c.args.stores.items c.in-Ok-begin_run.run' c.requires.made c.requires.count c.requires.paths c.in-Ok.ensures.query c.in-Ok-begin_run.ensures.setting in
+    run-front (plan_seen c.args.question.plan) q n.wanted.items covered (stores_seen store.held store.told store.faults store.sure store.path c.args.stores.items) (stores_seen store.held store.told store.faults store.sure store.path c.into_stores.result.items) c.in-Ok-begin_run.run' began (g.I.InputFiles.told c.args.input.now) (left-none (plan_seen c.args.question.plan) q n.wanted.items (g.I.InputFiles.told c.args.input.now) c.in-Ok-begin_run.run' (stores_seen store.held store.told store.faults store.sure store.path c.into_stores.result.items) c.in-Ok-begin_run.ensures.chunks c.into_stores.ensures.back)
 
 pub returns-in_default-reader_of-clause-in_memory : goal.returns-in_default-reader_of-clause-in_memory
 returns-in_default-reader_of-clause-in_memory g c =
@@ -55,9 +55,9 @@ returns-in_default-reader_of-clause-in_memory g c =
     let q = c.args.question.query in
     let n = c.in-Ok.narrowed in
     let covered : covers n.wanted.items (query_tree q) ≡ true = c.in-Ok.ensures.covered in
-    let began = began-narrow store.held store.told store.faults store.sure (plan_seen c.args.question.plan) q n.query n.wanted.items c.args.stores.items c.in-Ok-begin_run.run' c.requires.made c.requires.count c.in-Ok.ensures.query c.in-Ok-begin_run.ensures.setting in
-    let never = never-seen store.held store.told store.faults store.sure store.never_failed c.into_stores.result.items in
-    run-sound (plan_seen c.args.question.plan) q n.wanted.items covered (stores_seen store.held store.told store.faults store.sure c.args.stores.items) (stores_seen store.held store.told store.faults store.sure c.into_stores.result.items) c.in-Ok-begin_run.run' began (g.I.InputFiles.told c.args.input.now) (left-none (plan_seen c.args.question.plan) q n.wanted.items (g.I.InputFiles.told c.args.input.now) c.in-Ok-begin_run.run' (stores_seen store.held store.told store.faults store.sure c.into_stores.result.items) c.in-Ok-begin_run.ensures.chunks c.into_stores.ensures.back) never
+    let began = began-narrow store.held store.told store.faults store.sure store.path (plan_seen c.args.question.plan) q n.query n.wanted.items c.args.stores.items c.in-Ok-begin_run.run' c.requires.made c.requires.count c.requires.paths c.in-Ok.ensures.query c.in-Ok-begin_run.ensures.setting in
+    let never = never-seen store.held store.told store.faults store.sure store.path store.never_failed c.into_stores.result.items in
+    run-sound (plan_seen c.args.question.plan) q n.wanted.items covered (stores_seen store.held store.told store.faults store.sure store.path c.args.stores.items) (stores_seen store.held store.told store.faults store.sure store.path c.into_stores.result.items) c.in-Ok-begin_run.run' began (g.I.InputFiles.told c.args.input.now) (left-none (plan_seen c.args.question.plan) q n.wanted.items (g.I.InputFiles.told c.args.input.now) c.in-Ok-begin_run.run' (stores_seen store.held store.told store.faults store.sure store.path c.into_stores.result.items) c.in-Ok-begin_run.ensures.chunks c.into_stores.ensures.back) never
 
 pub returns-in-Ok-ended-clause-answered : goal.returns-in-Ok-ended-clause-answered
 returns-in-Ok-ended-clause-answered g c =
@@ -65,9 +65,9 @@ returns-in-Ok-ended-clause-answered g c =
     let q = c.args.question.query in
     let n = c.in-Ok.narrowed in
     let covered : covers n.wanted.items (query_tree q) ≡ true = c.in-Ok.ensures.covered in
-    let began = began-narrow store.held store.told store.faults store.sure (plan_seen c.args.question.plan) q n.query n.wanted.items c.args.stores.items c.in-Ok-begin_run.run' c.requires.made c.requires.count c.in-Ok.ensures.query c.in-Ok-begin_run.ensures.setting in
+    let began = began-narrow store.held store.told store.faults store.sure store.path (plan_seen c.args.question.plan) q n.query n.wanted.items c.args.stores.items c.in-Ok-begin_run.run' c.requires.made c.requires.count c.requires.paths c.in-Ok.ensures.query c.in-Ok-begin_run.ensures.setting in
     let reader = reader-is (plan_seen c.args.question.plan) q n.wanted.items c.in-Ok-reader_of.reader n.schema c.in-Ok.ensures.schema c.in-Ok-reader_of.ensures.options c.in-Ok-reader_of.ensures.left in
-    has-run (plan_seen c.args.question.plan) q n.wanted.items covered (stores_seen store.held store.told store.faults store.sure c.args.stores.items) (stores_seen store.held store.told store.faults store.sure c.run_files-ended.result.1.items) c.in-Ok-begin_run.run' (g.I.InputFiles.told c.args.input.now) c.in-Ok-reader_of.reader c.in-Ok-ended.groups began reader (ok-at c.run_files-ended.result.0 c.in-Ok-ended.groups _ c.in-Ok-ended.is c.run_files-ended.ensures.answered)
+    has-run (plan_seen c.args.question.plan) q n.wanted.items covered (stores_seen store.held store.told store.faults store.sure store.path c.args.stores.items) (stores_seen store.held store.told store.faults store.sure store.path c.run_files-ended.result.1.items) c.in-Ok-begin_run.run' (g.I.InputFiles.told c.args.input.now) c.in-Ok-reader_of.reader c.in-Ok-ended.groups began reader (ok-at c.run_files-ended.result.0 c.in-Ok-ended.groups _ c.in-Ok-ended.is c.run_files-ended.ensures.answered)
 
 pub returns-in-Ok-ended-clause-in_memory : goal.returns-in-Ok-ended-clause-in_memory
 returns-in-Ok-ended-clause-in_memory g c =
@@ -75,11 +75,11 @@ returns-in-Ok-ended-clause-in_memory g c =
     let q = c.args.question.query in
     let n = c.in-Ok.narrowed in
     let covered : covers n.wanted.items (query_tree q) ≡ true = c.in-Ok.ensures.covered in
-    let began = began-narrow store.held store.told store.faults store.sure (plan_seen c.args.question.plan) q n.query n.wanted.items c.args.stores.items c.in-Ok-begin_run.run' c.requires.made c.requires.count c.in-Ok.ensures.query c.in-Ok-begin_run.ensures.setting in
+    let began = began-narrow store.held store.told store.faults store.sure store.path (plan_seen c.args.question.plan) q n.query n.wanted.items c.args.stores.items c.in-Ok-begin_run.run' c.requires.made c.requires.count c.requires.paths c.in-Ok.ensures.query c.in-Ok-begin_run.ensures.setting in
     let reader = reader-is (plan_seen c.args.question.plan) q n.wanted.items c.in-Ok-reader_of.reader n.schema c.in-Ok.ensures.schema c.in-Ok-reader_of.ensures.options c.in-Ok-reader_of.ensures.left in
-    let never = never-seen store.held store.told store.faults store.sure store.never_failed c.run_files-ended.result.1.items in
-    has-run-sound (plan_seen c.args.question.plan) (query_tree c.args.question.query) (g.I.InputFiles.told c.args.input.now) c.in-Ok-ended.groups (stores_seen store.held store.told store.faults store.sure c.run_files-ended.result.1.items)
-    (has-run (plan_seen c.args.question.plan) q n.wanted.items covered (stores_seen store.held store.told store.faults store.sure c.args.stores.items) (stores_seen store.held store.told store.faults store.sure c.run_files-ended.result.1.items) c.in-Ok-begin_run.run' (g.I.InputFiles.told c.args.input.now) c.in-Ok-reader_of.reader c.in-Ok-ended.groups began reader (ok-at c.run_files-ended.result.0 c.in-Ok-ended.groups _ c.in-Ok-ended.is c.run_files-ended.ensures.answered)) never
+    let never = never-seen store.held store.told store.faults store.sure store.path store.never_failed c.run_files-ended.result.1.items in
+    has-run-sound (plan_seen c.args.question.plan) (query_tree c.args.question.query) (g.I.InputFiles.told c.args.input.now) c.in-Ok-ended.groups (stores_seen store.held store.told store.faults store.sure store.path c.run_files-ended.result.1.items)
+    (has-run (plan_seen c.args.question.plan) q n.wanted.items covered (stores_seen store.held store.told store.faults store.sure store.path c.args.stores.items) (stores_seen store.held store.told store.faults store.sure store.path c.run_files-ended.result.1.items) c.in-Ok-begin_run.run' (g.I.InputFiles.told c.args.input.now) c.in-Ok-reader_of.reader c.in-Ok-ended.groups began reader (ok-at c.run_files-ended.result.0 c.in-Ok-ended.groups _ c.in-Ok-ended.is c.run_files-ended.ensures.answered)) never
 
 pub returns-clause-cause : goal.returns-clause-cause
 returns-clause-cause g c =
@@ -87,21 +87,21 @@ returns-clause-cause g c =
     let q = c.args.question.query in
     let n = c.in-Ok.narrowed in
     let covered : covers n.wanted.items (query_tree q) ≡ true = c.in-Ok.ensures.covered in
-    let began = began-narrow store.held store.told store.faults store.sure (plan_seen c.args.question.plan) q n.query n.wanted.items c.args.stores.items c.in-Ok-begin_run.run' c.requires.made c.requires.count c.in-Ok.ensures.query c.in-Ok-begin_run.ensures.setting in
+    let began = began-narrow store.held store.told store.faults store.sure store.path (plan_seen c.args.question.plan) q n.query n.wanted.items c.args.stores.items c.in-Ok-begin_run.run' c.requires.made c.requires.count c.requires.paths c.in-Ok.ensures.query c.in-Ok-begin_run.ensures.setting in
     let reader = reader-is (plan_seen c.args.question.plan) q n.wanted.items c.in-Ok-reader_of.reader n.schema c.in-Ok.ensures.schema c.in-Ok-reader_of.ensures.options c.in-Ok-reader_of.ensures.left in
-    let never = never-seen store.held store.told store.faults store.sure store.never_failed c.run_files-ended.result.1.items in
-    rw c.file_fault.ensures (run-caused (plan_seen c.args.question.plan) q n.wanted.items covered (stores_seen store.held store.told store.faults store.sure c.args.stores.items) (stores_seen store.held store.told store.faults store.sure c.run_files-ended.result.1.items) c.in-Ok-begin_run.run' began (g.I.InputFiles.told c.args.input.now) (left-read (plan_seen c.args.question.plan) q n.wanted.items (stores_seen store.held store.told store.faults store.sure c.args.stores.items) (stores_seen store.held store.told store.faults store.sure c.run_files-ended.result.1.items) c.in-Ok-begin_run.run' (g.I.InputFiles.told c.args.input.now) c.in-Ok-reader_of.reader began reader (err-at c.run_files-ended.result.0 c.in-Err-ended.error _ c.in-Err-ended.is c.run_files-ended.ensures.back)) c.in-Ok-reader_of.reader never reader c.in-Err-ended.error (err-at c.run_files-ended.result.0 c.in-Err-ended.error _ c.in-Err-ended.is c.run_files-ended.ensures.cause))
+    let never = never-seen store.held store.told store.faults store.sure store.path store.never_failed c.run_files-ended.result.1.items in
+    rw c.file_fault.ensures (run-caused (plan_seen c.args.question.plan) q n.wanted.items covered (stores_seen store.held store.told store.faults store.sure store.path c.args.stores.items) (stores_seen store.held store.told store.faults store.sure store.path c.run_files-ended.result.1.items) c.in-Ok-begin_run.run' began (g.I.InputFiles.told c.args.input.now) (left-read (plan_seen c.args.question.plan) q n.wanted.items (stores_seen store.held store.told store.faults store.sure store.path c.args.stores.items) (stores_seen store.held store.told store.faults store.sure store.path c.run_files-ended.result.1.items) c.in-Ok-begin_run.run' (g.I.InputFiles.told c.args.input.now) c.in-Ok-reader_of.reader began reader (err-at c.run_files-ended.result.0 c.in-Err-ended.error _ c.in-Err-ended.is c.run_files-ended.ensures.back)) c.in-Ok-reader_of.reader never reader c.in-Err-ended.error (err-at c.run_files-ended.result.0 c.in-Err-ended.error _ c.in-Err-ended.is c.run_files-ended.ensures.cause))
 
 pub returns-clause-of_run : goal.returns-clause-of_run
 returns-clause-of_run g c =
     let store = g.S.SpillStore in
-    let come = end-comes c.in-Ok-begin_run.run' (g.I.InputFiles.told c.args.input.now) c.in-Ok-reader_of.reader (stores_seen store.held store.told store.faults store.sure c.run_files-ended.result.1.items) c.in-Err-ended.error (err-at c.run_files-ended.result.0 c.in-Err-ended.error _ c.in-Err-ended.is c.run_files-ended.ensures.cause) in
+    let come = end-comes c.in-Ok-begin_run.run' (g.I.InputFiles.told c.args.input.now) c.in-Ok-reader_of.reader (stores_seen store.held store.told store.faults store.sure store.path c.run_files-ended.result.1.items) c.in-Err-ended.error (err-at c.run_files-ended.result.0 c.in-Err-ended.error _ c.in-Err-ended.is c.run_files-ended.ensures.cause) in
     rw c.file_fault.ensures (fault-of-run c.in-Err-ended.error come)
 
 pub returns-clause-failed : goal.returns-clause-failed
 returns-clause-failed g c =
     let store = g.S.SpillStore in
-    let come = end-comes c.in-Ok-begin_run.run' (g.I.InputFiles.told c.args.input.now) c.in-Ok-reader_of.reader (stores_seen store.held store.told store.faults store.sure c.run_files-ended.result.1.items) c.in-Err-ended.error (err-at c.run_files-ended.result.0 c.in-Err-ended.error _ c.in-Err-ended.is c.run_files-ended.ensures.cause) in
+    let come = end-comes c.in-Ok-begin_run.run' (g.I.InputFiles.told c.args.input.now) c.in-Ok-reader_of.reader (stores_seen store.held store.told store.faults store.sure store.path c.run_files-ended.result.1.items) c.in-Err-ended.error (err-at c.run_files-ended.result.0 c.in-Err-ended.error _ c.in-Err-ended.is c.run_files-ended.ensures.cause) in
     λ is. (err-at c.run_files-ended.result.0 c.in-Err-ended.error _ c.in-Err-ended.is c.run_files-ended.ensures.failed) (input-fault c.in-Err-ended.error come (sym c.file_fault.ensures ∙ search (rules, is)))
 
 pub returns-clause-stopped : goal.returns-clause-stopped
@@ -110,9 +110,9 @@ returns-clause-stopped g c =
     let q = c.args.question.query in
     let n = c.in-Ok.narrowed in
     let covered : covers n.wanted.items (query_tree q) ≡ true = c.in-Ok.ensures.covered in
-    let began = began-narrow store.held store.told store.faults store.sure (plan_seen c.args.question.plan) q n.query n.wanted.items c.args.stores.items c.in-Ok-begin_run.run' c.requires.made c.requires.count c.in-Ok.ensures.query c.in-Ok-begin_run.ensures.setting in
+    let began = began-narrow store.held store.told store.faults store.sure store.path (plan_seen c.args.question.plan) q n.query n.wanted.items c.args.stores.items c.in-Ok-begin_run.run' c.requires.made c.requires.count c.requires.paths c.in-Ok.ensures.query c.in-Ok-begin_run.ensures.setting in
     let reader = reader-is (plan_seen c.args.question.plan) q n.wanted.items c.in-Ok-reader_of.reader n.schema c.in-Ok.ensures.schema c.in-Ok-reader_of.ensures.options c.in-Ok-reader_of.ensures.left in
-    run-front (plan_seen c.args.question.plan) q n.wanted.items covered (stores_seen store.held store.told store.faults store.sure c.args.stores.items) (stores_seen store.held store.told store.faults store.sure c.run_files-ended.result.1.items) c.in-Ok-begin_run.run' began (g.I.InputFiles.told c.args.input.now) (left-read (plan_seen c.args.question.plan) q n.wanted.items (stores_seen store.held store.told store.faults store.sure c.args.stores.items) (stores_seen store.held store.told store.faults store.sure c.run_files-ended.result.1.items) c.in-Ok-begin_run.run' (g.I.InputFiles.told c.args.input.now) c.in-Ok-reader_of.reader began reader (err-at c.run_files-ended.result.0 c.in-Err-ended.error _ c.in-Err-ended.is c.run_files-ended.ensures.back))
+    run-front (plan_seen c.args.question.plan) q n.wanted.items covered (stores_seen store.held store.told store.faults store.sure store.path c.args.stores.items) (stores_seen store.held store.told store.faults store.sure store.path c.run_files-ended.result.1.items) c.in-Ok-begin_run.run' began (g.I.InputFiles.told c.args.input.now) (left-read (plan_seen c.args.question.plan) q n.wanted.items (stores_seen store.held store.told store.faults store.sure store.path c.args.stores.items) (stores_seen store.held store.told store.faults store.sure store.path c.run_files-ended.result.1.items) c.in-Ok-begin_run.run' (g.I.InputFiles.told c.args.input.now) c.in-Ok-reader_of.reader began reader (err-at c.run_files-ended.result.0 c.in-Err-ended.error _ c.in-Err-ended.is c.run_files-ended.ensures.back))
 
 pub returns-clause-in_memory : goal.returns-clause-in_memory
 returns-clause-in_memory g c =
@@ -120,10 +120,10 @@ returns-clause-in_memory g c =
     let q = c.args.question.query in
     let n = c.in-Ok.narrowed in
     let covered : covers n.wanted.items (query_tree q) ≡ true = c.in-Ok.ensures.covered in
-    let began = began-narrow store.held store.told store.faults store.sure (plan_seen c.args.question.plan) q n.query n.wanted.items c.args.stores.items c.in-Ok-begin_run.run' c.requires.made c.requires.count c.in-Ok.ensures.query c.in-Ok-begin_run.ensures.setting in
+    let began = began-narrow store.held store.told store.faults store.sure store.path (plan_seen c.args.question.plan) q n.query n.wanted.items c.args.stores.items c.in-Ok-begin_run.run' c.requires.made c.requires.count c.requires.paths c.in-Ok.ensures.query c.in-Ok-begin_run.ensures.setting in
     let reader = reader-is (plan_seen c.args.question.plan) q n.wanted.items c.in-Ok-reader_of.reader n.schema c.in-Ok.ensures.schema c.in-Ok-reader_of.ensures.options c.in-Ok-reader_of.ensures.left in
-    let never = never-seen store.held store.told store.faults store.sure store.never_failed c.run_files-ended.result.1.items in
-    run-sound (plan_seen c.args.question.plan) q n.wanted.items covered (stores_seen store.held store.told store.faults store.sure c.args.stores.items) (stores_seen store.held store.told store.faults store.sure c.run_files-ended.result.1.items) c.in-Ok-begin_run.run' began (g.I.InputFiles.told c.args.input.now) (left-read (plan_seen c.args.question.plan) q n.wanted.items (stores_seen store.held store.told store.faults store.sure c.args.stores.items) (stores_seen store.held store.told store.faults store.sure c.run_files-ended.result.1.items) c.in-Ok-begin_run.run' (g.I.InputFiles.told c.args.input.now) c.in-Ok-reader_of.reader began reader (err-at c.run_files-ended.result.0 c.in-Err-ended.error _ c.in-Err-ended.is c.run_files-ended.ensures.back)) never
+    let never = never-seen store.held store.told store.faults store.sure store.path store.never_failed c.run_files-ended.result.1.items in
+    run-sound (plan_seen c.args.question.plan) q n.wanted.items covered (stores_seen store.held store.told store.faults store.sure store.path c.args.stores.items) (stores_seen store.held store.told store.faults store.sure store.path c.run_files-ended.result.1.items) c.in-Ok-begin_run.run' began (g.I.InputFiles.told c.args.input.now) (left-read (plan_seen c.args.question.plan) q n.wanted.items (stores_seen store.held store.told store.faults store.sure store.path c.args.stores.items) (stores_seen store.held store.told store.faults store.sure store.path c.run_files-ended.result.1.items) c.in-Ok-begin_run.run' (g.I.InputFiles.told c.args.input.now) c.in-Ok-reader_of.reader began reader (err-at c.run_files-ended.result.0 c.in-Err-ended.error _ c.in-Err-ended.is c.run_files-ended.ensures.back)) never
 
 pub returns-in_default-clause-tried : goal.returns-in_default-clause-tried
 returns-in_default-clause-tried g c = front-none _ _ (files_named (plan_seen c.args.question.plan).words) refl

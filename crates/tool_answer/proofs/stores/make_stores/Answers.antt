@@ -7,7 +7,7 @@ pub loop-partition-init : goal.loop-partition-init
 loop-partition-init g c =
     let store = g.M.Store.SpillStore in
     record {
-      made = made-none store.held store.told store.faults store.sure (option_map (λ f. f.now) c.args.folder) c.new-stores.result.items c.new-stores.ensures.items;
+      made = made-none store.held store.told store.faults store.sure store.path (option_map (λ f. f.now) c.args.folder) c.new-stores.result.items c.new-stores.ensures.items;
       count = search rules;
       paths = ap (map g.M.Store.SpillStore.path) c.new-stores.ensures.items;
       stores_made = paths-none (option_map (λ f. f.now) c.args.folder) (g.M.StoreMaker.made c.args.maker.now);
@@ -17,7 +17,7 @@ pub loop-partition-preserved : goal.loop-partition-preserved
 loop-partition-preserved g c =
     let store = g.M.Store.SpillStore in
     record {
-      made = made-more store.held store.told store.faults store.sure (option_map (λ f. f.now) c.args.folder) c.loop-partition.stores.items c.push.new.self.items c.in_ok-make.field-0
+      made = made-more store.held store.told store.faults store.sure store.path (option_map (λ f. f.now) c.args.folder) c.loop-partition.stores.items c.push.new.self.items c.in_ok-make.field-0
           c.in_ok-push.ensures.items c.loop-partition.invariant.made
           (record {
             held = c.in_ok-make.ensures.held;

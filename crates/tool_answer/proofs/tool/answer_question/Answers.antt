@@ -24,7 +24,7 @@ returns-in-Ok-ended-clause-left g c =
     let p = plan_seen c.args.question.plan in
     let q = query_tree c.args.question.query in
     let told = g.I.InputFiles.told c.args.input.now in
-    let stores = stores_seen store.held store.told store.faults store.sure c.run_question-ended.result.1.items in
+    let stores = stores_seen store.held store.told store.faults store.sure store.path c.run_question-ended.result.1.items in
     written-left c.write_frame-fault.result (asks p q) told groups.journals stores c.write_frame-fault.ensures.faults
     (text_in p.format groups.frame, has-answer p q told groups stores (ok-at c.run_question-ended.result.0 groups _ c.in-Ok-ended.is c.run_question-ended.ensures.answered))
 
@@ -35,14 +35,14 @@ returns-in-Ok-ended-clause-memory g c = λ is.
     let p = plan_seen c.args.question.plan in
     let q = query_tree c.args.question.query in
     let told = g.I.InputFiles.told c.args.input.now in
-    let stores = stores_seen store.held store.told store.faults store.sure c.run_question-ended.result.1.items in
+    let stores = stores_seen store.held store.told store.faults store.sure store.path c.run_question-ended.result.1.items in
     let has : HasAnswer p q told groups.journals stores (text_in p.format groups.frame) = has-answer p q told groups stores (ok-at c.run_question-ended.result.0 groups _ c.in-Ok-ended.is c.run_question-ended.ensures.answered) in
     memory-begun c.args.output.now c.write_frame-fault.new.output (λ o. g.O.Output.told o) p q told groups.journals stores (text_in p.format groups.frame) has (c.write_frame-fault.ensures.memory is)
 
 pub returns-in-Ok-ended-clause-cause : goal.returns-in-Ok-ended-clause-cause
 returns-in-Ok-ended-clause-cause g c =
     let store = g.M.Store.SpillStore in
-    let stores = stores_seen store.held store.told store.faults store.sure c.run_question-ended.result.1.items in
+    let stores = stores_seen store.held store.told store.faults store.sure store.path c.run_question-ended.result.1.items in
     written-has (λ f. IsCaused f (asks (plan_seen c.args.question.plan) (query_tree c.args.question.query)) (g.I.InputFiles.told c.args.input.now) stores) c.write_frame-fault.result c.write_frame-fault.ensures.faults tt tt
 
 pub returns-in-Ok-ended-clause-untouched : goal.returns-in-Ok-ended-clause-untouched

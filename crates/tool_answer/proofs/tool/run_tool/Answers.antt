@@ -13,7 +13,7 @@ use Rattle.tool_answer.specs.Headline.{HasNoRun, HasRun, HasStopped}
 use Rattle.tool_answer.specs.Status.{FrameDamaged, is_answer, Reports, StoreFailed}
 use Rattle.tool_answer.specs.declared.fault.ToolFault.TheVariants as fault
 use Rattle.tool_answer.proofs.RunFacts.{some-at}
-use Rattle.tool_answer.proofs.ToolFacts.{done-refusal, done-unread, left-any, told-complete, told-damaged, told-due, told-not-done, told-otherwise, told-ran, told-refusal, told-store, told-unread, written-answered, written-due, written-run}
+use Rattle.tool_answer.proofs.ToolFacts.{done-refusal, done-unread, left-any, left-paths, told-complete, told-damaged, told-due, told-not-done, told-otherwise, told-ran, told-refusal, told-store, told-unread, written-answered, written-due, written-run}
 use Rattle.tool_answer.proofs.tool.run_tool.Goals as goal
 use Rattle.tool_answer.proofs.tool.run_tool.Goals.{in-None, in-Some}
 
@@ -147,3 +147,6 @@ returns-clause-memory_reported g c = elim c.match-fault.branch [
     front = subst (λ m. WroteFront (g.E.Output.told c.args.messages.now) (g.E.Output.told m) (fault_line w.in-Some.fault)) (sym w.messages-is) w.report-status.ensures.front;
   }
 ]
+
+pub returns-clause-paths : goal.returns-clause-paths
+returns-clause-paths g c = left-paths (asked c.args.words.now) (g.I.InputFiles.told c.args.input.now) _ _ (returns-clause-memory_left g c)

@@ -9,7 +9,7 @@ invariant_of-result g c =
     let r = g.R.Naming.run in
     let table = c.args.place.table in
     let book = c.args.place.book.items in
-    let store : StoreSeen = record { held = g.S.SpillStore.held c.args.store; told = g.S.SpillStore.told c.args.store; faults = g.S.SpillStore.faults c.args.store; sure = g.S.SpillStore.sure c.args.store } in
+    let store : StoreSeen = record { held = g.S.SpillStore.held c.args.store; told = g.S.SpillStore.told c.args.store; faults = g.S.SpillStore.faults c.args.store; sure = g.S.SpillStore.sure c.args.store; path = g.S.SpillStore.path c.args.store } in
     let is : c.new.result ≡ new_partition c.args.number c.args.partitions table book store = c.new.ensures in (
       c.requires.run,
       subst (λ (x : PartitionSeen). IsReplayed r x.number x) (sym is)

@@ -30,7 +30,7 @@ returns-clause-fit g c =
 pub invariant_of-result : goal.invariant_of-result
 invariant_of-result g c =
     let S = g.row.S.Denot in
-    let seen : S → StoreSeen = λ s. record { held = g.S.SpillStore.held s; told = g.S.SpillStore.told s; faults = g.S.SpillStore.faults s; sure = g.S.SpillStore.sure s } in
+    let seen : S → StoreSeen = λ s. record { held = g.S.SpillStore.held s; told = g.S.SpillStore.told s; faults = g.S.SpillStore.faults s; sure = g.S.SpillStore.sure s; path = g.S.SpillStore.path s } in
     let sinks = c.in-Ok-unused_sinks.sinks in
     let count : length sinks.items ≡ vec_len sinks = search rules in (
       typed-begun seen (λ v. v.items) c.in-Ok.checked c.args.query.now c.copy_of.result c.args.limits.now c.args.actions.items c.args.rules.items c.args.stores.items c.deref.result.now c.len.result sinks.items _

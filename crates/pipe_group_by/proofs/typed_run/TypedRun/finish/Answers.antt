@@ -10,13 +10,13 @@ use Rattle.pipe_group_by.proofs.typed_run.TypedRun.finish.Goals as goal
 
 pub returns-in-Ok-clause-answered : goal.returns-in-Ok-clause-answered
 returns-in-Ok-clause-answered g c =
-    let stores : List StoreSeen = map (λ s. record { held = g.S.SpillStore.held s; told = g.S.SpillStore.told s; faults = g.S.SpillStore.faults s; sure = g.S.SpillStore.sure s }) c.self.inside.stores.items in
+    let stores : List StoreSeen = map (λ s. record { held = g.S.SpillStore.held s; told = g.S.SpillStore.told s; faults = g.S.SpillStore.faults s; sure = g.S.SpillStore.sure s; path = g.S.SpillStore.path s }) c.self.inside.stores.items in
     let x : Setting = record { query = c.self.inside.query; limits = c.self.inside.limits; actions = map (λ v. v.items) c.self.inside.actions.items; rules = c.self.inside.rules.items; stores = stores } in
     let frame = c.in-Ok.ensures.frame ∙ ap (λ (l : List (Snapshot DataChunk)). answer (map (λ m. m.value) l) (query_tree c.self.inside.query) c.self.inside.limits.partitions) c.deref.ensures.value in
     typed-answered x (map (λ m. m.value) c.self.inside.chunks.items) c.args.self c.self.view_is c.self.invariant.0.begin.fit stores refl c.self.invariant.0.typed c.in-Ok.output frame c.in-Ok.ensures.journals c.in-Ok.ensures.overflow
 
 pub returns-clause-back : goal.returns-clause-back
 returns-clause-back g c =
-    let stores : List StoreSeen = map (λ s. record { held = g.S.SpillStore.held s; told = g.S.SpillStore.told s; faults = g.S.SpillStore.faults s; sure = g.S.SpillStore.sure s }) c.self.inside.stores.items in
+    let stores : List StoreSeen = map (λ s. record { held = g.S.SpillStore.held s; told = g.S.SpillStore.told s; faults = g.S.SpillStore.faults s; sure = g.S.SpillStore.sure s; path = g.S.SpillStore.path s }) c.self.inside.stores.items in
     let x : Setting = record { query = c.self.inside.query; limits = c.self.inside.limits; actions = map (λ v. v.items) c.self.inside.actions.items; rules = c.self.inside.rules.items; stores = stores } in
     left-frames x (map (λ m. m.value) c.self.inside.chunks.items) c.args.self c.self.view_is c.self.invariant.0.begin.fit stores refl false _

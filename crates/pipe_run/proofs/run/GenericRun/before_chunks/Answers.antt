@@ -12,14 +12,14 @@ use Rattle.pipe_run.proofs.run.GenericRun.before_chunks.Goals as goal
 
 pub opened-requires-clause-former : goal.opened-requires-clause-former
 opened-requires-clause-former g c =
-    let seen : g.row.S.Denot → StoreSeen = λ s. record { held = g.S.SpillStore.held s; told = g.S.SpillStore.told s; faults = g.S.SpillStore.faults s; sure = g.S.SpillStore.sure s } in
+    let seen : g.row.S.Denot → StoreSeen = λ s. record { held = g.S.SpillStore.held s; told = g.S.SpillStore.told s; faults = g.S.SpillStore.faults s; sure = g.S.SpillStore.sure s; path = g.S.SpillStore.path s } in
     let x : Setting = record { query = c.args.query; limits = c.args.limits.now; actions = map (λ v. v.items) c.args.actions.items; rules = c.args.rules.items; stores = map seen c.args.stores.items } in
     let is : c.begun_of-begun.result ≡ x = c.begun_of-begun.ensures ∙ ap {B = Setting} (λ l. record { query = c.args.query; limits = c.args.limits.now; actions = map (λ v. v.items) c.args.actions.items; rules = c.args.rules.items; stores = map seen l }) (c.in-Ok.ensures.former ∙ c.deref.ensures.value) in
     subst (λ (y : Setting). All (λ (s : StoreSeen). s.held < 2 ^ 63) y.stores) (sym is) (All-map (λ (s : StoreSeen). s.held < 2 ^ 63) seen c.args.stores.items c.requires.former)
 
 pub invariant_of-result : goal.invariant_of-result
 invariant_of-result g c =
-    let seen : g.row.S.Denot → StoreSeen = λ s. record { held = g.S.SpillStore.held s; told = g.S.SpillStore.told s; faults = g.S.SpillStore.faults s; sure = g.S.SpillStore.sure s } in
+    let seen : g.row.S.Denot → StoreSeen = λ s. record { held = g.S.SpillStore.held s; told = g.S.SpillStore.told s; faults = g.S.SpillStore.faults s; sure = g.S.SpillStore.sure s; path = g.S.SpillStore.path s } in
     let x : Setting = record { query = c.args.query; limits = c.args.limits.now; actions = map (λ v. v.items) c.args.actions.items; rules = c.args.rules.items; stores = map seen c.args.stores.items } in
     let is : c.begun_of-begun.result ≡ x = c.begun_of-begun.ensures ∙ ap {B = Setting} (λ l. record { query = c.args.query; limits = c.args.limits.now; actions = map (λ v. v.items) c.args.actions.items; rules = c.args.rules.items; stores = map seen l }) (c.in-Ok.ensures.former ∙ c.deref.ensures.value) in
     let closed = c.in-Ok-opened.closed.items in
@@ -43,12 +43,12 @@ invariant_of-result g c =
 
 pub returns-in-Ok-opened-clause-setting : goal.returns-in-Ok-opened-clause-setting
 returns-in-Ok-opened-clause-setting g c =
-    let seen : g.row.S.Denot → StoreSeen = λ s. record { held = g.S.SpillStore.held s; told = g.S.SpillStore.told s; faults = g.S.SpillStore.faults s; sure = g.S.SpillStore.sure s } in
+    let seen : g.row.S.Denot → StoreSeen = λ s. record { held = g.S.SpillStore.held s; told = g.S.SpillStore.told s; faults = g.S.SpillStore.faults s; sure = g.S.SpillStore.sure s; path = g.S.SpillStore.path s } in
     c.begun_of-begun.ensures ∙ ap {B = Setting} (λ l. record { query = c.args.query; limits = c.args.limits.now; actions = map (λ v. v.items) c.args.actions.items; rules = c.args.rules.items; stores = map seen l }) (c.in-Ok.ensures.former ∙ c.deref.ensures.value)
 
 pub returns-in-Ok-opened-clause-counted : goal.returns-in-Ok-opened-clause-counted
 returns-in-Ok-opened-clause-counted g c =
-    let seen : g.row.S.Denot → StoreSeen = λ s. record { held = g.S.SpillStore.held s; told = g.S.SpillStore.told s; faults = g.S.SpillStore.faults s; sure = g.S.SpillStore.sure s } in
+    let seen : g.row.S.Denot → StoreSeen = λ s. record { held = g.S.SpillStore.held s; told = g.S.SpillStore.told s; faults = g.S.SpillStore.faults s; sure = g.S.SpillStore.sure s; path = g.S.SpillStore.path s } in
     let x : Setting = record { query = c.args.query; limits = c.args.limits.now; actions = map (λ v. v.items) c.args.actions.items; rules = c.args.rules.items; stores = map seen c.args.stores.items } in
     let is : c.begun_of-begun.result ≡ x = c.begun_of-begun.ensures ∙ ap {B = Setting} (λ l. record { query = c.args.query; limits = c.args.limits.now; actions = map (λ v. v.items) c.args.actions.items; rules = c.args.rules.items; stores = map seen l }) (c.in-Ok.ensures.former ∙ c.deref.ensures.value) in
     let closed = c.in-Ok-opened.closed.items in

@@ -20,7 +20,7 @@ returns-in-Err-clause-back g c =
     let taken : List DataChunk = map (λ m. m.value) c.self.inside.chunks.items in
     let journals = map (λ (p : PartitionSeen). p.journal) c.self.inside.closed.items in
     let seen = map (λ (p : PartitionSeen). p.store) c.self.inside.closed.items in
-    early-back x taken journals seen c.args.self c.self.view_is (map (λ s. record { held = g.S.SpillStore.held s; told = g.S.SpillStore.told s; faults = g.S.SpillStore.faults s; sure = g.S.SpillStore.sure s }) c.stores_of.result.items)
+    early-back x taken journals seen c.args.self c.self.view_is (map (λ s. record { held = g.S.SpillStore.held s; told = g.S.SpillStore.told s; faults = g.S.SpillStore.faults s; sure = g.S.SpillStore.sure s; path = g.S.SpillStore.path s }) c.stores_of.result.items)
     c.self.inside.closed.items c.self.inside.rested.items c.self.inside.rows c.self.invariant.0 c.args.chunks.items c.stores_of.ensures
 
 pub returns-in-Err-fed_round-clause-cause : goal.returns-in-Err-fed_round-clause-cause
@@ -30,7 +30,7 @@ returns-in-Err-fed_round-clause-cause g c =
     let journals = map (λ (p : PartitionSeen). p.journal) c.self.inside.closed.items in
     let seen = map (λ (p : PartitionSeen). p.store) c.self.inside.closed.items in
     let marks = ap (λ l. map (λ m. m.value) l) (c.deref.ensures.value ∙ c.in-Ok.ensures.same) in
-    let stores = (map (λ s. record { held = g.S.SpillStore.held s; told = g.S.SpillStore.told s; faults = g.S.SpillStore.faults s; sure = g.S.SpillStore.sure s }) c.stores_of-in-Err-fed_round.result.items) in
+    let stores = (map (λ s. record { held = g.S.SpillStore.held s; told = g.S.SpillStore.told s; faults = g.S.SpillStore.faults s; sure = g.S.SpillStore.sure s; path = g.S.SpillStore.path s }) c.stores_of-in-Err-fed_round.result.items) in
     let after = map (λ (p : PartitionSeen). p.store) c.in-Err-fed_round.closed.items in
     let e = c.in-Err-fed_round.error in
     subst (λ (s : FedSeen). IsFeedCause s c.args.chunks.items stores e) c.self.view_is
@@ -49,7 +49,7 @@ returns-in-Err-fed_round-clause-back g c =
     let journals = map (λ (p : PartitionSeen). p.journal) c.self.inside.closed.items in
     let seen = map (λ (p : PartitionSeen). p.store) c.self.inside.closed.items in
     let marks = ap (λ l. map (λ m. m.value) l) (c.deref.ensures.value ∙ c.in-Ok.ensures.same) in
-    let stores = (map (λ s. record { held = g.S.SpillStore.held s; told = g.S.SpillStore.told s; faults = g.S.SpillStore.faults s; sure = g.S.SpillStore.sure s }) c.stores_of-in-Err-fed_round.result.items) in
+    let stores = (map (λ s. record { held = g.S.SpillStore.held s; told = g.S.SpillStore.told s; faults = g.S.SpillStore.faults s; sure = g.S.SpillStore.sure s; path = g.S.SpillStore.path s }) c.stores_of-in-Err-fed_round.result.items) in
     let after = map (λ (p : PartitionSeen). p.store) c.in-Err-fed_round.closed.items in
     let e = c.in-Err-fed_round.error in
     subst (λ (s : FedSeen). HaveWholeFrames (run_over s.setting true (chunks_reached s c.args.chunks.items e)) stores) c.self.view_is
