@@ -34,7 +34,7 @@ const PATH: &str = "made/partition-3.spill";
 
 #[test]
 fn a_store_in_memory_gives_its_frame_back(rt: HostRuntime) -> Result<(), Fail> {
-    assert!(rt; made_gives_back(rt, None, PATH)?);
+    assert!(rt; made_gives_back(rt, None, "unmade/partition-3.spill")?);
     Ok(())
 }
 
