@@ -43,5 +43,6 @@ fn a_store_in_a_folder_writes_the_file_of_its_partition(rt: HostRuntime) -> Resu
     fs::create_dir(&rt, "made")?;
     let dir = Text::new(rt.alloc(), "made")?;
     assert!(rt; made_gives_back(rt, Some(&dir), PATH)? && holds(rt, PATH, "frame")?);
+    fs::remove_dir_all(&rt, "made")?;
     Ok(())
 }
