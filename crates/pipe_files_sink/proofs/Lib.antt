@@ -1,2 +1,3 @@
 pub mod JoinedFacts
 pub mod CoreFacts
+pub mod TellsFacts

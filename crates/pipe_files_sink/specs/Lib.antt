@@ -3,3 +3,4 @@ pub mod JoinedState
 pub mod Core
 pub mod CoreState
 pub mod Ended
+pub mod Telling

@@ -1,6 +1,7 @@
 //! The ways by which chunks come to a writer.
 
-ghost use Rattle.std.specs.Prelude.{IsErrOf};
+ghost use Rattle.std.specs.Prelude.{◌≡◌, ℕ, IsErrOf};
+ghost use Rattle.pipe_files_sink.specs.Telling.{TellsSince};
 ghost use Rattle.pipe_writers.specs.declared.write_error.WriteError.TheVariants as write_error;
 
 use crate::guarded_core::GuardedCore;
@@ -8,9 +9,9 @@ use crossbeam_channel::{Receiver, SendError, Sender};
 use pipe_columns::{DataChunk, SinkResult};
 use pipe_writers::{SinkWriter, WriteError};
 use std::alloc::{AllocError, Global};
-use std::sync::{Arc, Mutex, Wait};
+use std::sync::Wait;
 
-/// What a writer thread is told.
+/// What a writer is told.
 #[derive(Drop)]
 pub(crate) enum Message {
     Chunk(DataChunk),
@@ -20,18 +21,28 @@ pub(crate) enum Message {
     Leave,
 }
 
-/// A core that each end of a sink may call, until it is taken out.
-pub(crate) type SharedCore<W> = Arc<Mutex<Option<GuardedCore<W>>>, Global>;
-
 /// The way by which chunks come to a writer.
 #[derive(Drop)]
-pub(crate) enum ChunkWay<W: SinkWriter + Drop> {
-    /// A thread writes.
-    Thread(Sender<Message, Global>),
-    /// Who hands a chunk over writes.
-    Caller(SharedCore<W>),
+pub(crate) enum ChunkWay {
+    /// To whom writes.
+    Open(Sender<Message, Global>),
     /// Nobody writes any more.
     Ended,
+}
+
+/// Does what a message says, and tells whether the writing goes on.
+fn obey<W: SinkWriter>(core: &mut GuardedCore<W>, message: Message) -> bool
+    ensures { (n : ℕ) → TellsSince n (W.faults core.old.core.writer) core.old.fault
+        → TellsSince n (W.faults core.new.core.writer) core.new.fault }
+{
+    match message {
+        Message::Chunk(chunk) => core.take(chunk) == SinkResult::CanHaveMoreInput,
+        Message::Finish => {
+            core.finish();
+            false
+        }
+        Message::Leave => false,
+    }
 }
 
 /// Writes what messages say, until one ends the writing, it is refused, or nobody sends any more.
@@ -39,26 +50,43 @@ pub(crate) fn write_messages<W: SinkWriter, H: Wait + Copy>(
     rt: H,
     from: Receiver<Message, Global>,
     core: GuardedCore<W>,
-) -> GuardedCore<W> {
+) -> GuardedCore<W>
+    ensures { (n : ℕ) → TellsSince n (W.faults core.core.writer) core.fault
+        → TellsSince n (W.faults result.core.writer) result.fault }
+{
     let mut core = core;
-    for _ in rt.forever() {
-        match from.recv(&rt) {
-            Ok(Message::Chunk(chunk)) => {
-                if core.take(chunk) == SinkResult::Finished {
-                    return core;
-                }
-            }
-            Ok(Message::Finish) => {
-                core.finish();
-                return core;
-            }
-            Ok(Message::Leave) | Err(_) => return core,
+    for _turn in rt.forever() {
+        let Ok(message) = from.recv(&rt) else {
+            return core;
+        };
+        if !obey(&mut core, message) {
+            return core;
         }
     }
     unreachable!()
 }
 
-/// Sends a chunk to a writer thread.
+/// Writes what was sent so far, and tells whether the writing goes on.
+pub(crate) fn write_sent<W: SinkWriter, H: Wait>(
+    rt: &H,
+    from: &Receiver<Message, Global>,
+    core: &mut GuardedCore<W>,
+) -> bool
+    ensures { (n : ℕ) → TellsSince n (W.faults core.old.core.writer) core.old.fault
+        → TellsSince n (W.faults core.new.core.writer) core.new.fault }
+{
+    for _turn in rt.forever() {
+        let Ok(message) = from.try_recv(rt) else {
+            return true;
+        };
+        if !obey(core, message) {
+            return false;
+        }
+    }
+    unreachable!()
+}
+
+/// Sends a chunk to who writes.
 fn send_chunk<H: Wait>(
     rt: &H,
     to: &Sender<Message, Global>,
@@ -73,26 +101,7 @@ fn send_chunk<H: Wait>(
     }
 }
 
-/// Writes a chunk in the caller.
-fn write_chunk<W: SinkWriter, H: Wait>(
-    rt: &H,
-    shared: &Mutex<Option<GuardedCore<W>>>,
-    chunk: DataChunk,
-) -> SinkResult {
-    let mut guard = shared.lock(rt);
-    match &mut *guard {
-        Some(core) => core.take(chunk),
-        None => SinkResult::Finished,
-    }
-}
-
-impl<W: SinkWriter + Drop> ChunkWay<W> {
-    /// A way to a core that its callers run.
-    pub(crate) fn shared(alloc: Global, core: GuardedCore<W>) -> Result<ChunkWay<W>, AllocError> {
-        let shared = Arc::new(alloc, Mutex::new(Some(core)))?;
-        Ok(ChunkWay::Caller(shared))
-    }
-
+impl ChunkWay {
     /// Hands a chunk over.
     pub(crate) fn hand_over<H: Wait>(
         &self,
@@ -102,17 +111,15 @@ impl<W: SinkWriter + Drop> ChunkWay<W> {
         ensures { ¬ IsErrOf result write_error.Output }
     {
         match self {
-            ChunkWay::Thread(to) => send_chunk(rt, to, chunk),
-            ChunkWay::Caller(shared) => Ok(write_chunk(rt, shared, chunk)),
+            ChunkWay::Open(to) => send_chunk(rt, to, chunk),
             ChunkWay::Ended => Ok(SinkResult::Finished),
         }
     }
 
     /// Another way to the same writer.
-    pub(crate) fn split(&self) -> Result<ChunkWay<W>, AllocError> {
+    pub(crate) fn split(&self) -> Result<ChunkWay, AllocError> {
         match self {
-            ChunkWay::Thread(to) => Ok(ChunkWay::Thread(to.clone()?)),
-            ChunkWay::Caller(shared) => Ok(ChunkWay::Caller(Arc::try_clone(shared)?)),
+            ChunkWay::Open(to) => Ok(ChunkWay::Open(to.clone()?)),
             ChunkWay::Ended => Ok(ChunkWay::Ended),
         }
     }

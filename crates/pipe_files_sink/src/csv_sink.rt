@@ -39,6 +39,7 @@ impl CsvSink {
         requires some { 0 < options.morsels_per_sink }
         requires few { options.morsels_per_sink ≤ 4096 }
         ensures schema { IfOk result (λ s. s.schema ≡ schema) }
+        ensures output { IfOk result (λ s. s.made_of.output ≡ output) }
         ensures unended { IfOk result (λ s. s.ended ≡ None) }
     {
         let writer = CsvBatchedWriter::new(alloc, output, schema, options.include_header);

@@ -1,10 +1,10 @@
 //! A core for chunks of which nothing is known.
 
-ghost use Rattle.std.specs.Prelude.{◌≡◌, ◌∷◌, ◌++◌, ◌↔◌, ◌<◌, ◌≤◌, List, ℕ, None, Some, [], false, true, is_some, IfErr, IsErrOf, IsTrue};
-ghost use Rattle.pipe_columns.specs.Causes.{HasCause};
+ghost use Rattle.std.specs.Prelude.{◌≡◌, ◌∷◌, ◌++◌, ◌↔◌, List, ℕ, None, Some, [], false, true, is_some, IfErr, IsErrOf, IsTrue};
 ghost use Rattle.pipe_columns.specs.declared.data_chunk.DataChunk.{DataChunk};
 ghost use Rattle.pipe_columns.specs.declared.sink.SinkResult.TheVariants as sink_result;
 ghost use Rattle.pipe_files_sink.specs.Core.{HasTaken};
+ghost use Rattle.pipe_files_sink.specs.Telling.{TellsSince};
 ghost use Rattle.pipe_files_sink.specs.Joined.{IsWritable};
 ghost use Rattle.pipe_writers.specs.WriteOrder.{rows_of_chunks, write_order};
 ghost use Rattle.pipe_writers.specs.Writers.{IsOpen, TellsAfter, TellsFront};
@@ -25,7 +25,6 @@ pub(crate) struct GuardedCore<W: SinkWriter> {
     fault: Option<WriteError>,
     ghost open: { ended ≡ false → IsOpen core.calls },
     ghost unrefused: { ended ≡ false → fault ≡ None },
-    ghost caused: { fault ≡ Some write_error.Output → 0 < W.faults core.writer },
 }
 
 /// Whether a writer takes a frame.
@@ -52,6 +51,7 @@ impl<W: SinkWriter> GuardedCore<W> {
 
     /// Takes a chunk that fits, and drops one that doesn't. Once the writing has ended it takes
     /// none.
+    #[tactic(auto, using(crate::proofs::TellsFacts::tells_on, crate::proofs::TellsFacts::tells_fault))]
     pub(crate) fn take(&mut self, chunk: DataChunk) -> SinkResult
         ensures answer { (result ≡ sink_result.Finished) ↔ IsTrue self.new.ended }
         ensures ended { IsTrue self.old.ended → self.new ≡ self.old }
@@ -73,8 +73,8 @@ impl<W: SinkWriter> GuardedCore<W> {
         ensures refused { self.old.ended ≡ false → IsTrue self.new.ended
             → is_some self.new.fault ≡ true }
         ensures format { W.format self.new.core.writer ≡ W.format self.old.core.writer }
-        ensures cause { HasCause (W.faults self.old.core.writer) (W.faults self.new.core.writer)
-            ((self.old.fault ≡ None) × (self.new.fault ≡ Some write_error.Output)) }
+        ensures since { (n : ℕ) → TellsSince n (W.faults self.old.core.writer) self.old.fault
+            → TellsSince n (W.faults self.new.core.writer) self.new.fault }
     {
         if self.ended {
             return SinkResult::Finished;
@@ -93,6 +93,7 @@ impl<W: SinkWriter> GuardedCore<W> {
     }
 
     /// Finishes the writing, unless it has ended.
+    #[tactic(auto, using(crate::proofs::TellsFacts::tells_on, crate::proofs::TellsFacts::tells_fault))]
     pub(crate) fn finish(&mut self)
         ensures ended { IsTrue self.new.ended }
         ensures already { IsTrue self.old.ended → self.new ≡ self.old }
@@ -107,8 +108,8 @@ impl<W: SinkWriter> GuardedCore<W> {
             → TellsFront (W.told self.new.core.writer) since
             (W.text (W.format self.old.core.writer) (rows_of_chunks
             (write_order chunks self.old.core.morsels self.old.core.maintain_order))) }
-        ensures cause { HasCause (W.faults self.old.core.writer) (W.faults self.new.core.writer)
-            ((self.old.fault ≡ None) × (self.new.fault ≡ Some write_error.Output)) }
+        ensures since { (n : ℕ) → TellsSince n (W.faults self.old.core.writer) self.old.fault
+            → TellsSince n (W.faults self.new.core.writer) self.new.fault }
     {
         if self.ended {
             return;
@@ -123,7 +124,8 @@ impl<W: SinkWriter> GuardedCore<W> {
     pub(crate) fn result(&self) -> Result<(), WriteError>
         ensures ok { (result ≡ Ok tt) ↔ (self.now.fault ≡ None) }
         ensures fault { IfErr result (λ e. self.now.fault ≡ Some e) }
-        ensures cause { IsErrOf result write_error.Output → 0 < W.faults self.now.core.writer }
+        ensures output { IsErrOf result write_error.Output
+            → self.now.fault ≡ Some write_error.Output }
     {
         match &self.fault {
             None => Ok(()),

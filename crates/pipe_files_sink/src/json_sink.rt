@@ -37,6 +37,7 @@ impl JsonSink {
         requires some { 0 < options.morsels_per_sink }
         requires few { options.morsels_per_sink ≤ 4096 }
         ensures schema { IfOk result (λ s. s.schema ≡ schema) }
+        ensures output { IfOk result (λ s. s.made_of.output ≡ output) }
         ensures unended { IfOk result (λ s. s.ended ≡ None) }
     {
         let writer = JsonBatchedWriter::new(alloc, output, schema);

@@ -8,6 +8,7 @@ mod files_sink;
 mod guarded_core;
 mod joined_writer;
 mod json_sink;
+mod own_core;
 mod writer_core;
 
 pub use csv_sink::{CsvSink, CsvWriterOptions};

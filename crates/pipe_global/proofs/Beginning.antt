@@ -49,5 +49,6 @@ pub counted-none : (r : Run) (n p partitions : ℕ) (table : Table) (book : List
 counted-none r n p partitions table book store zero is = record {
   failed = ((λ f. absurd (false≢true f)), (λ some. absurd (omega (arith, zero))));
   rose = λ f. absurd (false≢true f);
+  calm = λ _. ap (λ (x : StoreSeen). x.faults) is;
   count = let same : store.faults ≡ (store_of r p).faults = ap (λ (x : StoreSeen). x.faults) is in omega (arith, same);
 }

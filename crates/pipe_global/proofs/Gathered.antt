@@ -21,7 +21,7 @@ use Rattle.pipe_tables.specs.Tables.{lies_in}
 use Rattle.pipe_global.specs.declared.batch_error.BatchError.{BatchError}
 use Rattle.pipe_global.specs.declared.batch_error.BatchError.TheVariants as batch_error
 use Rattle.pipe_global.specs.declared.mark.Mark.{Mark}
-use Rattle.pipe_global.specs.Finishing.{AreOwn, CanGather, IsCause, IsMarked, KeepsRest, StandsForRows}
+use Rattle.pipe_global.specs.Finishing.{AreOwn, CanGather, HasNoFault, IsCause, IsMarked, KeepsRest, StandsForRows}
 use Rattle.pipe_global.specs.Gathering.{CanRead, HasAsked, HasGathered, HasRead, HasTakenFrame, HasTakenWaiting, IsLast}
 use Rattle.pipe_global.specs.Moving.{CanMerge, TookRows}
 use Rattle.pipe_global.specs.Partition.{PartitionSeen}
@@ -327,6 +327,14 @@ gathered-asked s new a = gathered-kept s new (record {
       a.others ∙ rw table refl;
 })
 
+-- a store that wasn't asked
+pub asked-none : (s : PartitionSeen) → HasAsked s s
+asked-none s = record { store = record { told = refl; held = refl; sure = refl; path = refl; faults = omega arith }; others = refl }
+
+-- the last mark stays the last as the store is asked
+pub asked-last : (s new : PartitionSeen) (m : Mark) → HasAsked s new → IsLast s.marks m → IsLast new.marks m
+asked-last s new m a last = subst (λ (l : List Mark). IsLast l m) (sym (ap (λ (x : PartitionSeen). x.marks) a.others)) last
+
 -- ---- one after another
 
 pub gathered-none : (s : PartitionSeen) → HasGathered s s
@@ -341,10 +349,10 @@ gathered-more s now new was more = record {
 }
 
 -- the cause of a fault of what follows
-pub cause-more : (s now new : PartitionSeen) (e : BatchError) → HasGathered s now → IsCause now new e → IsCause s new e
-cause-more s now new (batch_error.Store p) was why = (why.0 ∙ number s now was.kept, omega (arith, why.1, was.kept.store.faults))
-cause-more s now new (batch_error.Damaged p n) was why = (why.0 ∙ number s now was.kept, sym was.kept.store.told ∙ why.1, was.marks n why.2)
-cause-more s now new batch_error.Memory was why = tt
+pub cause-more : (s now new : PartitionSeen) (e : BatchError) → HasGathered s now → HasNoFault s now → IsCause now new e → IsCause s new e
+cause-more s now new (batch_error.Store p) was calm why = (why.0 ∙ number s now was.kept, omega (arith, why.1, calm))
+cause-more s now new (batch_error.Damaged p n) was calm why = (why.0 ∙ number s now was.kept, sym was.kept.store.told ∙ why.1, was.marks n why.2, why.3 ∙ calm)
+cause-more s now new batch_error.Memory was calm why = why ∙ calm
 
 -- ---- a frame that is read
 

@@ -3,8 +3,9 @@ use Rattle.std.proofs.Common.{◌≡◌, ◌∙◌, ◌+◌, ◌-◌, ◌≤◌,
 use Rattle.std.specs.Prelude.{slice_index_or}
 use Rattle.std.specs.List.{All}
 use Rattle.std.proofs.Math.Seq.{take-append_seam}
+use Rattle.std.proofs.lemmas.Bool.{false≢true}
 use Rattle.std.proofs.lemmas.List.{length-map}
-use Rattle.std.proofs.lemmas.List.Elements.{All-cons, All-nil}
+use Rattle.std.proofs.lemmas.List.Elements.{All-cons, All-head, All-nil}
 use Rattle.pipe_columns.specs.Causes.{Rose}
 use Rattle.pipe_columns.specs.Row.{Row}
 use Rattle.pipe_aggs.specs.CheckedQuery.{input_types}
@@ -135,6 +136,13 @@ module _ (r : Run) (s seen : PartitionSeen) (h : SharesSeen) (w : ℕ) (view : s
   pub arrive-few : (payload : Payload) → next_event r h seen.number ≡ Some (event.Arrive h.worker) → payload ≡ next_payload r h seen.number → s.arrived + length payload.rows < 2 ^ 64
   arrive-few payload next is = omega (arith, arrived-few r s.number (with_payload s w payload) run (arrive-next payload next is))
 
+  -- and they have inputs of their types
+  pub piece-inputs : (payload : Payload) → next_event r h seen.number ≡ Some (event.Arrive h.worker) → payload ≡ next_payload r h seen.number → HaveInputs s.table.shape.input_types payload.rows
+  piece-inputs payload next is =
+      let P : Payload → Type 0 = λ p. HaveInputs s.table.shape.input_types p.rows in
+      let all : All P (s.waiting ++ payload ∷ []) = can-write r s.number (with_payload s w payload) run (arrive-next payload next is) in
+      All-head P payload [] (all-right P s.waiting (payload ∷ []) all)
+
   pub merge-next : (new : PartitionSeen) → next_event r h seen.number ≡ Some (event.Merge h.worker) → IsMerged s w new → IsReplayed r s.number new
   merge-next new next m =
       let store : new.store ≡ s.store = ap (λ (x : PartitionSeen). x.store) m.others in
@@ -184,12 +192,13 @@ module _ (r : Run) (s seen : PartitionSeen) (h : SharesSeen) (w : ℕ) (view : s
 
 -- ---- faults
 
--- an event leaves whether a put was refused
-pub counted-same : (r : Run) (n : ℕ) (s new : PartitionSeen) → new.number ≡ s.number → new.failed ≡ s.failed → s.store.faults ≤ new.store.faults → IsCounted r n s → IsCounted r n new
-counted-same r n s new number failed more at = rw number record {
+-- an event leaves whether a put was refused, and the count of faults
+pub counted-same : (r : Run) (n : ℕ) (s new : PartitionSeen) → new.number ≡ s.number → new.failed ≡ s.failed → new.store.faults ≡ s.store.faults → IsCounted r n s → IsCounted r n new
+counted-same r n s new number failed same at = rw number record {
   failed = rw failed at.failed;
-  rose = λ f. omega (arith, at.rose (sym failed ∙ f), more);
-  count = omega (arith, at.count, more);
+  rose = λ f. omega (arith, at.rose (sym failed ∙ f), same);
+  calm = λ f. same ∙ at.calm (sym failed ∙ f);
+  count = omega (arith, at.count, same);
 }
 
 -- a put that was refused is counted
@@ -198,5 +207,6 @@ pub counted-refused : (r : Run) (n m : ℕ) (s new : PartitionSeen) → new.numb
 counted-refused r n m s new number failed more rose is at = rw number record {
   failed = ((λ _. omega (arith, is)), (λ _. failed));
   rose = λ f. omega (arith, at.count, rose);
+  calm = λ f. absurd (false≢true (sym f ∙ failed));
   count = omega (arith, at.count, more);
 }

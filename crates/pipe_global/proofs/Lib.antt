@@ -1,5 +1,6 @@
 pub mod Covering
 pub mod Moved
+pub mod Waited
 pub mod RunFacts
 pub mod StandFacts
 pub mod ReplayFacts

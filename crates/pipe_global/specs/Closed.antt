@@ -1,16 +1,17 @@
 -- Partitions out of their locks, and what all shares say of them.
-use Rattle.std.specs.Prelude.{◌≡◌, ◌<◌, ◌≤◌, ◌↔◌, ℕ, Bool, true, List, length, slice_index_or, sum, sum_by}
+use Rattle.std.specs.Prelude.{◌≡◌, ◌<◌, ◌≤◌, ◌↔◌, ℕ, Bool, true, false, List, length, slice_index_or, sum, sum_by}
 use Rattle.std.specs.List.{list_any}
 use Rattle.pipe_columns.specs.Causes.{Rose}
 use Rattle.pipe_plan.specs.Run.{Run}
 use Rattle.pipe_global.specs.Partition.{IsReplayed, PartitionSeen, store_of}
 use Rattle.pipe_global.specs.Shares.{SharesSeen}
 
--- partition p of a run that ended: it stands for its journal; its count of faults is no lower than the
--- run found it, and rose where a put was refused
+-- partition p of a run that ended: it stands for its journal; where a put was refused its count of
+-- faults rose, and else it is as the run found it
 pub record IsClosed (r : Run) (p : ℕ) (s : PartitionSeen) : Type 0 where
   pub replayed : IsReplayed r p s
   pub rose : s.failed ≡ true → Rose (store_of r p).faults s.store.faults
+  pub calm : s.failed ≡ false → s.store.faults ≡ (store_of r p).faults
   pub count : (store_of r p).faults ≤ s.store.faults
 
 -- how many events the journals of partitions hold

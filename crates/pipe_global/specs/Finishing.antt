@@ -1,6 +1,6 @@
 -- A closed partition that gives its groups: the rows that it and a local table stand for, when it can
 -- give them, and what it gives.
-use Rattle.std.specs.Prelude.{◌≡◌, ◌+◌, ◌^◌, ◌<◌, ◌⊎◌, not, ℕ, true, List, [], ◌++◌, All, filter, if◌then◌else◌, is_some, length, map, Option, Some, None, slice_get, sum_by, ⊤}
+use Rattle.std.specs.Prelude.{◌≡◌, ◌+◌, ◌^◌, ◌<◌, ◌⊎◌, not, ℕ, true, List, [], ◌++◌, All, filter, if◌then◌else◌, is_some, length, map, Option, Some, None, slice_get, sum_by}
 use Rattle.std.specs.List.{AllZip, Contains, IsDistinct}
 use Rattle.std.specs.List.Sorted.{IsPermutation}
 use Rattle.std.specs.Str.{bytes_eq}
@@ -174,10 +174,15 @@ StandTogether s new local left = StandAsBefore s new local left ⊎ StandMoved s
 
 -- ---- why it gave nothing
 
--- the fault is that of the partition: its store's faults rose, or the store doesn't tell, and what it
--- gave for a mark is another frame than was put
+-- its store's count of faults is as before
+abbrev pub HasNoFault : PartitionSeen → PartitionSeen → Type 0
+HasNoFault s new = new.store.faults ≡ s.store.faults
+
+-- the fault is that of the partition: its store's faults rose; or they are as before, and the store
+-- doesn't tell, and what it gave for a mark is another frame than was put; or memory ran out
 abbrev pub IsCause : PartitionSeen → PartitionSeen → BatchError → Type 0
 IsCause s new (batch_error.Store p) = (p ≡ s.number) × Rose s.store.faults new.store.faults
 IsCause s new (batch_error.Damaged p n) =
     (p ≡ s.number) × (s.store.told ≡ None) × Contains (map (λ m. m.number) s.marks) n
-IsCause s new batch_error.Memory = ⊤
+    × HasNoFault s new
+IsCause s new batch_error.Memory = HasNoFault s new

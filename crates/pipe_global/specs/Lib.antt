@@ -3,6 +3,7 @@ pub mod Partition
 pub mod Refused
 pub mod Next
 pub mod Moving
+pub mod Waits
 pub mod Steps
 pub mod Closed
 pub mod Opening

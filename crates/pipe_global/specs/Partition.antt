@@ -108,10 +108,11 @@ pub record IsReplayed (r : Run) (p : ℕ) (s : PartitionSeen) : Type 0 where
   pub book :
       (w : ℕ) → w < r.limits.workers → slice_index_or s.book w 0 ≡ length (events_by w s.journal)
 
--- its count of faults is no lower than the run found it; where a put was refused it rose
+-- where a put was refused its count of faults rose, and else it is as the run found it
 pub record IsCounted (r : Run) (refused : ℕ) (s : PartitionSeen) : Type 0 where
   pub failed : (s.failed ≡ true) ↔ (0 < refused)
   pub rose : s.failed ≡ true → Rose (store_of r s.number).faults s.store.faults
+  pub calm : s.failed ≡ false → s.store.faults ≡ (store_of r s.number).faults
   pub count : (store_of r s.number).faults ≤ s.store.faults
 
 -- ---- before the first event

@@ -1,5 +1,5 @@
 -- Of the proofs alone: what a partition is after an event.
-use Rattle.std.specs.Prelude.{◌≡◌, ◌+◌, ◌≤◌, ℕ, Bool, nat_lt, List, [], ◌∷◌, ◌++◌, length, if◌then◌else◌}
+use Rattle.std.specs.Prelude.{◌≡◌, ◌+◌, ℕ, Bool, nat_lt, List, [], ◌∷◌, ◌++◌, length, if◌then◌else◌}
 use Rattle.pipe_plan.specs.declared.event.PartitionEvent.{PartitionEvent}
 use Rattle.pipe_plan.specs.declared.event.PartitionEvent.TheVariants as event
 use Rattle.pipe_plan.specs.Replay.{worker_of}
@@ -36,7 +36,7 @@ pub record HasFrame (puts : Bool) (s new : StoreSeen) (frame : List ℕ) : Type 
   pub held : new.held ≡ (if puts then s.held + 1 else s.held)
   pub sure : new.sure ≡ s.sure
   pub path : new.path ≡ s.path
-  pub faults : s.faults ≤ new.faults
+  pub faults : new.faults ≡ s.faults
 
 -- whether a dump puts a frame
 abbrev pub puts : ℕ → List Payload → Bool

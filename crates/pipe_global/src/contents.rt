@@ -1,11 +1,13 @@
 //! What a partition holds, as a plain value of no run.
 
-ghost use Rattle.std.specs.Prelude.{◌≡◌, ◌+◌, ◌-◌, ◌<◌, ◌^◌, All, IfErr, None, OnErr, OnOk, length, slice_index_or, true};
+ghost use Rattle.std.specs.Prelude.{◌≡◌, ◌+◌, ◌-◌, ◌<◌, ◌^◌, All, IfErr, IfOk, None, OnErr, OnOk, length, slice_index_or, true};
 ghost use Rattle.pipe_columns.specs.Causes.{Rose};
 ghost use Rattle.pipe_spill.specs.SpillRow.{HaveInputs, joined_rows};
 ghost use Rattle.pipe_spill.specs.Store.{HasHeld};
+ghost use Rattle.pipe_waiting.specs.Waiting.{AreWaiting, payload_read};
 ghost use Rattle.pipe_plan.specs.Stores.{store_seen};
 ghost use Rattle.pipe_global.specs.Partition.{new_partition};
+ghost use Rattle.pipe_global.specs.Finishing.{HasNoFault};
 ghost use Rattle.pipe_global.specs.Moving.{CanMerge};
 ghost use Rattle.pipe_global.specs.Steps.{IsDumped, IsMerged, with_payload};
 ghost use Rattle.pipe_global.specs.Refused.{IsKeptBut};
@@ -14,21 +16,23 @@ ghost use Rattle.pipe_global.specs.declared.dump_error.DumpError.TheVariants as 
 use crate::dump_error::DumpError;
 use crate::journal::Journal;
 use crate::mark::Mark;
-use crate::merge::{put_payloads, reserve_payloads};
 use crate::put::put_waiting;
+use crate::take::take_waiting;
 use pipe_plan::PartitionEvent;
 use pipe_spill::{SpillPayload, SpillStore};
 use pipe_tables::AggHashTable;
+use pipe_waiting::WaitingRows;
 use std::alloc::{AllocError, Global};
 use std::marker::Model;
 
-/// What a partition holds. Its store is seen as a run finds one.
+/// What a partition holds. What waits is bytes, which are seen as the payloads that they are read as,
+/// and its store is seen as a run finds one.
 #[derive(Drop)]
 pub(crate) struct Contents<S: SpillStore + Drop> {
     pub(crate) number: usize,
     pub(crate) partitions: usize,
     pub(crate) table: AggHashTable,
-    pub(crate) waiting: Vec<SpillPayload>,
+    pub(crate) waiting: Vec<WaitingRows>,
     pub(crate) store: S,
     pub(crate) marks: Vec<Mark>,
     journal: Journal,
@@ -40,6 +44,7 @@ pub(crate) struct Contents<S: SpillStore + Drop> {
 impl<S: SpillStore + Drop> Model for Contents<S> {
     ghost use Rattle.pipe_plan.specs.Stores.{store_seen};
     ghost use Rattle.pipe_global.specs.Partition.{PartitionSeen};
+    ghost use Rattle.pipe_global.specs.Waits.{AllWait, payloads_read};
 
     ghost Value = { PartitionSeen };
 
@@ -47,7 +52,7 @@ impl<S: SpillStore + Drop> Model for Contents<S> {
       number = c.number;
       partitions = c.partitions;
       table = c.table;
-      waiting = c.waiting.items;
+      waiting = payloads_read c.table.shape.input_types c.waiting.items;
       store = store_seen S.held S.told S.faults S.sure S.path c.store;
       marks = c.marks.items;
       journal = c.journal;
@@ -55,6 +60,8 @@ impl<S: SpillStore + Drop> Model for Contents<S> {
       arrived = c.arrived;
       failed = c.failed;
     } };
+
+    ghost invariant = { λ c. AllWait c.table.shape.input_types c.waiting.items };
 }
 
 impl<S: SpillStore + Drop> Contents<S> {
@@ -164,18 +171,31 @@ impl<S: SpillStore + Drop> Contents<S> {
         (journal, store)
     }
 
-    /// A worker's payload comes to wait.
+    /// The bytes of a payload's rows, in one allocation.
+    pub(crate) fn bytes_of(&self, payload: &SpillPayload) -> Result<WaitingRows, AllocError>
+        requires { HaveInputs self.now.table.shape.input_types payload.now.rows }
+        ensures typed { IfOk result (AreWaiting self.now.table.shape.input_types) }
+        ensures rows { IfOk result
+            (λ w. payload_read self.now.table.shape.input_types w ≡ payload.now) }
+    {
+        let alloc = *self.waiting.allocator();
+        WaitingRows::of_rows(alloc, &payload.rows, self.table.input_types())
+    }
+
+    /// A worker's rows come to wait.
     pub(crate) fn arrive(
         &mut self,
         worker: usize,
-        payload: SpillPayload,
-    ) -> Result<(), (AllocError, SpillPayload)>
+        rows: WaitingRows,
+    ) -> Result<(), (AllocError, WaitingRows)>
         requires exists { worker < length self.old.book }
         requires room { slice_index_or self.old.book worker 0 + 1 < 2 ^ 64 }
-        requires few { self.old.arrived + length payload.rows < 2 ^ 64 }
-        ensures ok { OnOk result (self.new ≡ with_payload self.old worker payload) }
+        requires typed { AreWaiting self.old.table.shape.input_types rows }
+        requires few { self.old.arrived + rows.count < 2 ^ 64 }
+        ensures ok { OnOk result (self.new ≡ with_payload self.old worker
+            (payload_read self.old.table.shape.input_types rows)) }
         ensures err { OnErr result (self.new ≡ self.old) }
-        ensures back { IfErr result (λ e. e.1 ≡ payload) }
+        ensures back { IfErr result (λ e. e.1 ≡ rows) }
     {
         let Contents {
             waiting,
@@ -186,10 +206,10 @@ impl<S: SpillStore + Drop> Contents<S> {
         } = self;
         let events = &mut journal.events;
         if events.reserve(1).is_err() || waiting.reserve(1).is_err() {
-            return Err((AllocError, payload));
+            return Err((AllocError, rows));
         }
-        *arrived += payload.rows.len() as u64;
-        waiting.push_reserved(payload);
+        *arrived += rows.len() as u64;
+        waiting.push_reserved(rows);
         events.push_reserved(PartitionEvent::Arrive { worker });
         book[worker] += 1;
         Ok(())
@@ -202,6 +222,7 @@ impl<S: SpillStore + Drop> Contents<S> {
         requires rows { CanMerge self.old.table (joined_rows self.old.waiting) }
         ensures ok { OnOk result (IsMerged self.old worker self.new) }
         ensures err { OnErr result (IsKeptBut self.old self.new self.old.failed) }
+        ensures err_faults { OnErr result (HasNoFault self.old self.new) }
     {
         let Contents {
             table,
@@ -212,9 +233,7 @@ impl<S: SpillStore + Drop> Contents<S> {
         } = self;
         let events = &mut journal.events;
         events.reserve(1)?;
-        reserve_payloads(table, waiting)?;
-        let payloads = std::mem::replace(waiting, Vec::new(alloc));
-        put_payloads(table, payloads);
+        take_waiting(alloc, table, waiting)?;
         events.push_reserved(PartitionEvent::Merge { worker });
         book[worker] += 1;
         Ok(())
@@ -229,8 +248,6 @@ impl<S: SpillStore + Drop> Contents<S> {
     ) -> Result<(), DumpError>
         requires exists { worker < length self.old.book }
         requires room { slice_index_or self.old.book worker 0 + 1 < 2 ^ 64 }
-        requires inputs { All (λ p. HaveInputs self.old.table.shape.input_types p.rows)
-            self.old.waiting }
         requires few { length (joined_rows self.old.waiting) < 2 ^ 32 }
         requires numbers { self.old.store.held < 2 ^ 64 - 1 }
         ensures ok { OnOk result (IsDumped limit self.old worker self.new) }
@@ -239,6 +256,8 @@ impl<S: SpillStore + Drop> Contents<S> {
             × Rose self.old.store.faults self.new.store.faults) }
         ensures memory { IfErr result (λ e. e ≡ dump_error.Memory
             → IsKeptBut self.old self.new self.old.failed) }
+        ensures memory_faults { IfErr result (λ e. e ≡ dump_error.Memory
+            → HasNoFault self.old self.new) }
     {
         let Contents {
             table,

@@ -2,7 +2,7 @@
 
 ghost use Rattle.std.specs.Prelude.{◌≡◌, ◌++◌, IfErr, IfOk, List, OnErr, OnOk};
 ghost use Rattle.pipe_spill.specs.declared.spill_row.SpillRow.{SpillRow};
-ghost use Rattle.pipe_global.specs.Finishing.{CanFinish, GivesGroups, GivesOwn, GivesOwnPlaced, GivesPlaced, IsCause, IsEmptied, IsLeftOf, IsRestOf, KeepsRest, own_rows, StandFor, StandTogether};
+ghost use Rattle.pipe_global.specs.Finishing.{CanFinish, GivesGroups, GivesOwn, GivesOwnPlaced, GivesPlaced, HasNoFault, IsCause, IsEmptied, IsLeftOf, IsRestOf, KeepsRest, own_rows, StandFor, StandTogether};
 
 use crate::batch_error::BatchError;
 use crate::closed::ClosedPartition;
@@ -37,6 +37,7 @@ impl<S: SpillStore + Drop> ClosedPartition<S> {
         ensures left { OnErr result (IsLeftOf self.old local.old local.new) }
         ensures together { OnErr result (StandTogether self.old self.new local.old local.new) }
         ensures slice_err { OnErr result (slice.new ≡ slice.old) }
+        ensures calm { OnOk result (HasNoFault self.old self.new) }
         ensures cause { IfErr result (λ e. IsCause self.old self.new e) }
     {
         match self.contents.prepare(alloc, local) {
@@ -66,6 +67,7 @@ impl<S: SpillStore + Drop> ClosedPartition<S> {
         ensures again { OnErr result (CanFinish self.new local.new) }
         ensures left { OnErr result (IsLeftOf self.old local.old local.new) }
         ensures together { OnErr result (StandTogether self.old self.new local.old local.new) }
+        ensures calm { OnOk result (HasNoFault self.old self.new) }
         ensures cause { IfErr result (λ e. IsCause self.old self.new e) }
     {
         match self.contents.prepare(alloc, local) {

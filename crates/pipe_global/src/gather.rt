@@ -2,7 +2,9 @@
 
 ghost use Rattle.std.specs.Prelude.{◌≡◌, ◌<◌, ◌+◌, [], IfErr, IfOk, OnErr, OnOk, length};
 ghost use Rattle.pipe_spill.specs.SpillRow.{joined_rows};
-ghost use Rattle.pipe_global.specs.Finishing.{CanGather, IsCause};
+ghost use Rattle.pipe_spill.specs.Store.{IsFrameAt};
+ghost use Rattle.pipe_waiting.specs.Waiting.{HoldRows, left_rows};
+ghost use Rattle.pipe_global.specs.Finishing.{CanGather, HasNoFault, IsCause};
 ghost use Rattle.pipe_global.specs.Gathering.{CanRead, HasAsked, HasGathered, HasRead, HasTakenFrame, HasTakenWaiting, IsLast};
 ghost use Rattle.pipe_global.specs.Moving.{CanMerge};
 ghost use Rattle.pipe_global.specs.Refused.{IsKeptBut};
@@ -10,41 +12,54 @@ ghost use Rattle.pipe_global.specs.Refused.{IsKeptBut};
 use crate::batch_error::BatchError;
 use crate::contents::Contents;
 use crate::mark::Mark;
-use crate::merge::{put_payloads, put_rows, reserve_payloads, reserve_rows};
-use crate::read_own::read_own;
-use pipe_spill::{FrameError, SpillRow, SpillStore, StoreError};
+use crate::take::{take_lent, take_waiting};
+use pipe_spill::{FrameError, SpillStore, StoreError};
+use pipe_waiting::{LentRows, OwnPartition, lend_frame};
 use std::alloc::{AllocError, Global};
 
 impl<S: SpillStore + Drop> Contents<S> {
-    /// The rows of the frame at a mark, as they were put. The buffer takes the frame's bytes.
-    fn read_marked(
-        &mut self,
-        alloc: Global,
-        mark: Mark,
-        buffer: &mut Vec<u8>,
-    ) -> Result<Vec<SpillRow>, BatchError>
+    /// Gets the bytes of the frame at a mark into a buffer.
+    fn get_marked(&mut self, mark: Mark, buffer: &mut Vec<u8>) -> Result<(), BatchError>
         requires { CanRead self.old mark }
         ensures asked { HasAsked self.old self.new }
-        ensures rows { IfOk result (λ rows. HasRead self.old mark rows.items) }
+        ensures frame { OnOk result
+            (IsFrameAt self.old.store.told mark.number buffer.new.items) }
+        ensures calm { OnOk result (HasNoFault self.old self.new) }
         ensures cause { IfErr result (λ e. IsCause self.old self.new e) }
     {
-        let Contents {
-            number,
-            partitions,
-            table,
-            store,
-            ..
-        } = self;
-        let (number, partitions) = (*number, *partitions);
-        match store.get(mark.number, buffer) {
-            Ok(()) => {}
-            Err(StoreError::Failed) => return Err(BatchError::Store { partition: number }),
-            Err(StoreError::Memory) => return Err(BatchError::Memory),
+        match self.store.get(mark.number, buffer) {
+            Ok(()) => Ok(()),
+            Err(StoreError::Failed) => Err(BatchError::Store {
+                partition: self.number,
+            }),
+            Err(StoreError::Memory) => Err(BatchError::Memory),
         }
-        match read_own(alloc, buffer, table, number, partitions, mark.rows) {
+    }
+
+    /// The rows of the frame at a mark, lent, as they were put. All is tested before the first is given.
+    fn lend_marked<'a>(
+        &self,
+        alloc: Global,
+        mark: Mark,
+        bytes: &'a [u8],
+    ) -> Result<LentRows<'a>, BatchError>
+        requires can { CanRead self.now mark }
+        requires frame { IsFrameAt self.now.store.told mark.number bytes.now }
+        ensures held { IfOk result
+            (λ a. HoldRows self.now.table.shape.input_types a.count a.bytes) }
+        ensures rows { IfOk result
+            (λ a. HasRead self.now mark (left_rows self.now.table.shape.input_types a)) }
+        ensures cause { IfErr result (λ e. IsCause self.now self.now e) }
+    {
+        let own = OwnPartition {
+            number: self.number,
+            partitions: self.partitions,
+        };
+        let (keys, inputs) = (self.table.key_types(), self.table.input_types());
+        match lend_frame(alloc, bytes, keys, inputs, own, mark.rows) {
             Ok(rows) => Ok(rows),
             Err(FrameError::NotAFrame) => Err(BatchError::Damaged {
-                partition: number,
+                partition: self.number,
                 number: mark.number,
             }),
             Err(FrameError::Memory) => Err(BatchError::Memory),
@@ -60,15 +75,23 @@ impl<S: SpillStore + Drop> Contents<S> {
     }
 
     /// The rows of the last mark's frame are moved into the table, and the mark is taken away.
-    fn take_frame(&mut self, mark: Mark, rows: Vec<SpillRow>) -> Result<(), AllocError>
+    fn take_frame(
+        &mut self,
+        alloc: Global,
+        mark: Mark,
+        rows: LentRows<'_>,
+    ) -> Result<(), AllocError>
         requires last { IsLast self.old.marks mark }
-        requires rows { CanMerge self.old.table rows.items }
-        ensures ok { OnOk result (HasTakenFrame self.old mark rows.items self.new) }
+        requires held { HoldRows self.old.table.shape.input_types rows.count rows.bytes }
+        requires rows { CanMerge self.old.table
+            (left_rows self.old.table.shape.input_types rows) }
+        ensures ok { OnOk result (HasTakenFrame self.old mark
+            (left_rows self.old.table.shape.input_types rows.entry) self.new) }
         ensures err { OnErr result (IsKeptBut self.old self.new self.old.failed) }
+        ensures calm { HasNoFault self.old self.new }
     {
         let Contents { table, marks, .. } = self;
-        reserve_rows(table, &rows)?;
-        put_rows(table, rows);
+        take_lent(alloc, table, rows)?;
         marks.pop();
         Ok(())
     }
@@ -80,11 +103,13 @@ impl<S: SpillStore + Drop> Contents<S> {
         ensures gathered { HasGathered self.old self.new }
         ensures waiting { self.new.waiting ≡ self.old.waiting }
         ensures marks { OnOk result (length self.new.marks + 1 ≡ length self.old.marks) }
+        ensures calm { OnOk result (HasNoFault self.old self.new) }
         ensures cause { IfErr result (λ e. IsCause self.old self.new e) }
     {
         let mark = self.last_mark();
-        let rows = self.read_marked(alloc, mark, buffer)?;
-        self.take_frame(mark, rows)?;
+        self.get_marked(mark, buffer)?;
+        let rows = self.lend_marked(alloc, mark, buffer)?;
+        self.take_frame(alloc, mark, rows)?;
         Ok(())
     }
 
@@ -94,6 +119,7 @@ impl<S: SpillStore + Drop> Contents<S> {
         ensures gathered { HasGathered self.old self.new }
         ensures waiting { self.new.waiting ≡ self.old.waiting }
         ensures marks { OnOk result (self.new.marks ≡ []) }
+        ensures calm { OnOk result (HasNoFault self.old self.new) }
         ensures cause { IfErr result (λ e. IsCause self.old self.new e) }
     {
         let mut buffer = Vec::new(alloc);
@@ -111,12 +137,10 @@ impl<S: SpillStore + Drop> Contents<S> {
         requires { CanMerge self.old.table (joined_rows self.old.waiting) }
         ensures ok { OnOk result (HasTakenWaiting self.old self.new) }
         ensures err { OnErr result (IsKeptBut self.old self.new self.old.failed) }
+        ensures calm { HasNoFault self.old self.new }
     {
         let Contents { table, waiting, .. } = self;
-        reserve_payloads(table, waiting)?;
-        let payloads = std::mem::replace(waiting, Vec::new(alloc));
-        put_payloads(table, payloads);
-        Ok(())
+        take_waiting(alloc, table, waiting)
     }
 
     /// All that was put away is in the table, or a part of it.
@@ -124,6 +148,7 @@ impl<S: SpillStore + Drop> Contents<S> {
         requires { CanGather self.old 0 }
         ensures gathered { HasGathered self.old self.new }
         ensures none { OnOk result ((self.new.waiting ≡ []) × (self.new.marks ≡ [])) }
+        ensures calm { OnOk result (HasNoFault self.old self.new) }
         ensures cause { IfErr result (λ e. IsCause self.old self.new e) }
     {
         self.merge_frames(alloc)?;

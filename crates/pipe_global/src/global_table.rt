@@ -2,7 +2,9 @@
 
 ghost use Rattle.std.specs.Prelude.{◌≡◌, ◌-◌, ◌<◌, ◌≤◌, ◌^◌, IfErr, OnErr, OnOk, Some, slice_index_or, vec_capacity, vec_len};
 ghost use Rattle.std.specs.Sync.Mutex.{mutex_guard_value};
+ghost use Rattle.pipe_aggs.specs.CheckedQuery.{input_types};
 ghost use Rattle.pipe_plan.specs.declared.event.PartitionEvent.TheVariants as event;
+ghost use Rattle.pipe_waiting.specs.Waiting.{AreWaiting, payload_read};
 ghost use Rattle.pipe_global.specs.Next.{next_event, next_payload};
 ghost use Rattle.pipe_global.specs.Shares.{refused_puts_in, next_pick, one_more_pick, raised, refused_one};
 ghost use Rattle.pipe_global.specs.declared.dump_error.DumpError.TheVariants as dump_error;
@@ -15,6 +17,7 @@ use crate::partition::Partition;
 use crate::shares::Shares;
 use crate::tally::Tally;
 use pipe_spill::{SpillPayload, SpillStore};
+use pipe_waiting::WaitingRows;
 use std::alloc::{AllocError, Global};
 use std::marker::{Model, PhantomData};
 use std::sync::{Mutex, MutexGuard, Wait};
@@ -124,6 +127,32 @@ impl<S: SpillStore + Drop, R: Naming> GlobalTable<S, R> {
         let mut guard = self.locked(rt, partition, worker, count);
         gate.inside(worker, partition);
         guard.arrive(rt, &self.tally, shares, payload)
+    }
+
+    /// The worker's next payload arrives in a partition, as the bytes of its rows.
+    pub fn spill_waiting<G: Gate, H: Wait>(
+        &self,
+        rt: &H,
+        gate: &G,
+        shares: &mut Shares<R>,
+        partition: usize,
+        rows: WaitingRows,
+    ) -> Result<(), (AllocError, WaitingRows)>
+        requires exists { partition < R.run.limits.partitions }
+        requires next { next_event R.run shares.old partition
+            ≡ Some (event.Arrive shares.old.worker) }
+        requires typed { AreWaiting (input_types R.run.query) rows }
+        requires piece { payload_read (input_types R.run.query) rows
+            ≡ next_payload R.run shares.old partition }
+        ensures ok { OnOk result (shares.new ≡ raised shares.old partition) }
+        ensures err { OnErr result (shares.new ≡ shares.old) }
+        ensures back { IfErr result (λ e. e.1 ≡ rows) }
+    {
+        let worker = shares.worker();
+        let count = shares.of(partition);
+        let mut guard = self.locked(rt, partition, worker, count);
+        gate.inside(worker, partition);
+        guard.arrive_waiting(rt, &self.tally, shares, rows)
     }
 
     /// What waits in the partition of the worker's next pick is merged.

@@ -1,13 +1,33 @@
-//! What waits is moved into a table.
+//! Rows that are owned are moved into a table.
 
-ghost use Rattle.std.specs.Prelude.{◌∷◌, [], OnOk};
+ghost use Rattle.std.specs.Prelude.{◌≡◌, ◌∷◌, [], IfOk, OnOk};
 ghost use Rattle.pipe_spill.specs.SpillRow.{joined_rows};
 ghost use Rattle.pipe_global.specs.Moving.{AreCovered, CanTake, KeepsCovered, TookRows};
 ghost use Rattle.pipe_global.specs.Refused.{HoldsSame};
+ghost use Rattle.pipe_global.specs.Waits.{AllWait, payloads_read};
 
+use pipe_columns::DataType;
 use pipe_spill::{SpillPayload, SpillRow};
 use pipe_tables::{AggHashTable, InsertEnd};
-use std::alloc::AllocError;
+use pipe_waiting::{WaitingRows, own_rows};
+use std::alloc::{AllocError, Global};
+
+/// The payloads that wait, each row of which is owned.
+pub(crate) fn own_waiting(
+    alloc: Global,
+    waiting: &[WaitingRows],
+    types: &[DataType],
+) -> Result<Vec<SpillPayload>, AllocError>
+    requires { AllWait types.now waiting.now }
+    ensures { IfOk result (λ v. v.items ≡ payloads_read types.now waiting.now) }
+{
+    let mut payloads = Vec::with_capacity(alloc, waiting.len())?;
+    for waits in waiting {
+        let rows = own_rows(alloc, waits.lend(), types)?;
+        payloads.push_reserved(SpillPayload { rows });
+    }
+    Ok(payloads)
+}
 
 /// Takes room for the keys of payloads. A refusal leaves the room of some of them.
 pub(crate) fn reserve_payloads(

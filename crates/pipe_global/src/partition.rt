@@ -1,7 +1,9 @@
 //! A partition of a run: what it holds is the replay of its journal.
 
-ghost use Rattle.std.specs.Prelude.{◌≡◌, ◌+◌, ◌-◌, ◌<◌, ◌≤◌, ◌^◌, ◌∷◌, ◌++◌, [], IfErr, IsTrue, OnErr, OnOk, Some, length, slice_index_or, true};
+ghost use Rattle.std.specs.Prelude.{◌≡◌, ◌+◌, ◌-◌, ◌<◌, ◌≤◌, ◌^◌, ◌∷◌, ◌++◌, [], IfErr, IfOk, IsTrue, OnErr, OnOk, Some, length, slice_index_or, true};
 ghost use Rattle.pipe_columns.specs.Causes.{Rose};
+ghost use Rattle.pipe_aggs.specs.CheckedQuery.{input_types};
+ghost use Rattle.pipe_waiting.specs.Waiting.{AreWaiting, payload_read};
 ghost use Rattle.pipe_plan.specs.declared.event.PartitionEvent.TheVariants as event;
 ghost use Rattle.pipe_global.specs.Next.{next_event, next_payload};
 ghost use Rattle.pipe_global.specs.Partition.{IsReplayed, store_of};
@@ -16,6 +18,7 @@ use crate::naming::{Naming, OfPartitions, OfRefusals};
 use crate::shares::Shares;
 use crate::tally::Tally;
 use pipe_spill::{SpillPayload, SpillStore};
+use pipe_waiting::WaitingRows;
 use std::alloc::{AllocError, Global};
 use std::marker::Model;
 use std::sync::ledger::Share;
@@ -95,6 +98,26 @@ impl<S: SpillStore + Drop, R: Naming> Partition<S, R> {
         self.contents.failed()
     }
 
+    /// The bytes of the worker's next payload.
+    fn bytes_of(
+        &self,
+        shares: &Shares<R>,
+        payload: &SpillPayload,
+    ) -> Result<WaitingRows, AllocError>
+        requires next { next_event R.run shares.now self.now.number
+            ≡ Some (event.Arrive shares.now.worker) }
+        requires same { slice_index_or self.now.book shares.now.worker 0
+            ≡ share_of shares.now self.now.number }
+        requires piece { payload.now ≡ next_payload R.run shares.now self.now.number }
+        ensures typed { IfOk result (AreWaiting (input_types R.run.query)) }
+        ensures rows { IfOk result
+            (λ w. payload_read (input_types R.run.query) w ≡ payload.now) }
+    {
+        // Called for what its clauses say.
+        let _worker = shares.worker();
+        self.contents.bytes_of(payload)
+    }
+
     /// The worker's next payload comes to wait.
     pub fn arrive<H: Wait>(
         &mut self,
@@ -120,11 +143,48 @@ impl<S: SpillStore + Drop, R: Naming> Partition<S, R> {
         ensures shares_err { OnErr result (shares.new ≡ shares.old) }
         ensures back { IfErr result (λ e. e.1 ≡ payload) }
     {
+        let Ok(rows) = self.bytes_of(&*shares, &payload) else {
+            return Err((AllocError, payload));
+        };
+        match self.arrive_waiting(rt, tally, shares, rows) {
+            Ok(()) => Ok(()),
+            Err((AllocError, _rows)) => Err((AllocError, payload)),
+        }
+    }
+
+    /// The worker's next payload comes to wait, as the bytes of its rows.
+    pub fn arrive_waiting<H: Wait>(
+        &mut self,
+        rt: &H,
+        tally: &Mutex<Tally<R>>,
+        shares: &mut Shares<R>,
+        rows: WaitingRows,
+    ) -> Result<(), (AllocError, WaitingRows)>
+        requires next { next_event R.run shares.old self.old.number
+            ≡ Some (event.Arrive shares.old.worker) }
+        requires same { slice_index_or self.old.book shares.old.worker 0
+            ≡ share_of shares.old self.old.number }
+        requires typed { AreWaiting (input_types R.run.query) rows }
+        requires piece { payload_read (input_types R.run.query) rows
+            ≡ next_payload R.run shares.old self.old.number }
+        ensures journal { OnOk result (self.new.journal
+            ≡ self.old.journal ++ event.Arrive shares.old.worker ∷ []) }
+        ensures book { OnOk result
+            (self.new.book ≡ one_more_at self.old.book shares.old.worker) }
+        ensures waiting { OnOk result (self.new.waiting
+            ≡ self.old.waiting ++ payload_read (input_types R.run.query) rows ∷ []) }
+        ensures number { self.new.number ≡ self.old.number }
+        ensures failed { self.new.failed ≡ self.old.failed }
+        ensures shares { OnOk result (shares.new ≡ raised shares.old self.old.number) }
+        ensures err { OnErr result (self.new ≡ self.old) }
+        ensures shares_err { OnErr result (shares.new ≡ shares.old) }
+        ensures back { IfErr result (λ e. e.1 ≡ rows) }
+    {
         let worker = shares.worker();
         let partition = self.contents.number();
         // Called for what its clauses say.
         let _events = self.contents.events();
-        self.contents.arrive(worker, payload)?;
+        self.contents.arrive(worker, rows)?;
         shares.raise(&mut tally.lock(rt), &mut self.event_part, partition);
         Ok(())
     }

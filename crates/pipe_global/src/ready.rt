@@ -1,7 +1,7 @@
 //! A partition gathers all rows whose groups it is to give, and gives them.
 
 ghost use Rattle.std.specs.Prelude.{◌≡◌, IfErr, IfOk, OnErr, OnOk};
-ghost use Rattle.pipe_global.specs.Finishing.{CanFinish, IsCause, KeepsRest, StandAsBefore};
+ghost use Rattle.pipe_global.specs.Finishing.{CanFinish, HasNoFault, IsCause, KeepsRest, StandAsBefore};
 ghost use Rattle.pipe_global.specs.Gathering.{HasGiven, HasGivenPlaced, HasTakenLocal, HoldsAllRows, without_groups};
 
 use crate::batch_error::BatchError;
@@ -47,6 +47,7 @@ impl<S: SpillStore + Drop> Contents<S> {
         ensures ready { OnOk result (HoldsAllRows self.old self.new local.old local.new) }
         ensures err { OnErr result (StandAsBefore self.old self.new local.old local.new) }
         ensures local_err { OnErr result (local.new ≡ local.old) }
+        ensures calm { OnOk result (HasNoFault self.old self.new) }
         ensures cause { IfErr result (λ e. IsCause self.old self.new e) }
     {
         match self.gather(alloc) {

@@ -10,8 +10,8 @@ use Rattle.pipe_run.specs.Feeding.{chunks_reached, IsFeedCause}
 use Rattle.pipe_run.specs.Refusals.{AllHaveFields, AreMany, CanFeed, IsFirstMisfit}
 use Rattle.pipe_run.specs.Setting.{run_over, Setting}
 use Rattle.pipe_run.specs.WholeRun.{CanBegin, EndsRun}
+use Rattle.pipe_run.proofs.Counted.{calm-same}
 use Rattle.pipe_run.proofs.RunEnds.{chunks-ends, feed-ends, memory-ends}
-use Rattle.pipe_group_by.proofs.Untouched.{none-fell}
 
 -- where its one feed is refused: a feed that is refused for its chunks, or for want of memory, leaves the
 -- stores as they were
@@ -32,7 +32,7 @@ typed-refused x chunks s stores e begin setting none found cause same back = by 
   by error.TooLarge cause back = chunks-ends x chunks stores error.TooLarge begin left tt (λ j is. cc) (λ is. large cause)
   by (error.Store p) cause back =
       let feed = subst (λ (y : Setting). CanFeed y.query.schema chunks) setting (subst (λ (l : List DataChunk). CanFeed s.setting.query.schema (l ++ chunks)) none cause.0) in
-      feed-ends x chunks s stores (error.Store p) (record { begin = begin; feed = feed }) setting none (none-fell x.stores s.stores found) cause back
+      feed-ends x chunks s stores (error.Store p) (record { begin = begin; feed = feed }) setting none (calm-same x.stores s.stores found) cause back
   by error.Memory cause back = memory-ends x chunks stores begin.fit left
   by error.Limits cause back = absurd cause
   by (error.Query f) cause back = absurd cause

@@ -15,13 +15,10 @@ inside-send κ = recorded_send _ (the_type κ).D (the_type κ).to (the_type κ).
     (
       search (sendable, the_send) depth 20,
       (
-        search (sendable, Rattle.pipe_groups.proofs.placed_groups.PlacedGroups.TheSendSync.the_send) depth 20,
+        search (sendable, Vec-send) depth 20,
         (
           search (sendable, Vec-send) depth 20,
-          (
-            search (sendable, Vec-send) depth 20,
-            tt,
-          ),
+          tt,
         ),
       ),
     ),

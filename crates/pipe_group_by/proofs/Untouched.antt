@@ -19,7 +19,6 @@ use Rattle.pipe_global.specs.Partition.{no_store, store_of, with_frames}
 use Rattle.pipe_run.specs.declared.output.GroupByOutput.{GroupByOutput}
 use Rattle.pipe_run.specs.Answered.{HasFrames, HaveReplayedFrames, HaveWholeFrames, IsAnswered}
 use Rattle.pipe_run.specs.Fed.{FedSeen}
-use Rattle.pipe_run.specs.Feeding.{NoneFell}
 use Rattle.pipe_run.specs.Setting.{run_over, Setting}
 use Rattle.pipe_run.specs.WholeRun.{setting_fits}
 use Rattle.pipe_run.proofs.LimitFacts.{fit-count}
@@ -88,10 +87,3 @@ module _ (x : Setting) (chunks : List DataChunk) (s : FedSeen) (view : typed_see
     overflow = none ∙ sym (none-overflow (run_over x false chunks) typed);
     answer = λ _. frame;
   })
-
--- no count fell where none changed
-pub none-fell : (before after : List StoreSeen) → after ≡ before → NoneFell before after
-none-fell before after same = record {
-  count = ap (λ (l : List StoreSeen). length l) same;
-  each = λ p lt. omega (arith, ap (λ (l : List StoreSeen). (slice_index_or l p no_store).faults) same);
-}

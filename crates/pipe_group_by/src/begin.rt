@@ -5,7 +5,7 @@ ghost use Rattle.pipe_aggs.specs.Faults.{first_fault};
 ghost use Rattle.pipe_aggs.specs.QueryTrees.{query_tree};
 ghost use Rattle.pipe_model.specs.Output.{key_types};
 ghost use Rattle.pipe_plan.specs.Stores.{stores_seen};
-ghost use Rattle.pipe_run.specs.Feeding.{NoneFell};
+ghost use Rattle.pipe_run.specs.Failing.{NoneFailed};
 ghost use Rattle.pipe_run.specs.Refusals.{IsBeginCause, limits_fit, suits_keys};
 
 use crate::group_by_run::{GroupByRun, Kind};
@@ -43,7 +43,7 @@ impl<'a, S: SpillStore + Drop + Send> GroupByRun<'a, S> {
           stores = stores_seen S.held S.told S.faults S.sure S.path stores.items;
         }) }
         ensures chunks { IfOk result (λ r. r.chunks ≡ []) }
-        ensures counted { IfOk result (λ r. NoneFell
+        ensures counted { IfOk result (λ r. NoneFailed
             (stores_seen S.held S.told S.faults S.sure S.path stores.items) r.stores) }
         ensures cause { IfErr result (λ e. IsBeginCause
             (limits_fit limits.now (vec_len actions) (map (λ s. S.held s) stores.items))
@@ -79,7 +79,7 @@ impl<'a, S: SpillStore + Drop + Send> GroupByRun<'a, S> {
           stores = stores_seen S.held S.told S.faults S.sure S.path stores.items;
         }) }
         ensures chunks { IfOk result (λ r. r.chunks ≡ []) }
-        ensures counted { IfOk result (λ r. NoneFell
+        ensures counted { IfOk result (λ r. NoneFailed
             (stores_seen S.held S.told S.faults S.sure S.path stores.items) r.stores) }
         ensures cause { IfErr result (λ e. IsBeginCause
             (limits_fit limits.now (vec_len actions) (map (λ s. S.held s) stores.items)
@@ -117,7 +117,7 @@ impl<'a, S: SpillStore + Drop + Send> GroupByRun<'a, S> {
           stores = stores_seen S.held S.told S.faults S.sure S.path stores.items;
         }) }
         ensures chunks { IfOk result (λ r. r.chunks ≡ []) }
-        ensures counted { IfOk result (λ r. NoneFell
+        ensures counted { IfOk result (λ r. NoneFailed
             (stores_seen S.held S.told S.faults S.sure S.path stores.items) r.stores) }
         ensures cause { IfErr result (λ e. IsBeginCause
             (limits_fit limits.now (vec_len actions) (map (λ s. S.held s) stores.items))

@@ -3,7 +3,8 @@
 ghost use Rattle.std.specs.Prelude.{◌≡◌, ◌++◌, IfErr, IfOk, OnOk, true};
 ghost use Rattle.pipe_plan.specs.Stores.{stores_seen};
 ghost use Rattle.pipe_run.specs.Answered.{HaveWholeFrames};
-ghost use Rattle.pipe_run.specs.Feeding.{chunks_reached, IsBadChunks, IsFeedCause, NoneFell};
+ghost use Rattle.pipe_run.specs.Failing.{NoneFailed};
+ghost use Rattle.pipe_run.specs.Feeding.{chunks_reached, IsBadChunks, IsFeedCause};
 ghost use Rattle.pipe_run.specs.Refusals.{CanFeed};
 ghost use Rattle.pipe_run.specs.Setting.{run_over};
 
@@ -29,7 +30,7 @@ impl<'a, S: SpillStore + Drop + Send> GroupByRun<'a, S> {
         ensures chunks { IfOk result (λ r. r.0.chunks ≡ self.entry.chunks ++ chunks.items) }
         ensures fed { OnOk result
             (CanFeed self.entry.setting.query.schema (self.entry.chunks ++ chunks.items)) }
-        ensures counted { IfOk result (λ r. NoneFell self.entry.stores r.0.stores) }
+        ensures counted { IfOk result (λ r. NoneFailed self.entry.stores r.0.stores) }
         ensures cause { IfErr result (λ e. IsFeedCause self.entry chunks.items
             (stores_seen S.held S.told S.faults S.sure S.path e.1.items) e.0) }
         ensures untouched { IfErr result (λ e. IsBadChunks e.0 →
@@ -69,7 +70,7 @@ impl<'a, S: SpillStore + Drop + Send> GroupByRun<'a, S> {
         ensures chunks { IfOk result (λ r. r.chunks ≡ self.entry.chunks ++ chunks.items) }
         ensures fed { OnOk result
             (CanFeed self.entry.setting.query.schema (self.entry.chunks ++ chunks.items)) }
-        ensures counted { IfOk result (λ r. NoneFell self.entry.stores r.stores) }
+        ensures counted { IfOk result (λ r. NoneFailed self.entry.stores r.stores) }
         ensures cause { IfErr result (λ e. IsFeedCause self.entry chunks.items
             (stores_seen S.held S.told S.faults S.sure S.path e.1.items) e.0) }
         ensures untouched { IfErr result (λ e. IsBadChunks e.0 →

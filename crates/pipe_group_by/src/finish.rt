@@ -1,8 +1,9 @@
 //! The end of a run.
 
-ghost use Rattle.std.specs.Prelude.{◌≡◌, IfErr, IfOk, false};
+ghost use Rattle.std.specs.Prelude.{◌≡◌, IfErr, IfOk, OnOk, false};
 ghost use Rattle.pipe_plan.specs.Stores.{stores_seen};
 ghost use Rattle.pipe_run.specs.Answered.{HaveWholeFrames, IsAnswered};
+ghost use Rattle.pipe_run.specs.Failing.{NoneFailed};
 ghost use Rattle.pipe_run.specs.Finish.{IsFinishCause};
 ghost use Rattle.pipe_run.specs.Setting.{run_over};
 
@@ -25,6 +26,8 @@ impl<'a, S: SpillStore + Drop + Send> GroupByRun<'a, S> {
     ) -> (Result<GroupByOutput, PipeError>, Vec<S>)
         ensures answered { IfOk result.0 (λ out. IsAnswered
             (run_over self.entry.setting false self.entry.chunks) out
+            (stores_seen S.held S.told S.faults S.sure S.path result.1.items)) }
+        ensures unfailed { OnOk result.0 (NoneFailed self.entry.stores
             (stores_seen S.held S.told S.faults S.sure S.path result.1.items)) }
         ensures cause { IfErr result.0 (λ e. IsFinishCause self.entry
             (stores_seen S.held S.told S.faults S.sure S.path result.1.items) e) }

@@ -55,6 +55,8 @@ impl<'a, S: SpillStore + Drop + Send> GroupByRun<'a, S> {
             self.entry.journals (stores_seen S.held S.told S.faults S.sure S.path result.items) }
         ensures back { HaveWholeFrames (run_over self.entry.setting true self.entry.chunks)
             (stores_seen S.held S.told S.faults S.sure S.path result.items) }
+        ensures as_before { stores_seen S.held S.told S.faults S.sure S.path result.items
+            ≡ self.entry.stores }
     {
         match self.kind {
             Kind::Generic(run) => run.into_stores(),

@@ -6,7 +6,7 @@ ghost use Rattle.pipe_aggs.specs.QueryTrees.{query_tree};
 ghost use Rattle.pipe_model.specs.Output.{key_types};
 ghost use Rattle.pipe_plan.specs.Run.{is_generic};
 ghost use Rattle.pipe_plan.specs.Stores.{stores_seen};
-ghost use Rattle.pipe_run.specs.Feeding.{NoneFell};
+ghost use Rattle.pipe_run.specs.Failing.{NoneFailed};
 ghost use Rattle.pipe_run.specs.Refusals.{IsBeginCause, limits_fit, suits_keys};
 ghost use Rattle.pipe_sinks.specs.Marks.{IsSole};
 

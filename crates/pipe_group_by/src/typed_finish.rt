@@ -1,11 +1,12 @@
 //! The end of a run of typed sinks.
 
-ghost use Rattle.std.specs.Prelude.{◌≡◌, ◌<◌, IfErr, IfOk, false, map, vec_len};
+ghost use Rattle.std.specs.Prelude.{◌≡◌, ◌<◌, IfErr, IfOk, OnOk, false, map, vec_len};
 ghost use Rattle.pipe_aggs.specs.QueryTrees.{query_tree};
 ghost use Rattle.pipe_model.specs.Answer.{answer};
 ghost use Rattle.pipe_model.specs.Rows.{AreChunksOf};
 ghost use Rattle.pipe_plan.specs.Stores.{stores_seen};
 ghost use Rattle.pipe_run.specs.Answered.{HaveWholeFrames, IsAnswered};
+ghost use Rattle.pipe_run.specs.Failing.{NoneFailed};
 ghost use Rattle.pipe_run.specs.Finish.{IsFinishCause};
 ghost use Rattle.pipe_run.specs.Setting.{run_over};
 ghost use Rattle.pipe_group_by.specs.Taken.{HaveTaken};
@@ -65,6 +66,10 @@ impl<'a, S: SpillStore + Drop> TypedRun<'a, S> {
     pub(crate) fn finish(self, alloc: Global) -> (Result<GroupByOutput, PipeError>, Vec<S>)
         ensures answered { IfOk result.0 (λ out. IsAnswered
             (run_over self.entry.setting false self.entry.chunks) out
+            (stores_seen S.held S.told S.faults S.sure S.path result.1.items)) }
+        ensures same { stores_seen S.held S.told S.faults S.sure S.path result.1.items
+            ≡ self.entry.stores }
+        ensures unfailed { OnOk result.0 (NoneFailed self.entry.stores
             (stores_seen S.held S.told S.faults S.sure S.path result.1.items)) }
         ensures cause { IfErr result.0 (λ e. IsFinishCause self.entry
             (stores_seen S.held S.told S.faults S.sure S.path result.1.items) e) }

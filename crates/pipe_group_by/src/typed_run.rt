@@ -69,6 +69,8 @@ impl<'a, S: SpillStore + Drop> TypedRun<'a, S> {
     /// Gives the run up, and hands the stores back, in order. It takes no memory.
     pub(crate) fn into_stores(self) -> Vec<S>
         ensures same { stores_seen S.held S.told S.faults S.sure S.path result.items ≡ self.entry.setting.stores }
+        ensures as_before { stores_seen S.held S.told S.faults S.sure S.path result.items
+            ≡ self.entry.stores }
         ensures frames { HaveReplayedFrames (run_over self.entry.setting true self.entry.chunks)
             self.entry.journals (stores_seen S.held S.told S.faults S.sure S.path result.items) }
         ensures back { HaveWholeFrames (run_over self.entry.setting true self.entry.chunks)

@@ -122,7 +122,7 @@ module _ (q : QueryTree) (groupable : IsGroupable q) (rs : List Row) (typed : Al
         group-gives q.schema q.aggs (prototypes q) g.states g.first (rows_at rs k) (aggs-served q.schema q.aggs groupable.aggs) at.stands (rows_at-distinct rs k distinct) in
         given.row_is ∙ ap (λ (x : List AnyValue). x ++ given_all g.states) key ∙ ap (λ (x : List AnyValue). k ++ x) aggs
 
-    rows-are : (ks : List (List AnyValue)) (rows : List (List AnyValue)) → All (λ k. Has k (tuples_of rs)) ks → AllZip (λ g row. IsRowOfGroup (shape_of q) g row) (map group_at ks) rows
+    pub rows-are : (ks : List (List AnyValue)) (rows : List (List AnyValue)) → All (λ k. Has k (tuples_of rs)) ks → AllZip (λ g row. IsRowOfGroup (shape_of q) g row) (map group_at ks) rows
         → rows ≡ map (answer_row q rs) ks
     rows-are [] [] h z = refl
     rows-are [] (row ∷ rows) h z = absurd z

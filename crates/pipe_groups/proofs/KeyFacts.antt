@@ -1,5 +1,5 @@
 -- The keys of groups that hold rows are those of the rows.
-use Rattle.std.proofs.Common.{◌≡◌, ◌∙◌, inl, inr, ℕ, Bool, true, false, cond, if◌then◌else◌, is_some, ◌||◌, List, [], ◌∷◌, length, map, Option, Some, None, refl, sym, ap, subst}
+use Rattle.std.proofs.Common.{◌≡◌, ◌∙◌, inl, inr, ℕ, ◌≤◌, ◌^◌, Bool, true, false, cond, if◌then◌else◌, is_some, ◌||◌, List, [], ◌∷◌, length, map, Option, Some, None, refl, sym, ap, subst, arith}
 use Rattle.std.specs.List.{AllByRecursion, IsDistinct, list_any}
 use Rattle.std.specs.Str.{bytes_eq}
 use Rattle.std.specs.Cmp.{nat_cmp_total}
@@ -19,8 +19,9 @@ use Rattle.pipe_running.specs.declared.function.AggregateFunction.{AggregateFunc
 use Rattle.pipe_spill.specs.declared.spill_row.SpillRow.{SpillRow}
 use Rattle.pipe_groups.specs.Given.{key_cmp}
 use Rattle.pipe_groups.specs.Groups.{count_held, Group, has_rows, held_at, held_groups, is_held, group_keys}
-use Rattle.pipe_groups.specs.Holds.{entries_of, FoundStands, Holds, of_key}
-use Rattle.pipe_groups.proofs.OnceFacts.{Once, sorted-length}
+use Rattle.pipe_groups.specs.Holds.{entries_of, FoundStands, HoldFewer, Holds, of_key}
+use Rattle.pipe_groups.specs.Shape.{Shape}
+use Rattle.pipe_groups.proofs.OnceFacts.{Once, sorted-few, sorted-length}
 use Rattle.pipe_groups.proofs.GiveFacts.{first-there, stands-some}
 
 -- the keys of rows
@@ -165,3 +166,11 @@ module _ (ps : List AggregateFunction) (gs : List Group) (rows : List SpillRow) 
         sym (length-map (held_groups gs) (λ (g : Group). g.key))
         ∙ sym (sorted-length key_cmp key_exact (group_keys (held_groups gs)) (held-once gs apart))
         ∙ ap (λ (ks : List (List ℕ)). length ks) sorted-held
+
+    -- and no more than rows
+    pub held-few : count_held gs ≤ length rows
+    held-few = omega (arith, held-counted, sorted-few key_cmp (row_keys rows), length-map rows (λ (r : SpillRow). r.key))
+
+-- groups that hold fewer than 2^32 rows are not more
+pub groups-few : (s : Shape) (gs : List Group) → IsDistinct bytes_eq (group_keys gs) → HoldFewer s gs 0 → count_held gs ≤ 2 ^ 32
+groups-few s gs apart h = let few = h.few in omega (arith, few, held-few s.prototypes gs h.rows h.holds apart)

@@ -37,3 +37,5 @@ pub mod RunFacts
 pub mod HoldRunFacts
 pub mod KeepNoneFacts
 pub mod FewInputs
+pub mod TurnFacts
+pub mod ByPlaceAnswer

@@ -1,5 +1,5 @@
 -- Keys that stand once are as many as sorted.
-use Rattle.std.proofs.Common.{◌≡◌, ◌⊎◌, inl, inr, suc, ◌+◌, List, [], ◌∷◌, length, refl, ap, subst, arith}
+use Rattle.std.proofs.Common.{◌≡◌, ◌⊎◌, inl, inr, suc, ◌+◌, ◌≤◌, List, [], ◌∷◌, length, refl, ap, subst, arith}
 use Rattle.std.specs.Prelude.{⊤}
 use Rattle.std.specs.List.{fold}
 use Rattle.std.specs.declared.cmp.Ordering.{Ordering}
@@ -52,3 +52,20 @@ module _ {K : Type 0} (order : K → K → Ordering) (o : IsExactOn AnyKey order
   -- keys that stand once are as many as sorted
   pub sorted-length : (ks : List K) → Once ks → length (sorted_keys order ks) ≡ length ks
   sorted-length ks once = let all = fold-length [] ks once (λ k m n. n) in omega (arith, all)
+
+-- sorted keys are no more than they were
+module _ {K : Type 0} (order : K → K → Ordering) where
+  put-few : (k : K) (ks : List K) → length (put_key order k ks) ≤ suc (length ks)
+  put-few k [] = omega arith
+  put-few k (x ∷ xs) = by (order k x) (put-few k xs) where
+    by : (r : Ordering) → length (put_key order k xs) ≤ suc (length xs) → length (match_ordering r (k ∷ x ∷ xs) (x ∷ xs) (x ∷ put_key order k xs)) ≤ suc (suc (length xs))
+    by Less few = omega arith
+    by Equal few = omega arith
+    by Greater few = omega (arith, few)
+
+  fold-few : (done ks : List K) → length (fold (λ sorted k. put_key order k sorted) done ks) ≤ length done + length ks
+  fold-few done [] = omega arith
+  fold-few done (k ∷ ks) = let rest = fold-few (put_key order k done) ks in let here = put-few k done in omega (arith, rest, here)
+
+  pub sorted-few : (ks : List K) → length (sorted_keys order ks) ≤ length ks
+  sorted-few ks = let all = fold-few [] ks in omega (arith, all)

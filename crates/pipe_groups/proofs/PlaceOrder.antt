@@ -32,7 +32,7 @@ use Rattle.pipe_groups.proofs.SliceFacts.{sliced-map}
 
 -- ---- positions
 
-abbrev same_place : Place → Place → Bool
+abbrev pub same_place : Place → Place → Bool
 same_place = eq_by_cmp place_cmp
 
 -- a place that stands apart is found where it stands
@@ -48,7 +48,7 @@ found-from (p ∷ ps) (suc i) k d apart lt =
     let at : i + (k + 1) ≡ suc i + k = omega arith in
     rw here (found-from ps i (k + 1) d (IsDistinct-tail same_place p ps apart) (omega (arith, lt)) ∙ ap (λ (n : ℕ). Some n) at)
 
-place-found : (places : List Place) (i : ℕ) (d : Place) → IsDistinct same_place places → i < length places → place_at places (get_or places i d) ≡ i
+pub place-found : (places : List Place) (i : ℕ) (d : Place) → IsDistinct same_place places → i < length places → place_at places (get_or places i d) ≡ i
 place-found places i d apart lt =
     let at : i + 0 ≡ i = omega arith in
     ap (λ (o : Option ℕ). unwrap_or o 0) (position_from-zero (same_place (get_or places i d)) places ∙ found-from places i 0 d apart lt ∙ ap (λ (n : ℕ). Some n) at)
@@ -65,7 +65,7 @@ row_number r = r.row
 abbrev pub row_cmp : PlacedRow → PlacedRow → Ordering
 row_cmp r s = ordering_then (place_cmp r.place s.place) (nat_cmp r.row s.row)
 
-row_total : IsTotalOrder row_cmp
+pub row_total : IsTotalOrder row_cmp
 row_total = then_total (on_total row_place place_total) (on_total row_number nat_cmp_total)
 
 numbers-found : (places : List Place) (rows : List PlacedRow) → IsDistinct same_place places → All (IsRowAt places) rows → map row_number rows ≡ map (place_at places) (map row_place rows)

@@ -11,6 +11,10 @@ use Rattle.pipe_groups.specs.declared.place_order.PlacedRow.{PlacedRow}
 abbrev pub place_at : List Place → Place → ℕ
 place_at places p = unwrap_or (position (eq_by_cmp place_cmp p) places) 0
 
+-- what stands in another list at the position of a place
+abbrev pub turn_at : List Place → List ℕ → Place → ℕ
+turn_at places order p = slice_index_or order (place_at places p) 0
+
 -- it is a row of a list of places, with its own place
 pub record IsRowAt (places : List Place) (r : PlacedRow) : Type 0 where
   pub within : r.row < length places

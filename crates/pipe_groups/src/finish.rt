@@ -55,7 +55,7 @@ impl Groups {
     }
 
     /// The least places of the rows of groups that hold rows.
-    fn first_places(&self, taken: &[usize]) -> Result<Vec<Place>, AllocError>
+    pub(crate) fn first_places(&self, taken: &[usize]) -> Result<Vec<Place>, AllocError>
         requires within { All (λ i. i < length self.now.groups) taken.now }
         requires rows { All (λ i. has_rows (group_of self.now.groups i) ≡ true) taken.now }
         ensures { IfOk result (λ v.
@@ -73,7 +73,7 @@ impl Groups {
 
     /// The frame of some groups, in turn. No group is left. All memory is had before anything
     /// changes.
-    fn give(&mut self, taken: &[usize]) -> Result<DataFrame, AllocError>
+    pub(crate) fn give(&mut self, taken: &[usize]) -> Result<DataFrame, AllocError>
         requires within { All (λ i. i < length self.old.groups) taken.now }
         requires once { IsDistinct nat_eq taken.now }
         requires gives { All (CanGive self.old.shape) (map (group_of self.old.groups) taken.now) }

@@ -3,10 +3,12 @@
 
 mod ahead;
 mod answer_laws;
+mod by_place;
 mod copies;
 mod eval;
 mod feed;
 mod feed_run;
+mod feed_taken;
 mod finish;
 mod given;
 mod groups;
@@ -25,6 +27,7 @@ mod room;
 mod row_code;
 mod slices;
 mod states;
+mod turns;
 mod types;
 mod unfinished;
 mod worked;

@@ -31,7 +31,7 @@ fn placed_rows(alloc: Global, places: &[Place]) -> Result<Vec<PlacedRow>, AllocE
 }
 
 /// The numbers of rows.
-fn numbers(alloc: Global, rows: &[PlacedRow]) -> Result<Vec<usize>, AllocError>
+pub(crate) fn numbers(alloc: Global, rows: &[PlacedRow]) -> Result<Vec<usize>, AllocError>
     ensures { IfOk result (λ v. v.items ≡ map (λ r. r.row) rows.now) }
 {
     rows.iter().map(|row| row.row).collect(alloc)

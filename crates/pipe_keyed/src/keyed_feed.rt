@@ -9,7 +9,7 @@ ghost use Rattle.pipe_groups.specs.Groups.{group_of, HasGroups, new_group, group
 
 use crate::keyed_groups::KeyedGroups;
 use crate::marking::Marking;
-use pipe_columns::Place;
+use pipe_columns::{AnyValue, Place};
 use pipe_groups::own_values;
 use pipe_inputs::ChunkRows;
 use pipe_spill::Values;
@@ -25,6 +25,18 @@ impl<M: Marking> KeyedGroups<M> {
             (group_with_row place values (group_of self.old.groups index))) }
     {
         self.groups.feed(index, place, values);
+    }
+
+    /// Takes a row into a group, whose inputs are taken out of a list, without memory.
+    pub fn feed_taken(&mut self, index: usize, place: Place, values: &mut [AnyValue])
+        requires within { index < length self.old.groups }
+        requires few { StatesSeen (2 ^ 32 - 2) (group_of self.old.groups index).states }
+        requires taken { TakesFrom 0 (group_of self.old.groups index).states values.old }
+        ensures groups { HasGroups self.old self.new (slice_set self.old.groups index
+            (group_with_row place values.old (group_of self.old.groups index))) }
+        ensures fits { length values.new ≡ length values.old }
+    {
+        self.groups.feed_taken(index, place, values);
     }
 
     /// Takes row `row` of a chunk into a group. Memory is taken for texts that the group keeps alone.

@@ -56,7 +56,7 @@ module _ (s now new : GroupSourceSeen) (f : FrameData) (h : IsJoining s now f) (
       → ((rs : List Row) → HasAllRows rs now → HasAllRows rs new) → ((rs : List Row) → HasAllRows rs now → chunks_left rs now ≡ c ∷ chunks_left rs new) → IsJoining s new g
   joining-more c g others is stands left = record {
     kept = asked-trans s.asked now.asked new.asked h.kept kept;
-    others = others-trans s.asked now.asked new.asked kept h.others others;
+    others = others-trans s.asked now.asked new.asked h.kept kept h.others others;
     fields = subst (FitsSchema (output_schema (source_query s))) (sym is) (stacked-fields c.frame.columns f.columns ∙ h.fields);
     rows = λ rs all.
         let before = h.rows rs all in
@@ -117,7 +117,7 @@ cause-of-parts s new after batch_error.Memory is cause = tt
 pub ended-cause : (r : Run) (query : Query) (closed after : List PartitionSeen) (local : Table) (new : SourceSeen) (e : BatchError) → AreWholePartitions r closed
     → KeepsAsked (unasked query closed local (query_tree query).slice) new → after ≡ new.partitions
     → IsGiveCause (unasked query closed local (query_tree query).slice) new e → IsAnswerCause r closed after e
-ended-cause r query closed after local new (batch_error.Store p) whole kept is cause = (cause.1.0, λ d. subst (λ (ps : List PartitionSeen). Rose (slice_index_or closed p d).store.faults (slice_index_or ps p d).store.faults) (sym is) (cause.1.1 d))
+ended-cause r query closed after local new (batch_error.Store p) whole kept is cause = subst (RoseFrom closed p) (sym is) cause.1
 ended-cause r query closed after local new (batch_error.Damaged p n) whole kept is cause = by closed refl where
   by : (cs : List PartitionSeen) → closed ≡ cs → IsAnswerCause r closed after (batch_error.Damaged p n)
   by [] e = absurd (omega (arith, cause.1, ap (λ (l : List PartitionSeen). length l) e))

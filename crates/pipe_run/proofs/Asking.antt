@@ -16,6 +16,7 @@ use Rattle.pipe_global.specs.Finishing.{IsCause, KeepsRest}
 use Rattle.pipe_global.specs.Partition.{PartitionSeen}
 use Rattle.pipe_run.specs.Ending.{AreSamePartitions}
 use Rattle.pipe_run.specs.Given.{HasRows, IsSource, KeepsSource, SourceSeen}
+use Rattle.pipe_run.specs.Fed.{CountOn}
 use Rattle.pipe_run.specs.Sources.{ArePlacedParts, IsGiveCause, IsPlacedFrame, KeepsAsked, LeavesOthers}
 use Rattle.pipe_run.proofs.SourceFacts.{keeps-itself}
 
@@ -59,19 +60,22 @@ asked-trans a b c x y = record {
 pub asked-one : (s new : SourceSeen) (given : ℕ) → s.given ≤ given → KeepsSource s new given → KeepsAsked s new
 asked-one s new given le keeps = record { query = keeps.query; partitions = keeps.partitions; given = omega (arith, le, keeps.given_is) }
 
-pub others-one : (s new : SourceSeen) → KeepsSource s new (s.given + 1) → LeavesOthers s new
-others-one s new keeps p d from = keeps.others p d (λ e. absurd (omega (arith, e, from, keeps.given_is)))
+pub others-one : (s new : SourceSeen) → KeepsSource s new (s.given + 1) → CountOn s.partitions new.partitions → LeavesOthers s new
+others-one s new keeps calm = record { others = λ p d from. keeps.others p d (λ e. absurd (omega (arith, e, from, keeps.given_is))); calm = calm }
 
 pub others-same : (s : SourceSeen) → LeavesOthers s s
-others-same s p d from = refl
+others-same s = record { others = λ p d from. refl; calm = λ p d lt. refl }
 
-pub others-trans : (a b c : SourceSeen) → KeepsAsked b c → LeavesOthers a b → LeavesOthers b c → LeavesOthers a c
-others-trans a b c keeps x y p d from = y p d from ∙ x p d (omega (arith, from, keeps.given))
+pub others-trans : (a b c : SourceSeen) → KeepsAsked a b → KeepsAsked b c → LeavesOthers a b → LeavesOthers b c → LeavesOthers a c
+others-trans a b c before keeps x y = record {
+  others = λ p d from. y.others p d from ∙ x.others p d (omega (arith, from, keeps.given));
+  calm = λ p d lt. y.calm p d (omega (arith, lt, before.partitions.count)) ∙ x.calm p d lt;
+}
 
 -- a refusal of the next partition is one of a partition that was still to be asked
 pub cause-one : (s new : SourceSeen) (e : BatchError) → IsSource s → s.given < length s.partitions
-    → ((d : PartitionSeen) → IsCause (slice_index_or s.partitions s.given d) (slice_index_or new.partitions s.given d) e) → IsGiveCause s new e
-cause-one s new (batch_error.Store p) is lt cause =
+    → KeepsSource s new s.given → ((d : PartitionSeen) → IsCause (slice_index_or s.partitions s.given d) (slice_index_or new.partitions s.given d) e) → IsGiveCause s new e
+cause-one s new (batch_error.Store p) is lt keeps cause =
     let at : (d : PartitionSeen) → p ≡ s.given = λ d. (cause d).0 ∙ (is.each s.given d lt).number in
     by s.partitions refl at
   where
@@ -80,9 +84,13 @@ cause-one s new (batch_error.Store p) is lt cause =
     by (x ∷ ps) e at =
         let here : p ≡ s.given = at x in (
           omega (arith, here),
-          (omega (arith, here, lt), λ d. subst (λ k. Rose (slice_index_or s.partitions k d).store.faults (slice_index_or new.partitions k d).store.faults) (sym here) (cause d).1),
+          record {
+            exists = omega (arith, here, lt);
+            rose = λ d. subst (λ k. Rose (slice_index_or s.partitions k d).store.faults (slice_index_or new.partitions k d).store.faults) (sym here) (cause d).1;
+            least = λ k d less. ap (λ (x : PartitionSeen). x.store.faults) (keeps.others k d (λ e. absurd (omega (arith, e, less, here))));
+          },
         )
-cause-one s new (batch_error.Damaged p n) is lt cause =
+cause-one s new (batch_error.Damaged p n) is lt keeps cause =
     let at : (d : PartitionSeen) → p ≡ s.given = λ d. (cause d).0 ∙ (is.each s.given d lt).number in
     by s.partitions refl at
   where
@@ -96,18 +104,23 @@ cause-one s new (batch_error.Damaged p n) is lt cause =
               let c = cause d in
               subst (λ k. ((slice_index_or s.partitions k d).store.told ≡ Rattle.std.specs.Prelude.None) × Rattle.std.specs.List.Contains (Rattle.std.specs.Prelude.map (λ m. m.number) (slice_index_or s.partitions k d).marks) n) (sym here) (c.1, c.2),
         )
-cause-one s new batch_error.Memory is lt cause = tt
+cause-one s new batch_error.Memory is lt keeps cause = tt
 
 -- a refusal after other calls is one of a partition that was still to be asked before them
 pub cause-later : (a b c : SourceSeen) (e : BatchError) → KeepsAsked a b → LeavesOthers a b → IsGiveCause b c e → IsGiveCause a c e
 cause-later a b c (batch_error.Store p) keeps same cause = (
   omega (arith, cause.0, keeps.given),
-  (omega (arith, cause.1.0, keeps.partitions.count), λ d. subst (λ (x : PartitionSeen). Rose x.store.faults (slice_index_or c.partitions p d).store.faults) (same p d cause.0) (cause.1.1 d)),
+  (let lt : p < length a.partitions = omega (arith, cause.1.exists, keeps.partitions.count) in
+      record {
+        exists = lt;
+        rose = λ d. subst (λ n. Rose n (slice_index_or c.partitions p d).store.faults) (same.calm p d lt) (cause.1.rose d);
+        least = λ k d less. cause.1.least k d less ∙ same.calm k d (omega (arith, less, lt));
+      }),
 )
 cause-later a b c (batch_error.Damaged p n) keeps same cause = (
   omega (arith, cause.0, keeps.given),
   omega (arith, cause.1, keeps.partitions.count),
-  λ d. subst (λ (x : PartitionSeen). (x.store.told ≡ Rattle.std.specs.Prelude.None) × Rattle.std.specs.List.Contains (Rattle.std.specs.Prelude.map (λ m. m.number) x.marks) n) (same p d cause.0) (cause.2 d),
+  λ d. subst (λ (x : PartitionSeen). (x.store.told ≡ Rattle.std.specs.Prelude.None) × Rattle.std.specs.List.Contains (Rattle.std.specs.Prelude.map (λ m. m.number) x.marks) n) (same.others p d cause.0) (cause.2 d),
 )
 cause-later a b c batch_error.Memory keeps same cause = tt
 

@@ -19,7 +19,7 @@ use Rattle.pipe_workers.specs.declared.paused.PausedWorker.{PausedWorker}
 use Rattle.pipe_workers.specs.declared.stop.WorkerStop.{WorkerStop}
 use Rattle.pipe_workers.specs.Rounds.{HasEnded, IsDone, JobSeen}
 use Rattle.pipe_workers.specs.Workers.{WorkerSeen}
-use Rattle.pipe_run.specs.Fed.{AllStand, AreWholePartitions, HasKept, HaveEnded, IsRested, RoseAt}
+use Rattle.pipe_run.specs.Fed.{AllStand, AreCounted, AreWholePartitions, HasKept, HaveEnded, IsRested, RoseAt}
 use Rattle.pipe_run.specs.Rounds.{AreWholeShares, has_gone_on, paused_of, shares_of}
 use Rattle.pipe_run.proofs.Whole.{journal-at, whole-journals}
 
@@ -142,7 +142,15 @@ all-partitions r partitions shares limits count workers closed same whole sound 
 pub closed-stand : (r : Run) (partitions : List PartitionSeen) → length partitions ≡ r.limits.partitions → AreClosed r partitions → AllStand r partitions
 closed-stand r partitions count closed = record { count = count; each = λ p d lt. (closed p d lt).replayed }
 
--- and a failed one's count rose
+-- and the count of the first that failed rose
 pub closed-rose : (r : Run) (partitions : List PartitionSeen) (p q : ℕ) → length partitions ≡ r.limits.partitions → AreClosed r partitions → p < length partitions
-    → ((d : PartitionSeen) → (slice_index_or partitions p d).failed ≡ true) → p ≡ q → RoseAt r q partitions
-closed-rose r partitions p q count closed lt failed e = subst (λ k. RoseAt r k partitions) e (omega (arith, lt, count), λ d. (closed p d lt).rose (failed d))
+    → ((d : PartitionSeen) → (slice_index_or partitions p d).failed ≡ true) → ((k : ℕ) (d : PartitionSeen) → k < p → (slice_index_or partitions k d).failed ≡ false) → p ≡ q → RoseAt r q partitions
+closed-rose r partitions p q count closed lt failed first e = subst (λ k. RoseAt r k partitions) e (record {
+  exists = omega (arith, lt, count);
+  rose = λ d. (closed p d lt).rose (failed d);
+  least = λ k d less. (closed k d (omega (arith, less, lt))).calm (first k d less);
+})
+
+-- where none failed each count is as the run found it
+pub closed-calm : (r : Run) (partitions : List PartitionSeen) → AreClosed r partitions → ((p : ℕ) (d : PartitionSeen) → p < length partitions → (slice_index_or partitions p d).failed ≡ false) → AreCounted r partitions
+closed-calm r partitions closed sound p d lt = (closed p d lt).calm (sound p d lt)

@@ -18,27 +18,17 @@ use Rattle.pipe_run.specs.declared.round.RoundStop.{RoundStop}
 use Rattle.pipe_run.specs.declared.round.RoundStop.TheVariants as stop
 use Rattle.pipe_run.specs.Answered.{HaveReplayedFrames, HaveWholeFrames, IsAnswered}
 use Rattle.pipe_run.specs.Ending.{AreSamePartitions, IsAnswerCause}
+use Rattle.pipe_run.specs.Failing.{IsFirstFailed, NoneFailed}
 use Rattle.pipe_run.specs.Finish.{HasPutUntold, IsFinishCause}
 use Rattle.pipe_run.specs.Fed.{AllStand, AreWholePartitions, CountOn, FedSeen, HaveEnded, HaveKept, IsFedRun, RoseFrom}
 use Rattle.pipe_run.specs.Setting.{run_over, Setting}
 use Rattle.pipe_run.specs.Stops.{error_of, error_of_groups}
 use Rattle.pipe_run.proofs.Answering.{few-arrived, kept-same, replayed-frames, run-answered, some-partition, stores_of, whole-frames}
+use Rattle.pipe_run.proofs.Counted.{calm-stores, first-stores}
 use Rattle.pipe_run.proofs.Feeding.{whole-stand}
 use Rattle.pipe_run.proofs.Leaving.{stand-uncounted}
 use Rattle.pipe_run.proofs.Taking.{faults_of, same, take-stand}
 use Rattle.pipe_run.proofs.Whole.{journals_of}
-
--- ---- counts of faults
-
-pub rose-later : (a b c : ℕ) → a ≤ b → Rose b c → Rose a c
-rose-later a b c le rose = omega (arith, le, rose)
-
--- a count that rose between partitions rose between their stores
-rose-stores : (before after : List PartitionSeen) (p : ℕ) (d : PartitionSeen) → length before ≡ length after → p < length before → Rose (slice_index_or before p d).store.faults (slice_index_or after p d).store.faults
-    → Rose (slice_index_or (stores_of before) p no_store).faults (slice_index_or (stores_of after) p no_store).faults
-rose-stores before after p d long lt rose =
-    subst (λ (x : StoreSeen). Rose x.faults (slice_index_or (stores_of after) p no_store).faults) (sym (get_or-map (λ (c : PartitionSeen). c.store) before p d no_store lt))
-    (subst (λ (x : StoreSeen). Rose (slice_index_or before p d).store.faults x.faults) (sym (get_or-map (λ (c : PartitionSeen). c.store) after p d no_store (omega (arith, lt, long)))) rose)
 
 -- ---- a run between its calls
 
@@ -81,6 +71,12 @@ module _ (x : Setting) (taken : List DataChunk) (journals : List (List Partition
       (none-more (λ l. AllStand (run_over x false l) closed) (stand-uncounted (run_over x false (taken ++ [])) (faults_of closed) (same x false taken [] closed rests run.fed) closed (take-stand x false taken [] closed rests run.fed)))
       is
 
+  -- the first whose count rose is the first that failed
+  first-of : (after : List PartitionSeen) → length after ≡ length closed → stores ≡ stores_of after → seen ≡ stores_of closed → (p : ℕ) → RoseFrom closed p after → IsFirstFailed s.stores stores p
+  first-of after long is found p rose = subst (λ (s : FedSeen). IsFirstFailed s.stores stores p) view
+      (subst (λ (l : List StoreSeen). IsFirstFailed l stores p) (sym found)
+      (subst (λ (l : List StoreSeen). IsFirstFailed (stores_of closed) l p) (sym is) (first-stores closed after long p rose)))
+
   -- refused in its last round
   pub round-left : (after : List PartitionSeen) → AllStand (run_over x false (taken ++ [])) after → stores ≡ stores_of after → HaveWholeFrames (run_over s.setting false s.chunks) stores
   round-left after stand is = left-by after (none-more (λ l. AllStand (run_over x false l) after) stand) is
@@ -88,15 +84,7 @@ module _ (x : Setting) (taken : List DataChunk) (journals : List (List Partition
   pub round-cause : (after : List PartitionSeen) (e : RoundStop) → AllStand (run_over x false (taken ++ [])) after → stores ≡ stores_of after → seen ≡ stores_of closed
       → ((p : ℕ) → e ≡ stop.Store p → RoseFrom closed p after) → IsFinishCause s stores (error_of e)
   round-cause after stop.Memory stand is found rose = tt
-  round-cause after (stop.Store p) stand is found rose =
-      let d = some-partition open_run closed run.fed.run.limits.partitions (whole-stand open_run closed run.fed.partitions) in
-      let long : length closed ≡ length after = run.fed.partitions.count ∙ sym stand.count in
-      let up = rose p refl in
-      subst (λ (s : FedSeen). (p < length stores) × Rose (slice_index_or s.stores p no_store).faults (slice_index_or stores p no_store).faults) view (
-        omega (arith, up.0, long, ap (λ (l : List StoreSeen). length l) is, length-map after (λ (c : PartitionSeen). c.store)),
-        subst (λ (l : List StoreSeen). Rose (slice_index_or l p no_store).faults (slice_index_or stores p no_store).faults) (sym found)
-            (subst (λ (l : List StoreSeen). Rose (slice_index_or (stores_of closed) p no_store).faults (slice_index_or l p no_store).faults) (sym is) (rose-stores closed after p d long up.0 (up.1 d))),
-      )
+  round-cause after (stop.Store p) stand is found rose = first-of after (stand.count ∙ sym run.fed.partitions.count) is found p (rose p refl)
 
   -- refused as its partitions were to give their groups, and answered
   module _ (ended after : List PartitionSeen) (whole : AreWholePartitions (run_over x false (taken ++ [])) ended) (kept : AreSamePartitions ended after) where
@@ -110,16 +98,13 @@ module _ (x : Setting) (taken : List DataChunk) (journals : List (List Partition
     pub groups-cause : (e : BatchError) → stores ≡ stores_of after → seen ≡ stores_of closed → CountOn closed ended → IsAnswerCause shut_run ended after e → IsFinishCause s stores (error_of_groups e)
     groups-cause batch_error.Memory is found on cause = tt
     groups-cause (batch_error.Store p) is found on cause =
-        let d = some-partition shut_run ended run.fed.run.limits.partitions (whole-stand shut_run ended whole-shut) in
-        let first : length closed ≡ length ended = run.fed.partitions.count ∙ sym whole.count in
-        let long : length closed ≡ length after = first ∙ sym kept.count in
-        let lt : p < length closed = omega (arith, cause.0, first) in
-        subst (λ (s : FedSeen). (p < length stores) × Rose (slice_index_or s.stores p no_store).faults (slice_index_or stores p no_store).faults) view (
-          omega (arith, lt, long, ap (λ (l : List StoreSeen). length l) is, length-map after (λ (c : PartitionSeen). c.store)),
-          subst (λ (l : List StoreSeen). Rose (slice_index_or l p no_store).faults (slice_index_or stores p no_store).faults) (sym found)
-              (subst (λ (l : List StoreSeen). Rose (slice_index_or (stores_of closed) p no_store).faults (slice_index_or l p no_store).faults) (sym is)
-              (rose-stores closed after p d long lt (rose-later (slice_index_or closed p d).store.faults (slice_index_or ended p d).store.faults (slice_index_or after p d).store.faults (on p d lt) (cause.1 d)))),
-        )
+        let long : length ended ≡ length closed = whole.count ∙ sym run.fed.partitions.count in
+        let lt : p < length closed = omega (arith, cause.exists, long) in
+        first-of after (kept.count ∙ long) is found p (record {
+          exists = lt;
+          rose = λ d. subst (λ n. Rose n (slice_index_or after p d).store.faults) (on p d lt) (cause.rose d);
+          least = λ k d less. cause.least k d less ∙ on k d (omega (arith, less, lt));
+        })
     groups-cause (batch_error.Damaged p n) is found on cause =
         let d = some-partition shut_run ended run.fed.run.limits.partitions (whole-stand shut_run ended whole-shut) in
         let lt : p < length after = omega (arith, cause.0, kept.count) in
@@ -128,6 +113,14 @@ module _ (x : Setting) (taken : List DataChunk) (journals : List (List Partition
           subst (λ (l : List StoreSeen). HasPutUntold (slice_index_or x.stores p no_store) (slice_index_or l p no_store) n) (sym is)
               (subst (λ (y : StoreSeen). HasPutUntold (slice_index_or x.stores p no_store) y n) (sym (get_or-map (λ (c : PartitionSeen). c.store) after p d no_store lt)) (record { untold = cause.1; first = cause.2; last = cause.3 d })),
         )
+
+    -- answered, no store failed
+    pub unfailed-shut : stores ≡ stores_of after → seen ≡ stores_of closed → CountOn closed ended → CountOn ended after → NoneFailed s.stores stores
+    unfailed-shut is found on more =
+        let long : length ended ≡ length closed = whole.count ∙ sym run.fed.partitions.count in
+        subst (λ (s : FedSeen). NoneFailed s.stores stores) view
+        (subst (λ l. NoneFailed l stores) (sym found) (subst (NoneFailed (stores_of closed)) (sym is)
+        (calm-stores closed after (kept.count ∙ long) (λ p d lt. more p d (omega (arith, lt, long)) ∙ on p d lt))))
 
     pub few-shut : sum_by (λ (s : PartitionSeen). s.arrived) after < 2 ^ 64
     few-shut = omega (arith, few-arrived shut_run ended after runnable-shut refl whole-shut kept)

@@ -15,11 +15,13 @@ use Rattle.pipe_run.specs.declared.error.PipeError.TheVariants as error
 use Rattle.pipe_run.specs.declared.round.RoundStop.{RoundStop}
 use Rattle.pipe_run.specs.declared.round.RoundStop.TheVariants as stop
 use Rattle.pipe_run.specs.Answered.{HaveWholeFrames}
+use Rattle.pipe_run.specs.Failing.{IsFirstFailed, NoneFailed}
 use Rattle.pipe_run.specs.Fed.{AllStand, CountOn, FedSeen, IsFed, IsFedRun, RoseFrom}
-use Rattle.pipe_run.specs.Feeding.{all_chunks, chunks_reached, IsBadChunks, IsFeedCause, NoneFell}
+use Rattle.pipe_run.specs.Feeding.{all_chunks, chunks_reached, IsBadChunks, IsFeedCause}
 use Rattle.pipe_run.specs.Refusals.{AllHaveFields, AreMany, CanFeed, IsFirstMisfit}
 use Rattle.pipe_run.specs.Setting.{run_over, Setting}
 use Rattle.pipe_run.specs.Stops.{error_of}
+use Rattle.pipe_run.proofs.Counted.{calm-same, calm-stores, first-stores}
 use Rattle.pipe_run.proofs.Feeding.{stand-frames, whole-stand}
 use Rattle.pipe_run.proofs.Leaving.{stand-uncounted}
 use Rattle.pipe_run.proofs.Taking.{faults_of, same, take-stand}
@@ -32,7 +34,7 @@ pub bad-cause : (s : FedSeen) (chunks : List DataChunk) (stores : List StoreSeen
 bad-cause s chunks stores (error.Schema i) bad misfit large = misfit i refl
 bad-cause s chunks stores error.TooLarge bad misfit large = large refl
 bad-cause s chunks stores (error.Store p) bad misfit large = absurd bad
-bad-cause s chunks stores error.Memory bad misfit large = tt
+bad-cause s chunks stores error.Memory bad misfit large = absurd bad
 bad-cause s chunks stores error.Limits bad misfit large = absurd bad
 bad-cause s chunks stores (error.Query f) bad misfit large = absurd bad
 bad-cause s chunks stores error.Sink bad misfit large = absurd bad
@@ -61,21 +63,15 @@ stop-fits stop.Memory bad = bad
 
 pub stop-cause : (s : FedSeen) (chunks : List DataChunk) (stores : List StoreSeen) (e : RoundStop) (closed after : List PartitionSeen) → CanFeed s.setting.query.schema (all_chunks s chunks)
     → stores ≡ map (λ c. c.store) after → s.stores ≡ map (λ c. c.store) closed → length closed ≡ length after
-    → ((p : ℕ) → e ≡ stop.Store p → RoseFrom closed p after) → IsFeedCause s chunks stores (error_of e)
-stop-cause s chunks stores stop.Memory closed after can is counts long rose = tt
-stop-cause s chunks stores (stop.Store p) closed after can is counts long rose = by closed refl where
-  by : (ps : List PartitionSeen) → closed ≡ ps → CanFeed s.setting.query.schema (all_chunks s chunks) × (p < length stores) × Rose (slice_index_or s.stores p no_store).faults (slice_index_or stores p no_store).faults
-  by [] none = absurd (omega (arith, (rose p refl).0, ap (λ (l : List PartitionSeen). length l) none))
-  by (d ∷ ps) some =
-      let lt : p < length closed = (rose p refl).0 in
-      let below : p < length after = omega (arith, lt, long) in
-      let high : length stores ≡ length after = ap (λ (l : List StoreSeen). length l) is ∙ length-map after (λ (c : PartitionSeen). c.store) in
-      let from : slice_index_or s.stores p no_store ≡ (slice_index_or closed p d).store = ap (λ (l : List StoreSeen). slice_index_or l p no_store) counts ∙ get_or-map (λ (c : PartitionSeen). c.store) closed p d no_store lt in
-      let to : slice_index_or stores p no_store ≡ (slice_index_or after p d).store = ap (λ (l : List StoreSeen). slice_index_or l p no_store) is ∙ get_or-map (λ (c : PartitionSeen). c.store) after p d no_store below in (
-        can,
-        omega (arith, below, high),
-        subst (λ (x : StoreSeen). Rose x.faults (slice_index_or stores p no_store).faults) (sym from) (subst (λ (x : StoreSeen). Rose (slice_index_or closed p d).store.faults x.faults) (sym to) ((rose p refl).1 d)),
-      )
+    → ((p : ℕ) → e ≡ stop.Store p → RoseFrom closed p after) → (e ≡ stop.Memory → CountOn closed after) → IsFeedCause s chunks stores (error_of e)
+stop-cause s chunks stores stop.Memory closed after can is counts long rose calm =
+    subst (λ (l : List StoreSeen). NoneFailed l stores) (sym counts)
+    (subst (NoneFailed (map (λ c. c.store) closed)) (sym is) (calm-stores closed after (sym long) (calm refl)))
+stop-cause s chunks stores (stop.Store p) closed after can is counts long rose calm = (
+  can,
+  subst (λ (l : List StoreSeen). IsFirstFailed l stores p) (sym counts)
+      (subst (λ (l : List StoreSeen). IsFirstFailed (map (λ c. c.store) closed) l p) (sym is) (first-stores closed after (sym long) p (rose p refl))),
+)
 
 -- chunks of a query can be fed
 pub can-feed : (x : Setting) (chunks : List DataChunk) → AreChunksOf (query_tree x.query) chunks → CanFeed x.query.schema chunks
@@ -120,9 +116,9 @@ module _ (x : Setting) (taken : List DataChunk) (journals : List (List Partition
 
   -- why its round stopped
   pub stop-cause-of : (chunks : List DataChunk) (after : List PartitionSeen) (e : RoundStop) → AreChunksOf (query_tree x.query) (taken ++ chunks) → stores ≡ map (λ c. c.store) after → seen ≡ map (λ c. c.store) closed
-      → AllStand (run_over x true (taken ++ chunks)) after → ((p : ℕ) → e ≡ stop.Store p → RoseFrom closed p after) → IsFeedCause s chunks stores (error_of e)
-  stop-cause-of chunks after e are is counts stand rose = subst (λ (s : FedSeen). IsFeedCause s chunks stores (error_of e)) view
-      (stop-cause (record { setting = x; chunks = taken; journals = journals; stores = seen }) chunks stores e closed after (can-feed x (taken ++ chunks) are) is counts (run.fed.partitions.count ∙ sym stand.count) rose)
+      → AllStand (run_over x true (taken ++ chunks)) after → ((p : ℕ) → e ≡ stop.Store p → RoseFrom closed p after) → (e ≡ stop.Memory → CountOn closed after) → IsFeedCause s chunks stores (error_of e)
+  stop-cause-of chunks after e are is counts stand rose calm = subst (λ (s : FedSeen). IsFeedCause s chunks stores (error_of e)) view
+      (stop-cause (record { setting = x; chunks = taken; journals = journals; stores = seen }) chunks stores e closed after (can-feed x (taken ++ chunks) are) is counts (run.fed.partitions.count ∙ sym stand.count) rose calm)
 
   -- what it leaves where it isn't refused: its chunks could be fed
   pub fed-all : (chunks : List DataChunk) → AreChunksOf (query_tree x.query) (taken ++ chunks) → CanFeed s.setting.query.schema (s.chunks ++ chunks)
@@ -132,16 +128,11 @@ module _ (x : Setting) (taken : List DataChunk) (journals : List (List Partition
   pub bad-untouched : stores ≡ map (λ c. c.store) closed → seen ≡ map (λ c. c.store) closed → stores ≡ s.stores
   bad-untouched is found = is ∙ sym found ∙ ap (λ (s : FedSeen). s.stores) view
 
-  -- no count of faults fell
-  pub none-fell : (after : List PartitionSeen) → stores ≡ map (λ c. c.store) after → seen ≡ map (λ c. c.store) closed → length after ≡ length closed → CountOn closed after → NoneFell s.stores stores
-  none-fell after is found long on = subst (λ (s : FedSeen). NoneFell s.stores stores) view (subst (λ l. NoneFell l stores) (sym found) (subst (NoneFell (map (λ c. c.store) closed)) (sym is) (record { count = count; each = by closed refl }))) where
-    count : length (map (λ (c : PartitionSeen). c.store) after) ≡ length (map (λ (c : PartitionSeen). c.store) closed)
-    count = length-map after (λ (c : PartitionSeen). c.store) ∙ long ∙ sym (length-map closed (λ (c : PartitionSeen). c.store))
+  -- no store failed
+  pub none-failed : (after : List PartitionSeen) → stores ≡ map (λ c. c.store) after → seen ≡ map (λ c. c.store) closed → length after ≡ length closed → CountOn closed after → NoneFailed s.stores stores
+  none-failed after is found long on = subst (λ (s : FedSeen). NoneFailed s.stores stores) view
+      (subst (λ l. NoneFailed l stores) (sym found) (subst (NoneFailed (map (λ c. c.store) closed)) (sym is) (calm-stores closed after long on)))
 
-    by : (ps : List PartitionSeen) → closed ≡ ps → (p : ℕ) → p < length (map (λ (c : PartitionSeen). c.store) closed)
-        → (slice_index_or (map (λ c. c.store) closed) p no_store).faults ≤ (slice_index_or (map (λ c. c.store) after) p no_store).faults
-    by [] e p lt = absurd (omega (arith, lt, length-map closed (λ (c : PartitionSeen). c.store), ap (λ (l : List PartitionSeen). length l) e))
-    by (d ∷ ps) e p lt =
-        let here : p < length closed = omega (arith, lt, length-map closed (λ (c : PartitionSeen). c.store)) in
-        subst (λ (a : StoreSeen). a.faults ≤ (slice_index_or (map (λ c. c.store) after) p no_store).faults) (sym (get_or-map (λ (c : PartitionSeen). c.store) closed p d no_store here))
-        (subst (λ (b : StoreSeen). (slice_index_or closed p d).store.faults ≤ b.faults) (sym (get_or-map (λ (c : PartitionSeen). c.store) after p d no_store (omega (arith, here, long)))) (on p d here))
+  -- nor where there is no room for marks
+  pub early-cause : (chunks : List DataChunk) → stores ≡ map (λ c. c.store) closed → seen ≡ map (λ c. c.store) closed → IsFeedCause s chunks stores error.Memory
+  early-cause chunks is found = calm-same s.stores stores (bad-untouched is found)

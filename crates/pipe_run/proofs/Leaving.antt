@@ -54,24 +54,29 @@ module _ (r : Run) (faults : List ℕ) (same : length faults ≡ length r.stores
     closed_run = λ is. let all = ended.closed_run is in record { count = all.count; each = λ w d lt. let one = all.each w d lt in record { shape = one.shape; holds = one.holds; none_waits = one.none_waits } };
   }
 
--- a count that rose since the round began rose since the partitions that it took over
+-- the count of the first that rose since the round began is the first since the partitions taken over
 pub rose-uncounted : (r : Run) (before after : List PartitionSeen) (p : ℕ) → length before ≡ length r.stores → length r.stores ≡ r.limits.partitions
     → RoseAt (counted_from r (map (λ c. c.store.faults) before)) p after → RoseFrom before p after
 rose-uncounted r before after p same count rose =
     let long : length (map (λ c. c.store.faults) before) ≡ length r.stores = length-map before (λ (c : PartitionSeen). c.store.faults) ∙ same in
-    let lt : p < length r.stores = omega (arith, rose.0, count) in
-    let here : p < length before = omega (arith, lt, same) in (
-      here,
-      λ d. subst (λ n. Rose n (slice_index_or after p d).store.faults)
+    let lt : p < length r.stores = omega (arith, rose.exists, count) in
+    let here : p < length before = omega (arith, lt, same) in
+    record {
+      exists = here;
+      rose = λ d. subst (λ n. Rose n (slice_index_or after p d).store.faults)
           (faults-at r.stores (map (λ c. c.store.faults) before) p long lt ∙ get_or-map (λ (c : PartitionSeen). c.store.faults) before p d 0 here)
-          (rose.1 d),
-    )
+          (rose.rose d);
+      least = λ k d less.
+          rose.least k d less
+          ∙ faults-at r.stores (map (λ c. c.store.faults) before) k long (omega (arith, less, lt))
+          ∙ get_or-map (λ (c : PartitionSeen). c.store.faults) before k d 0 (omega (arith, less, here));
+    }
 
--- and one that is no lower than the round began is no lower than that of the partitions taken over
+-- and one that is as the round began is that of the partition taken over
 pub counted-on : (r : Run) (before after : List PartitionSeen) → length before ≡ length r.stores → length after ≡ length before
     → AreCounted (counted_from r (map (λ c. c.store.faults) before)) after → CountOn before after
 counted-on r before after same count counted p d lt =
     let long : length (map (λ c. c.store.faults) before) ≡ length r.stores = length-map before (λ (c : PartitionSeen). c.store.faults) ∙ same in
-    subst (λ n. n ≤ (slice_index_or after p d).store.faults)
-    (faults-at r.stores (map (λ c. c.store.faults) before) p long (omega (arith, lt, same)) ∙ get_or-map (λ (c : PartitionSeen). c.store.faults) before p d 0 lt)
-    (counted p d (omega (arith, lt, count)))
+    counted p d (omega (arith, lt, count))
+    ∙ faults-at r.stores (map (λ c. c.store.faults) before) p long (omega (arith, lt, same))
+    ∙ get_or-map (λ (c : PartitionSeen). c.store.faults) before p d 0 lt

@@ -19,6 +19,7 @@ pub mod Ended
 pub mod Running
 pub mod Taking
 pub mod Leaving
+pub mod Counted
 pub mod LimitFacts
 pub mod Openings
 pub mod Feeding

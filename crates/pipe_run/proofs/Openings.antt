@@ -26,7 +26,7 @@ use Rattle.pipe_global.specs.Partition.{IsRunnable, no_store, PartitionSeen}
 use Rattle.pipe_global.specs.Shares.{share_of, SharesSeen}
 use Rattle.pipe_workers.specs.declared.paused.PausedWorker.{PausedWorker}
 use Rattle.pipe_run.specs.Fed.{AreCounted, AreRested, AreWholePartitions, IsFedRun, IsUnused}
-use Rattle.pipe_run.specs.Feeding.{NoneFell}
+use Rattle.pipe_run.specs.Failing.{NoneFailed}
 use Rattle.pipe_run.specs.Rounds.{AreWholeShares}
 use Rattle.pipe_run.specs.Setting.{run_over, Setting}
 use Rattle.pipe_run.proofs.Ended.{all-partitions}
@@ -129,11 +129,11 @@ begun-fed x closed rests generic few limits groupable stores former whole count 
   rows_are = refl;
 }
 
--- no count of faults is lower than the stores had
-pub none-fallen : (x : Setting) (closed : List PartitionSeen) → length closed ≡ length x.stores → AreCounted (run_over x true []) closed → NoneFell x.stores (map (λ c. c.store) closed)
-none-fallen x closed long counted = record { count = length-map closed (λ (c : PartitionSeen). c.store) ∙ long; each = by closed refl } where
-  by : (ps : List PartitionSeen) → closed ≡ ps → (p : ℕ) → p < length x.stores → (slice_index_or x.stores p no_store).faults ≤ (slice_index_or (map (λ c. c.store) closed) p no_store).faults
+-- no store has failed
+pub none-before : (x : Setting) (closed : List PartitionSeen) → length closed ≡ length x.stores → AreCounted (run_over x true []) closed → NoneFailed x.stores (map (λ c. c.store) closed)
+none-before x closed long counted = record { count = length-map closed (λ (c : PartitionSeen). c.store) ∙ long; each = by closed refl } where
+  by : (ps : List PartitionSeen) → closed ≡ ps → (p : ℕ) → p < length x.stores → (slice_index_or (map (λ c. c.store) closed) p no_store).faults ≡ (slice_index_or x.stores p no_store).faults
   by [] e p lt = absurd (omega (arith, lt, long, ap (λ (l : List PartitionSeen). length l) e))
   by (d ∷ ps) e p lt =
       let here : p < length closed = omega (arith, lt, long) in
-      subst (λ (b : StoreSeen). (slice_index_or x.stores p no_store).faults ≤ b.faults) (sym (get_or-map (λ (c : PartitionSeen). c.store) closed p d no_store here)) (counted p d here)
+      ap (λ (b : StoreSeen). b.faults) (get_or-map (λ (c : PartitionSeen). c.store) closed p d no_store here) ∙ counted p d here

@@ -1,6 +1,6 @@
 -- How a run over all its chunks at once ends.
 use Rattle.std.proofs.Common.{◌≡◌, ◌∙◌, ◌<◌, ℕ, Bool, true, false, List, [], ◌∷◌, ◌++◌, length, map, refl, sym, ap, subst, arith, length-append, Option, None, Some, Result, Ok, Err, ⊎_elim}
-use Rattle.std.specs.Prelude.{IfErr, IfOk, is_some}
+use Rattle.std.specs.Prelude.{IfErr, IfOk, is_some, OnOk}
 use Rattle.std.specs.List.{All, flat_map, slice_index_or}
 use Rattle.std.proofs.lemmas.Bool.{false≢true}
 use Rattle.std.proofs.lemmas.List.{append-nil, get_or_append_left, length-map}
@@ -32,11 +32,12 @@ use Rattle.pipe_run.specs.declared.output.GroupByOutput.{GroupByOutput}
 use Rattle.pipe_run.specs.Answered.{HaveWholeFrames, IsAnswered}
 use Rattle.pipe_run.specs.Finish.{HasPutUntold, IsFinishCause}
 use Rattle.pipe_run.specs.Fed.{FedSeen}
-use Rattle.pipe_run.specs.Feeding.{chunks_reached, IsBadChunks, IsFeedCause, NoneFell}
+use Rattle.pipe_run.specs.Failing.{NoneFailed}
+use Rattle.pipe_run.specs.Feeding.{chunks_reached, IsBadChunks, IsFeedCause}
 use Rattle.pipe_run.specs.Refusals.{AllHaveFields, AreFewChunks, AreMany, IsBeginCause, IsFirstMisfit, limits_fit}
 use Rattle.pipe_run.specs.Setting.{run_over, Setting}
 use Rattle.pipe_run.specs.WholeRun.{CanBegin, CanRunOver, EndsRun, IsRunCause, LeavesStores, NoneRose, setting_fits, setting_suits}
-use Rattle.pipe_run.proofs.Endings.{rose-later}
+use Rattle.pipe_run.proofs.Counted.{calm-twice, first-later}
 use Rattle.pipe_run.proofs.LimitFacts.{fit-count, fit-limits}
 
 -- ---- frames of an open run are frames of the closed one
@@ -160,7 +161,7 @@ is-before x s setting none =
     ap {B = FedSeen} (λ (y : Setting). record { setting = y; chunks = s.chunks; journals = s.journals; stores = s.stores }) setting
     ∙ ap {B = FedSeen} (λ (l : List DataChunk). record { setting = x; chunks = l; journals = s.journals; stores = s.stores }) none
 
-module _ (x : Setting) (journals : List (List PartitionEvent)) (found : List StoreSeen) (chunks : List DataChunk) (stores : List StoreSeen) (can : CanRunOver x chunks) (fell : NoneFell x.stores found) where
+module _ (x : Setting) (journals : List (List PartitionEvent)) (found : List StoreSeen) (chunks : List DataChunk) (stores : List StoreSeen) (can : CanRunOver x chunks) (calm : NoneFailed x.stores found) where
   some : 0 < x.limits.buffer_size
   some = (fit-limits x.limits (length x.actions) (map (λ (s : StoreSeen). s.held) x.stores) can.begin.fit).buffer
 
@@ -177,9 +178,7 @@ module _ (x : Setting) (journals : List (List PartitionEvent)) (found : List Sto
   fed-cause : (e : PipeError) → IsFeedCause (before_any x journals found) chunks stores e → HaveWholeFrames (run_over x true (chunks_reached (before_any x journals found) chunks e)) stores → IsRunCause x chunks stores e
   fed-cause (error.Schema i) cause back = absurd (fit-misfit x.query.schema chunks i can.feed.fit cause)
   fed-cause error.TooLarge cause back = absurd (few-many chunks can.feed.few cause.1)
-  fed-cause (error.Store p) cause back =
-      let lt : p < length x.stores = omega (arith, cause.1, stores-long x stores can.begin.fit back.count) in
-      (can, cause.1, rose-later (slice_index_or x.stores p no_store).faults (slice_index_or found p no_store).faults (slice_index_or stores p no_store).faults (fell.each p lt) cause.2)
+  fed-cause (error.Store p) cause back = (can, first-later x.stores found stores p calm cause.1)
   fed-cause error.Memory cause back = can.begin.fit
   fed-cause error.Limits cause back = absurd cause
   fed-cause (error.Query f) cause back = absurd cause
@@ -188,7 +187,7 @@ module _ (x : Setting) (journals : List (List PartitionEvent)) (found : List Sto
 
 -- ---- refused as it was finished
 
-module _ (x : Setting) (chunks : List DataChunk) (s : FedSeen) (stores : List StoreSeen) (setting : s.setting ≡ x) (fed : s.chunks ≡ chunks) (can : CanRunOver x chunks) (fell : NoneFell x.stores s.stores) where
+module _ (x : Setting) (chunks : List DataChunk) (s : FedSeen) (stores : List StoreSeen) (setting : s.setting ≡ x) (fed : s.chunks ≡ chunks) (can : CanRunOver x chunks) (calm : NoneFailed x.stores s.stores) where
   end-left : (e : PipeError) → IsFinishCause s stores e → HaveWholeFrames (run_over s.setting false s.chunks) stores → LeavesStores x chunks stores e
   end-left e cause back = by e cause (subst (λ (y : Setting). HaveWholeFrames (run_over y false chunks) stores) setting (subst (λ l. HaveWholeFrames (run_over s.setting false l) stores) fed back)) where
     by : (e : PipeError) → IsFinishCause s stores e → HaveWholeFrames (run_over x false chunks) stores → LeavesStores x chunks stores e
@@ -202,9 +201,7 @@ module _ (x : Setting) (chunks : List DataChunk) (s : FedSeen) (stores : List St
     by error.TooLarge cause back = absurd cause
 
   end-cause : (e : PipeError) → length stores ≡ length x.stores → IsFinishCause s stores e → IsRunCause x chunks stores e
-  end-cause (error.Store p) long cause =
-      let low = fell.each p (omega (arith, cause.0, long)) in
-      (can, cause.0, rose-later (slice_index_or x.stores p no_store).faults (slice_index_or s.stores p no_store).faults (slice_index_or stores p no_store).faults low cause.1)
+  end-cause (error.Store p) long cause = (can, first-later x.stores s.stores stores p calm cause)
   end-cause (error.Damaged p n) long cause = (can, cause.0, subst (λ (y : Setting). HasPutUntold (slice_index_or y.stores p no_store) (slice_index_or stores p no_store) n) setting cause.1)
   end-cause error.Memory long cause = can.begin.fit
   end-cause error.Limits long cause = absurd cause
@@ -223,7 +220,7 @@ only-memory x chunks stores (error.Query f) cause left can telling none = absurd
 only-memory x chunks stores error.Sink cause left can telling none = absurd (false≢true (sym cause.2 ∙ can.begin.suited))
 only-memory x chunks stores (error.Schema i) cause left can telling none = absurd (fit-misfit x.query.schema chunks i can.feed.fit cause.1)
 only-memory x chunks stores error.TooLarge cause left can telling none = absurd (few-many chunks can.feed.few cause.2)
-only-memory x chunks stores (error.Store p) cause left can telling none = absurd (none p cause.1 cause.2)
+only-memory x chunks stores (error.Store p) cause left can telling none = absurd (none p cause.1.exists cause.1.rose)
 only-memory x chunks stores (error.Damaged p n) cause left can telling none =
     let lt : p < length x.stores = omega (arith, cause.1, stores-long x stores can.begin.fit left.count) in
     absurd (false≢true (sym (ap is_some cause.2.untold) ∙ telling p no_store lt))
@@ -236,6 +233,7 @@ refused : (x : Setting) (chunks : List DataChunk) (stores : List StoreSeen) (e :
 refused x chunks stores e cause left = record {
   made = tt;
   answered = tt;
+  unfailed = tt;
   cause = cause;
   left = left;
   complete = only-memory x chunks stores e cause left;
@@ -258,27 +256,28 @@ chunks-ends x chunks stores (error.Damaged p n) begin same bad misfit large = ab
 pub memory-ends : (x : Setting) (chunks : List DataChunk) (stores : List StoreSeen) → setting_fits x ≡ true → stores ≡ x.stores → EndsRun x chunks (Err error.Memory) stores
 memory-ends x chunks stores fit same = refused x chunks stores error.Memory fit (subst (HaveWholeFrames (run_over x false chunks)) (sym same) (untouched-frames x chunks fit))
 
-pub feed-ends : (x : Setting) (chunks : List DataChunk) (s : FedSeen) (stores : List StoreSeen) (e : PipeError) → CanRunOver x chunks → s.setting ≡ x → s.chunks ≡ [] → NoneFell x.stores s.stores → IsFeedCause s chunks stores e
+pub feed-ends : (x : Setting) (chunks : List DataChunk) (s : FedSeen) (stores : List StoreSeen) (e : PipeError) → CanRunOver x chunks → s.setting ≡ x → s.chunks ≡ [] → NoneFailed x.stores s.stores → IsFeedCause s chunks stores e
     → HaveWholeFrames (run_over s.setting true (chunks_reached s chunks e)) stores → EndsRun x chunks (Err e) stores
-feed-ends x chunks s stores e can setting none fell cause back =
+feed-ends x chunks s stores e can setting none calm cause back =
     let is = is-before x s setting none in
     let why : IsFeedCause (before_any x s.journals s.stores) chunks stores e = subst (λ (s : FedSeen). IsFeedCause s chunks stores e) is cause in
     let leaves : HaveWholeFrames (run_over x true (chunks_reached (before_any x s.journals s.stores) chunks e)) stores = subst (λ (s : FedSeen). HaveWholeFrames (run_over s.setting true (chunks_reached s chunks e)) stores) is back in
-    refused x chunks stores e (fed-cause x s.journals s.stores chunks stores can fell e why leaves) (fed-left x s.journals s.stores chunks stores can fell e why leaves)
+    refused x chunks stores e (fed-cause x s.journals s.stores chunks stores can calm e why leaves) (fed-left x s.journals s.stores chunks stores can calm e why leaves)
 
-pub finish-ends : (x : Setting) (chunks : List DataChunk) (s : FedSeen) (result : Result GroupByOutput PipeError) (stores : List StoreSeen) → s.setting ≡ x → s.chunks ≡ chunks → CanRunOver x chunks → NoneFell x.stores s.stores
-    → IfOk result (λ out. IsAnswered (run_over s.setting false s.chunks) out stores) → IfErr result (λ e. IsFinishCause s stores e) → IfErr result (λ e. HaveWholeFrames (run_over s.setting false s.chunks) stores)
+pub finish-ends : (x : Setting) (chunks : List DataChunk) (s : FedSeen) (result : Result GroupByOutput PipeError) (stores : List StoreSeen) → s.setting ≡ x → s.chunks ≡ chunks → CanRunOver x chunks → NoneFailed x.stores s.stores
+    → IfOk result (λ out. IsAnswered (run_over s.setting false s.chunks) out stores) → OnOk result (NoneFailed s.stores stores) → IfErr result (λ e. IsFinishCause s stores e) → IfErr result (λ e. HaveWholeFrames (run_over s.setting false s.chunks) stores)
     → EndsRun x chunks result stores
-finish-ends x chunks s (Ok out) stores setting fed can fell answered cause back = record {
+finish-ends x chunks s (Ok out) stores setting fed can calm answered unfailed cause back = record {
   made = can;
   answered = subst (λ (y : Setting). IsAnswered (run_over y false chunks) out stores) setting (subst (λ l. IsAnswered (run_over s.setting false l) out stores) fed answered);
+  unfailed = calm-twice x.stores s.stores stores calm unfailed;
   cause = tt;
   left = tt;
   complete = λ _ _ _. tt;
 }
-finish-ends x chunks s (Err e) stores setting fed can fell answered cause back =
+finish-ends x chunks s (Err e) stores setting fed can calm answered unfailed cause back =
     let count : length stores ≡ x.limits.partitions = back.count ∙ ap (λ (y : Setting). y.limits.partitions) setting in
-    refused x chunks stores e (end-cause x chunks s stores setting fed can fell e (stores-long x stores can.begin.fit count) cause) (end-left x chunks s stores setting fed can fell e cause back)
+    refused x chunks stores e (end-cause x chunks s stores setting fed can calm e (stores-long x stores can.begin.fit count) cause) (end-left x chunks s stores setting fed can calm e cause back)
 
 -- ---- what its calls say of the setting
 
@@ -288,13 +287,3 @@ pub fits-setting : {A V : Type 0} (seen : A → StoreSeen) (items : V → List S
 fits-setting {A = A} seen items q l lists rules stores now n same alike =
     ap (λ k. limits_fit l k (map (λ (s : StoreSeen). s.held) (map seen stores))) (length-map lists items ∙ sym same)
     ∙ ap (λ (held : List ℕ). limits_fit l n held) (map-map (λ (s : StoreSeen). s.held) seen stores ∙ ap (λ (xs : List A). map (λ s. (seen s).held) xs) (sym alike))
-
--- no count fell in two calls
-pub fell-twice : (a b c : List StoreSeen) → NoneFell a b → NoneFell b c → NoneFell a c
-fell-twice a b c first second = record {
-  count = second.count ∙ first.count;
-  each = λ p lt.
-      let one = first.each p lt in
-      let two = second.each p (omega (arith, lt, first.count)) in
-      omega (arith, one, two);
-}

@@ -1,11 +1,11 @@
 -- Partitions that are finished side by side: a local table is cut for them, each gives its groups, and all of them are the answer.
-use Rattle.std.proofs.Common.{◌≡◌, ◌≢◌, ◌∙◌, ◌+◌, ◌%◌, ◌<◌, ◌==◌, ℕ, Bool, true, false, not, List, [], ◌∷◌, ◌++◌, length, map, refl, sym, ap, subst, append_assoc, arith, cond, ◌-◌, Option, None, Some, ◌⊎◌, inl, inr}
+use Rattle.std.proofs.Common.{◌≡◌, ◌≢◌, ◌∙◌, ◌+◌, ◌%◌, ◌<◌, ◌==◌, ℕ, Bool, true, false, not, List, [], ◌∷◌, ◌++◌, length, map, refl, sym, ap, subst, append_assoc, arith, cond, ◌-◌, Option, None, Some, ◌⊎◌, inl, inr, zero, suc, length-append}
 use Rattle.std.specs.Prelude.{Err, if◌then◌else◌, nat_lt, Ok, Result}
 use Rattle.std.specs.Option.{option_or}
 use Rattle.std.specs.List.{All, Contains, filter, slice_index_or}
 use Rattle.std.proofs.lemmas.Bool.{cases_eq, eq-eqb, eqb-true, false≢true, le-ltb, lt-ltb, ltb-false, ltb-true, ne_eqb}
 use Rattle.std.proofs.lemmas.List.{get_or_append_left, get_or-append_right, get_or-map, length-map, map-append}
-use Rattle.std.proofs.lemmas.List.Elements.{All-filter, All-nil, Contains-append_right}
+use Rattle.std.proofs.lemmas.List.Elements.{All-filter, All-nil}
 use Rattle.pipe_columns.specs.Causes.{Rose}
 use Rattle.pipe_columns.specs.Frame.{frame_of}
 use Rattle.pipe_columns.specs.Key.{fold_bytes}
@@ -37,6 +37,7 @@ use Rattle.pipe_global.specs.Finishing.{CanFinish, GivesPlaced, IsCause, KeepsRe
 use Rattle.pipe_global.specs.Partition.{PartitionSeen}
 use Rattle.pipe_global.proofs.RunFacts.{length-kept}
 use Rattle.pipe_run.specs.Ending.{AreSamePartitions}
+use Rattle.pipe_run.specs.Fed.{CountOn}
 use Rattle.pipe_run.specs.Given.{HasRows, IsAt, IsSource, SourceSeen, StandsForPart}
 use Rattle.pipe_run.specs.Sources.{ArePlacedParts, IsGiveCause, IsPlacedFrame}
 use Rattle.pipe_run.specs.Stacking.{all_frames}
@@ -196,11 +197,17 @@ taken-err None placed e given old new all is err so_far = record {
 }
 taken-err (Some first) placed e given old new all is err so_far = so_far
 
--- the first refusal is among what was given
-pub first-given : (given : List (Result PlacedGroups BatchError)) (e : BatchError) → IsFirstRefusal given e → Contains given (Err e)
-first-given given e first =
-    subst (λ (l : List (Result PlacedGroups BatchError)). Contains l (Err e)) (sym first.is)
-    (Contains-append_right (map Ok first.front) (Err e ∷ first.rest) (Err e) (0, omega arith, refl))
+-- a refusal behind groups
+at-refusal : (front : List PlacedGroups) (rest : List (Result PlacedGroups BatchError)) (e : BatchError) (d : Result PlacedGroups BatchError) → slice_index_or (map Ok front ++ Err e ∷ rest) (length front) d ≡ Err e
+at-refusal [] rest e d = refl
+at-refusal (g ∷ front) rest e d = at-refusal front rest e d
+
+-- and the groups in front of it
+in-front : (front : List PlacedGroups) (rest : List (Result PlacedGroups BatchError)) (e : BatchError) (d : Result PlacedGroups BatchError) (k : ℕ) → k < length front
+    → (g : PlacedGroups) × (slice_index_or (map Ok front ++ Err e ∷ rest) k d ≡ Ok g)
+in-front [] rest e d k lt = absurd (omega (arith, lt))
+in-front (g ∷ front) rest e d zero lt = (g, refl)
+in-front (g ∷ front) rest e d (suc k) lt = in-front front rest e d k (omega (arith, lt))
 
 -- ---- all partitions
 
@@ -264,37 +271,55 @@ module _ {T : Type 0} (partition : T → PartitionSeen) (mine : T → Table) (gi
           (subst (KeepsRest (partition (slice_index_or old p d))) (sym (after-at p d e within)) (done p d within).kept));
     }
 
-    -- a refusal is that of a partition
-    pub tasks-cause : (e : BatchError) → Contains (map given new) (Err e) → IsGiveCause s (record s { partitions = after }) e
-    tasks-cause e there =
-        let p = there.0 in
-        let within : p < length old = omega (arith, there.1, length-map new given, count) in
+    -- where one gave groups its store didn't fail
+    calm-at : (p : ℕ) (d : T) (x : PartitionSeen) (g : PlacedGroups) → p < length old → given (slice_index_or new p d) ≡ Ok g → (slice_index_or after p x).store.faults ≡ (slice_index_or s.partitions p x).store.faults
+    calm-at p d x g lt is =
+        let gave : GaveOrRefused (partition (slice_index_or old p d)) (mine (slice_index_or old p d)) (partition (slice_index_or new p d)) (Ok g) =
+        subst (GaveOrRefused (partition (slice_index_or old p d)) (mine (slice_index_or old p d)) (partition (slice_index_or new p d))) is (done p d lt).gave in
+        ap (λ (y : PartitionSeen). y.store.faults) (after-at p d x lt) ∙ gave.2 ∙ ap (λ (y : PartitionSeen). y.store.faults) (sym (at p d x lt))
+
+    -- the first refusal is that of a partition
+    pub tasks-cause : (e : BatchError) → IsFirstRefusal (map given new) e → IsGiveCause s (record s { partitions = after }) e
+    tasks-cause e first =
+        let p : ℕ = length first.front in
+        let many : length (map given new) ≡ length (map Ok first.front ++ Err e ∷ first.rest) = ap (λ (l : List (Result PlacedGroups BatchError)). length l) first.is in
+        let within : p < length old = omega (arith, many, length-append (map Ok first.front) (Err e ∷ first.rest), length-map {B = Result PlacedGroups BatchError} first.front Ok, length-map new given, count) in
         some-task p within (λ d.
-        let is_err : given (slice_index_or new p d) ≡ Err e = sym (get_or-map given new p d (Err e) (omega (arith, within, count))) ∙ there.2 in
+        let is_err : given (slice_index_or new p d) ≡ Err e =
+        sym (get_or-map given new p d (Err e) (omega (arith, within, count)))
+        ∙ ap (λ (l : List (Result PlacedGroups BatchError)). slice_index_or l p (Err e)) first.is ∙ at-refusal first.front first.rest e (Err e) in
         let cause : IsCause (partition (slice_index_or old p d)) (partition (slice_index_or new p d)) e =
         subst (GaveOrRefused (partition (slice_index_or old p d)) (mine (slice_index_or old p d)) (partition (slice_index_or new p d))) is_err (done p d within).gave in
-        of-cause e p d within (placed-at p d within).number cause)
+        let front : (k : ℕ) (x : PartitionSeen) → k < p → (slice_index_or after k x).store.faults ≡ (slice_index_or s.partitions k x).store.faults =
+        λ k x less.
+        let here : k < length old = omega (arith, less, within) in
+        let ok = in-front first.front first.rest e (Err e) k less in
+        calm-at k d x ok.0 here
+        (sym (get_or-map given new k d (Err e) (omega (arith, here, count))) ∙ ap (λ (l : List (Result PlacedGroups BatchError)). slice_index_or l k (Err e)) first.is ∙ ok.1) in
+        of-cause e p d within (placed-at p d within).number front cause)
       where
-        of-cause : (e : BatchError) (p : ℕ) (d : T) → p < length old → (partition (slice_index_or old p d)).number ≡ p → IsCause (partition (slice_index_or old p d)) (partition (slice_index_or new p d)) e
+        of-cause : (e : BatchError) (p : ℕ) (d : T) → p < length old → (partition (slice_index_or old p d)).number ≡ p
+            → ((k : ℕ) (x : PartitionSeen) → k < p → (slice_index_or after k x).store.faults ≡ (slice_index_or s.partitions k x).store.faults) → IsCause (partition (slice_index_or old p d)) (partition (slice_index_or new p d)) e
             → IsGiveCause s (record s { partitions = after }) e
-        of-cause (batch_error.Store n) p d lt number cause =
+        of-cause (batch_error.Store n) p d lt number front cause =
             let here : n ≡ p = cause.0 ∙ number in
             subst (λ k. IsGiveCause s (record s { partitions = after }) (batch_error.Store k)) (sym here) (
               omega (arith, none),
-              (
-                omega (arith, lt, long),
-                λ x. subst (λ (y : PartitionSeen). Rose y.store.faults (slice_index_or after p x).store.faults) (sym (at p d x lt))
-                    (subst (λ (y : PartitionSeen). Rose (partition (slice_index_or old p d)).store.faults y.store.faults) (sym (after-at p d x lt)) cause.1),
-              ),
+              record {
+                exists = omega (arith, lt, long);
+                rose = λ x. subst (λ (y : PartitionSeen). Rose y.store.faults (slice_index_or after p x).store.faults) (sym (at p d x lt))
+                    (subst (λ (y : PartitionSeen). Rose (partition (slice_index_or old p d)).store.faults y.store.faults) (sym (after-at p d x lt)) cause.1);
+                least = front;
+              },
             )
-        of-cause (batch_error.Damaged n m) p d lt number cause =
+        of-cause (batch_error.Damaged n m) p d lt number front cause =
             let here : n ≡ p = cause.0 ∙ number in
             subst (λ k. IsGiveCause s (record s { partitions = after }) (batch_error.Damaged k m)) (sym here) (
               omega (arith, none),
               omega (arith, lt, long),
               λ x. subst (λ (y : PartitionSeen). (y.store.told ≡ None) × Contains (map (λ (k : Mark). k.number) y.marks) m) (sym (at p d x lt)) (cause.1, cause.2),
             )
-        of-cause batch_error.Memory p d lt number cause = tt
+        of-cause batch_error.Memory p d lt number front cause = tt
 
     module _ (placed : List PlacedGroups) (all : map Ok placed ≡ map given new) where
       -- what is given is of each
@@ -308,6 +333,17 @@ module _ {T : Type 0} (partition : T → PartitionSeen) (mine : T → Table) (gi
           ∙ ap (λ (l : List (Result PlacedGroups BatchError)). slice_index_or l p (Ok g)) (sym all)
           ∙ get_or-map Ok placed p g (Ok g) (omega (arith, lt, tasks-count, long)) in
           subst (GaveOrRefused (partition (slice_index_or old p d)) (mine (slice_index_or old p d)) (partition (slice_index_or new p d))) here (done p d lt).gave
+
+      -- and no store failed
+      pub tasks-calm : CountOn s.partitions after
+      tasks-calm p x lt = by placed refl where
+        within : p < length old
+        within = omega (arith, lt, long)
+
+        by : (gs : List PlacedGroups) → placed ≡ gs → (slice_index_or after p x).store.faults ≡ (slice_index_or s.partitions p x).store.faults
+        by [] e = absurd (omega (arith, lt, tasks-count, ap (λ (l : List PlacedGroups). length l) e))
+        by (g ∷ gs) e = some-task p within (λ d.
+            ap (λ (y : PartitionSeen). y.store.faults) (after-at p d x within) ∙ (gave p d g within).2 ∙ ap (λ (y : PartitionSeen). y.store.faults) (sym (at p d x within)))
 
       -- frames of the query's columns
       pub tasks-frames : All (IsPlacedFrame (query_tree s.query)) placed

@@ -21,9 +21,10 @@ use Rattle.pipe_groups.proofs.HoldFacts.{holds-part, holds-same}
 use Rattle.pipe_keyed.specs.Tables.{Table}
 use Rattle.pipe_tables.specs.Tables.{lies_in}
 use Rattle.pipe_global.specs.declared.batch_error.BatchError.{BatchError}
-use Rattle.pipe_global.specs.Finishing.{CanFinish, CanGather, IsCause, IsLeftOf, IsRestOf, KeepsRest, other_rows, own_rows, StandAsBefore, StandFor, StandMoved, StandsForRows, StandTogether}
+use Rattle.pipe_global.specs.Finishing.{CanFinish, CanGather, HasNoFault, IsCause, IsLeftOf, IsRestOf, KeepsRest, other_rows, own_rows, StandAsBefore, StandFor, StandMoved, StandsForRows, StandTogether}
 use Rattle.pipe_global.specs.Partition.{PartitionSeen, spilled_all}
 use Rattle.pipe_global.proofs.RunFacts.{length-kept}
+use Rattle.pipe_run.specs.Fed.{CountOn}
 use Rattle.pipe_run.specs.Given.{HasRows, IsAt, IsSource, KeepsSource, SourceSeen, StandsForPart, StandsForParts}
 
 -- ---- a local table without the rows of a partition
@@ -130,6 +131,15 @@ keeps-itself x = record {
   store = record { told = refl; held = refl; sure = refl; path = refl; faults = omega arith };
   others = refl;
 }
+
+-- nor has its store failed; and where that of the one that was asked hasn't, none has
+pub calm-asked : (s : SourceSeen) (y : PartitionSeen) → s.given < length s.partitions → HasNoFault (slice_index_or s.partitions s.given y) y → CountOn s.partitions (slice_set s.partitions s.given y)
+calm-asked s y lt calm p d below = by (cases_eq p s.given) where
+  by : (p ≡ s.given) ⊎ (p ≢ s.given) → (slice_index_or (slice_set s.partitions s.given y) p d).store.faults ≡ (slice_index_or s.partitions p d).store.faults
+  by (inl e) =
+      ap (λ (x : PartitionSeen). x.store.faults) (get_or-set_at s.partitions s.given p y d e lt) ∙ calm
+      ∙ ap (λ (x : PartitionSeen). x.store.faults) (ap (λ k. slice_index_or s.partitions k y) (sym e) ∙ get_or_default s.partitions p y d below)
+  by (inr apart) = ap (λ (x : PartitionSeen). x.store.faults) (get_or-set_other s.partitions s.given p y d apart)
 
 -- the query stays, and the other partitions
 pub keeps-asked : (s : SourceSeen) (y : PartitionSeen) (local : Table) (slice : Option (ℕ × ℕ)) (given : ℕ) → s.given < length s.partitions → KeepsRest (slice_index_or s.partitions s.given y) y

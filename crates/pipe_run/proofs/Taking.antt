@@ -13,7 +13,7 @@ use Rattle.pipe_global.specs.Shares.{SharesSeen}
 use Rattle.pipe_workers.specs.declared.paused.PausedWorker.{PausedWorker}
 use Rattle.pipe_workers.specs.Rounds.{IsRoundOf}
 use Rattle.pipe_workers.specs.Workers.{TakesTurns}
-use Rattle.pipe_run.specs.Fed.{AllStand, IsFed}
+use Rattle.pipe_run.specs.Fed.{AllStand, AreCounted, IsFed}
 use Rattle.pipe_run.specs.Rounds.{StandReady}
 use Rattle.pipe_run.specs.Setting.{run_over, Setting}
 use Rattle.pipe_run.proofs.Carrying.{carried, faults-at, onto}
@@ -40,6 +40,10 @@ module _ (x : Setting) (o : Bool) (before more : List DataChunk) (closed : List 
         sound = is.sound;
         faults = sym (faults-at x.stores (faults_of closed) p same here ∙ get_or-map (λ (c : PartitionSeen). c.store.faults) closed p d 0 lt);
       }
+
+  -- and no store has failed
+  pub take-counted : AreCounted run closed
+  take-counted p d lt = (take-over p d lt).faults
 
   -- the partitions stand for the run
   pub take-stand : AllStand run closed

@@ -14,8 +14,9 @@ pub record AreSamePartitions (before after : List PartitionSeen) : Type 0 where
   pub each : (p : ℕ) (d : PartitionSeen) → p < length before
       → KeepsRest (slice_index_or before p d) (slice_index_or after p d)
 
--- why a run that has ended has no answer: a store's faults rose meanwhile; or a store doesn't tell, and
--- the frame that is named is one that the run put there; or memory ran out
+-- why a run that has ended has no answer: the store that is named is the first whose faults rose
+-- meanwhile; or a store doesn't tell, and the frame that is named is one that the run put there; or
+-- memory ran out
 abbrev pub IsAnswerCause : Run → List PartitionSeen → List PartitionSeen → BatchError → Type 0
 IsAnswerCause r before after (batch_error.Store p) = RoseFrom before p after
 IsAnswerCause r before after (batch_error.Damaged p n) =

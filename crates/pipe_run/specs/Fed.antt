@@ -1,5 +1,5 @@
 -- What a run that is fed in rounds keeps between its calls.
-use Rattle.std.specs.Prelude.{◌≡◌, ◌<◌, ◌≤◌, ◌^◌, ℕ, false, true, List, [], length, slice_index_or}
+use Rattle.std.specs.Prelude.{◌≡◌, ◌<◌, ◌^◌, ℕ, false, true, List, [], length, slice_index_or}
 use Rattle.pipe_columns.specs.declared.data_chunk.DataChunk.{DataChunk}
 use Rattle.pipe_aggs.specs.QueryTrees.{query_tree}
 use Rattle.pipe_model.specs.Rows.{AreChunksOf, total_height}
@@ -98,26 +98,33 @@ pub record AllStand (r : Run) (closed : List PartitionSeen) : Type 0 where
   pub each : (p : ℕ) (d : PartitionSeen) → p < length closed
       → IsReplayed r p (slice_index_or closed p d)
 
--- the count of faults of a partition's store rose since the run
-abbrev pub RoseAt : Run → ℕ → List PartitionSeen → Type 0
-RoseAt r p closed = (p < r.limits.partitions) × ((d : PartitionSeen)
-    → Rose (store_of r p).faults (slice_index_or closed p d).store.faults)
+-- since the run the count of faults of a partition's store rose, and of no one in front of it
+pub record RoseAt (r : Run) (p : ℕ) (closed : List PartitionSeen) : Type 0 where
+  pub exists : p < r.limits.partitions
+  pub rose :
+      (d : PartitionSeen) → Rose (store_of r p).faults (slice_index_or closed p d).store.faults
+  pub least : (k : ℕ) (d : PartitionSeen) → k < p
+      → (slice_index_or closed k d).store.faults ≡ (store_of r k).faults
 
--- the count of faults of a partition's store rose since these partitions
-abbrev pub RoseFrom : List PartitionSeen → ℕ → List PartitionSeen → Type 0
-RoseFrom before p closed = (p < length before) × ((d : PartitionSeen)
-    → Rose (slice_index_or before p d).store.faults (slice_index_or closed p d).store.faults)
+-- since these partitions the count of faults of a store rose, and of no one in front of it
+pub record RoseFrom (before : List PartitionSeen) (p : ℕ) (closed : List PartitionSeen)
+    : Type 0 where
+  pub exists : p < length before
+  pub rose : (d : PartitionSeen)
+      → Rose (slice_index_or before p d).store.faults (slice_index_or closed p d).store.faults
+  pub least : (k : ℕ) (d : PartitionSeen) → k < p
+      → (slice_index_or closed k d).store.faults ≡ (slice_index_or before k d).store.faults
 
 -- ---- counts of faults
 
--- no store's count of faults is lower than the run found it
+-- each store's count of faults is as the run found it
 abbrev pub AreCounted : Run → List PartitionSeen → Type 0
 AreCounted r closed =
     (p : ℕ) (d : PartitionSeen) → p < length closed
-    → (store_of r p).faults ≤ (slice_index_or closed p d).store.faults
+    → (slice_index_or closed p d).store.faults ≡ (store_of r p).faults
 
--- none is lower than it was before
+-- each is as it was before
 abbrev pub CountOn : List PartitionSeen → List PartitionSeen → Type 0
 CountOn before closed =
     (p : ℕ) (d : PartitionSeen) → p < length before
-    → (slice_index_or before p d).store.faults ≤ (slice_index_or closed p d).store.faults
+    → (slice_index_or closed p d).store.faults ≡ (slice_index_or before p d).store.faults

@@ -1,11 +1,10 @@
 -- Why a feed was refused, and what it leaves of the stores.
-use Rattle.std.specs.Prelude.{◌≡◌, ◌<◌, ◌≤◌, ℕ, List, ◌++◌, length, slice_index_or, ⊤}
+use Rattle.std.specs.Prelude.{List, ◌++◌, ⊤}
 use Rattle.pipe_columns.specs.declared.data_chunk.DataChunk.{DataChunk}
-use Rattle.pipe_columns.specs.Causes.{Rose}
 use Rattle.pipe_plan.specs.Run.{StoreSeen}
-use Rattle.pipe_global.specs.Partition.{no_store}
 use Rattle.pipe_run.specs.declared.error.PipeError.{PipeError}
 use Rattle.pipe_run.specs.declared.error.PipeError.TheVariants as error
+use Rattle.pipe_run.specs.Failing.{IsFirstFailed, NoneFailed}
 use Rattle.pipe_run.specs.Fed.{FedSeen}
 use Rattle.pipe_run.specs.Refusals.{AllHaveFields, AreMany, CanFeed, IsFirstMisfit}
 
@@ -14,16 +13,16 @@ abbrev pub all_chunks : FedSeen → List DataChunk → List DataChunk
 all_chunks s chunks = s.chunks ++ chunks
 
 -- why a feed is refused: a chunk is the first that doesn't fit, counted over all rounds; or all fit and
--- are too many; or they can be fed, and a store's faults rose in this call; or memory ran out
+-- are too many; or they can be fed, and the store that is named is the first whose faults rose in this
+-- call; or no store's did, and memory ran out
 abbrev pub IsFeedCause : FedSeen → List DataChunk → List StoreSeen → PipeError → Type 0
 IsFeedCause s chunks stores (error.Schema i) =
     IsFirstMisfit s.setting.query.schema (all_chunks s chunks) i
 IsFeedCause s chunks stores error.TooLarge =
     AllHaveFields s.setting.query.schema (all_chunks s chunks) × AreMany (all_chunks s chunks)
 IsFeedCause s chunks stores (error.Store p) =
-    CanFeed s.setting.query.schema (all_chunks s chunks) × (p < length stores)
-    × Rose (slice_index_or s.stores p no_store).faults (slice_index_or stores p no_store).faults
-IsFeedCause s chunks stores error.Memory = ⊤
+    CanFeed s.setting.query.schema (all_chunks s chunks) × IsFirstFailed s.stores stores p
+IsFeedCause s chunks stores error.Memory = NoneFailed s.stores stores
 IsFeedCause s chunks stores error.Limits = ⊥
 IsFeedCause s chunks stores (error.Query f) = ⊥
 IsFeedCause s chunks stores error.Sink = ⊥
@@ -50,9 +49,3 @@ IsBadChunks error.Limits = ⊥
 IsBadChunks (error.Query f) = ⊥
 IsBadChunks error.Sink = ⊥
 IsBadChunks (error.Damaged p n) = ⊥
-
--- there are as many stores, and none's count of faults fell
-pub record NoneFell (before after : List StoreSeen) : Type 0 where
-  pub count : length after ≡ length before
-  pub each : (p : ℕ) → p < length before
-      → (slice_index_or before p no_store).faults ≤ (slice_index_or after p no_store).faults

@@ -1,10 +1,10 @@
 -- Why a run that was fed gives no answer.
 use Rattle.std.specs.Prelude.{◌≡◌, ◌<◌, ◌≤◌, ℕ, None, List, length, slice_index_or, ⊤}
-use Rattle.pipe_columns.specs.Causes.{Rose}
 use Rattle.pipe_plan.specs.Run.{StoreSeen}
 use Rattle.pipe_global.specs.Partition.{no_store}
 use Rattle.pipe_run.specs.declared.error.PipeError.{PipeError}
 use Rattle.pipe_run.specs.declared.error.PipeError.TheVariants as error
+use Rattle.pipe_run.specs.Failing.{IsFirstFailed}
 use Rattle.pipe_run.specs.Fed.{FedSeen}
 
 -- a store doesn't tell, and a frame of this number was put since
@@ -13,11 +13,10 @@ pub record HasPutUntold (former now : StoreSeen) (n : ℕ) : Type 0 where
   pub first : former.held ≤ n
   pub last : n < now.held
 
--- why a run that was fed gives no answer: a store's faults rose since; or a store doesn't tell, and the
--- frame that is named is one that the run put there; or memory ran out
+-- why a run that was fed gives no answer: the store that is named is the first whose faults rose since;
+-- or a store doesn't tell, and the frame that is named is one that the run put there; or memory ran out
 abbrev pub IsFinishCause : FedSeen → List StoreSeen → PipeError → Type 0
-IsFinishCause s stores (error.Store p) = (p < length stores)
-    × Rose (slice_index_or s.stores p no_store).faults (slice_index_or stores p no_store).faults
+IsFinishCause s stores (error.Store p) = IsFirstFailed s.stores stores p
 IsFinishCause s stores (error.Damaged p n) = (p < length stores)
     × HasPutUntold (slice_index_or s.setting.stores p no_store) (slice_index_or stores p no_store) n
 IsFinishCause s stores error.Memory = ⊤

@@ -1,6 +1,7 @@
 pub mod Setting
 pub mod Refusals
 pub mod Fed
+pub mod Failing
 pub mod Answered
 pub mod Given
 pub mod Ending

@@ -17,7 +17,7 @@ use Rattle.pipe_global.specs.declared.batch_error.BatchError.{BatchError}
 use Rattle.pipe_global.specs.declared.batch_error.BatchError.TheVariants as batch_error
 use Rattle.pipe_global.specs.Partition.{PartitionSeen}
 use Rattle.pipe_run.specs.Ending.{AreSamePartitions}
-use Rattle.pipe_run.specs.Fed.{RoseFrom}
+use Rattle.pipe_run.specs.Fed.{CountOn, RoseFrom}
 use Rattle.pipe_run.specs.Given.{partition_chunks, frame_of_keys, HasRows, is_used_up, SourceSeen}
 
 -- its partitions; where order is kept, the placed groups of those that were asked, which wait for the
@@ -116,13 +116,14 @@ pub record KeepsAsked (s new : SourceSeen) : Type 0 where
   pub partitions : AreSamePartitions s.partitions new.partitions
   pub given : s.given ≤ new.given
 
--- the partitions that weren't asked are as before
-abbrev pub LeavesOthers : SourceSeen → SourceSeen → Type 0
-LeavesOthers s new = (p : ℕ) (d : PartitionSeen) → new.given ≤ p
-    → slice_index_or new.partitions p d ≡ slice_index_or s.partitions p d
+-- the partitions that weren't asked are as before, and each store's count of faults
+pub record LeavesOthers (s new : SourceSeen) : Type 0 where
+  pub others : (p : ℕ) (d : PartitionSeen) → new.given ≤ p
+      → slice_index_or new.partitions p d ≡ slice_index_or s.partitions p d
+  pub calm : CountOn s.partitions new.partitions
 
--- why nothing was given: of a partition that was still to be asked the store's faults rose; or the
--- store doesn't tell, and the frame that is named has a mark; or memory ran out
+-- why nothing was given: of a partition that was still to be asked the store's faults rose, and of none
+-- in front of it; or the store doesn't tell, and the frame that is named has a mark; or memory ran out
 abbrev pub IsGiveCause : SourceSeen → SourceSeen → BatchError → Type 0
 IsGiveCause s new (batch_error.Store p) = (s.given ≤ p) × RoseFrom s.partitions p new.partitions
 IsGiveCause s new (batch_error.Damaged p n) =

@@ -6,7 +6,7 @@ use Rattle.pipe_groups.specs.Holds.{Holds}
 use Rattle.pipe_keyed.specs.Tables.{Table}
 use Rattle.pipe_tables.specs.Tables.{lies_in}
 use Rattle.pipe_global.specs.declared.batch_error.BatchError.{BatchError}
-use Rattle.pipe_global.specs.Finishing.{GivesOwnPlaced, GivesPlaced, IsCause, KeepsRest, own_rows, StandFor}
+use Rattle.pipe_global.specs.Finishing.{GivesOwnPlaced, GivesPlaced, HasNoFault, IsCause, KeepsRest, own_rows, StandFor}
 use Rattle.pipe_global.specs.Partition.{PartitionSeen}
 
 -- a table holds those of the rows of another whose keys lie in partition p, out of so many
@@ -15,12 +15,13 @@ pub record IsPartOf (partitions p : ℕ) (local part : Table) : Type 0 where
   pub holds : (rows : List SpillRow) → Holds local.shape.prototypes local.groups rows
       → Holds local.shape.prototypes part.groups (filter (λ r. lies_in partitions p r.key) rows)
 
--- a partition gave the groups of its rows and of the local ones of its keys, or was refused for its cause
+-- a partition gave the groups of its rows and of the local ones of its keys, and its store didn't fail,
+-- or it was refused for its cause
 abbrev pub GaveOrRefused : PartitionSeen → Table → PartitionSeen → Result PlacedGroups BatchError → Type 0
 GaveOrRefused s local new (Ok g) =
     ((rows locals : List SpillRow) → StandFor s local rows locals
     → GivesPlaced s.table.shape (rows ++ own_rows s locals) g.frame g.firsts)
-    × GivesOwnPlaced s g.frame g.firsts
+    × GivesOwnPlaced s g.frame g.firsts × HasNoFault s new
 GaveOrRefused s local new (Err e) = IsCause s new e
 
 -- a partition was finished

@@ -11,6 +11,7 @@ use Rattle.pipe_run.specs.declared.error.PipeError.{PipeError}
 use Rattle.pipe_run.specs.declared.error.PipeError.TheVariants as error
 use Rattle.pipe_run.specs.declared.output.GroupByOutput.{GroupByOutput}
 use Rattle.pipe_run.specs.Answered.{HaveWholeFrames, IsAnswered}
+use Rattle.pipe_run.specs.Failing.{IsFirstFailed, NoneFailed}
 use Rattle.pipe_run.specs.Finish.{HasPutUntold}
 use Rattle.pipe_run.specs.Refusals.{AllHaveFields, AreMany, CanFeed, IsFirstMisfit, limits_fit, suits_keys}
 use Rattle.pipe_run.specs.Setting.{run_over, Setting}
@@ -36,8 +37,8 @@ pub record CanRunOver (x : Setting) (chunks : List DataChunk) : Type 0 where
 
 -- why a run over chunks was refused. Limits, a fault of the query, a kind of sink that doesn't suit the
 -- keys, a chunk that doesn't fit and too many rows or chunks are told in this order, each only where it
--- is so; then a store's faults rose; or a store doesn't tell, and the frame that is named is one that
--- the run put there; or memory ran out
+-- is so; then the store that is named is the first whose faults rose; or a store doesn't tell, and the
+-- frame that is named is one that the run put there; or memory ran out
 abbrev pub IsRunCause : Setting → List DataChunk → List StoreSeen → PipeError → Type 0
 IsRunCause x chunks stores error.Limits = setting_fits x ≡ false
 IsRunCause x chunks stores (error.Query f) =
@@ -48,8 +49,8 @@ IsRunCause x chunks stores (error.Schema i) =
     CanBegin x × IsFirstMisfit x.query.schema chunks i
 IsRunCause x chunks stores error.TooLarge =
     CanBegin x × AllHaveFields x.query.schema chunks × AreMany chunks
-IsRunCause x chunks stores (error.Store p) = CanRunOver x chunks × (p < length stores)
-    × Rose (slice_index_or x.stores p no_store).faults (slice_index_or stores p no_store).faults
+IsRunCause x chunks stores (error.Store p) =
+    CanRunOver x chunks × IsFirstFailed x.stores stores p
 IsRunCause x chunks stores (error.Damaged p n) = CanRunOver x chunks × (p < length stores)
     × HasPutUntold (slice_index_or x.stores p no_store) (slice_index_or stores p no_store) n
 IsRunCause x chunks stores error.Memory = setting_fits x ≡ true
@@ -71,12 +72,14 @@ abbrev pub NoneRose : List StoreSeen → List StoreSeen → Type 0
 NoneRose before after = (p : ℕ) → p < length after
     → Rose (slice_index_or before p no_store).faults (slice_index_or after p no_store).faults → ⊥
 
--- how a run over chunks ends: where it is answered it could be made, and else its cause is told; and
--- where it can be made, all stores tell and no count of faults rose, it is answered or memory ran out
+-- how a run over chunks ends: where it is answered it could be made, and no count of faults is another;
+-- else its cause is told; and where it can be made, all stores tell and no count of faults rose, it is
+-- answered or memory ran out
 pub record EndsRun (x : Setting) (chunks : List DataChunk) (result : Result GroupByOutput PipeError)
     (stores : List StoreSeen) : Type 0 where
   pub made : OnOk result (CanRunOver x chunks)
   pub answered : IfOk result (λ out. IsAnswered (run_over x false chunks) out stores)
+  pub unfailed : OnOk result (NoneFailed x.stores stores)
   pub cause : IfErr result (λ e. IsRunCause x chunks stores e)
   pub left : IfErr result (λ e. LeavesStores x chunks stores e)
   pub complete : CanRunOver x chunks → All (λ s. tells s ≡ true) x.stores → NoneRose x.stores stores

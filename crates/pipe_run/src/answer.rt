@@ -1,6 +1,6 @@
 //! The answer of a run that has ended.
 
-ghost use Rattle.std.specs.Prelude.{◌≡◌, ◌<◌, ◌^◌, All, IfErr, IfOk, List, ℕ, false, length, map, slice_index_or, true};
+ghost use Rattle.std.specs.Prelude.{◌≡◌, ◌<◌, ◌^◌, All, IfErr, IfOk, List, OnOk, ℕ, false, length, map, slice_index_or, true};
 ghost use Rattle.pipe_aggs.specs.QueryTrees.{query_tree};
 ghost use Rattle.pipe_columns.specs.Row.{Row};
 ghost use Rattle.pipe_model.specs.Answer.{answer, answer_of};
@@ -9,7 +9,7 @@ ghost use Rattle.pipe_plan.specs.Run.{tells};
 ghost use Rattle.pipe_spill.specs.Store.{HasHeld};
 ghost use Rattle.pipe_global.specs.Partition.{IsRunnable};
 ghost use Rattle.pipe_run.specs.Ending.{AreSamePartitions, IsAnswerCause};
-ghost use Rattle.pipe_run.specs.Fed.{AreWholePartitions, HaveKept};
+ghost use Rattle.pipe_run.specs.Fed.{AreWholePartitions, CountOn, HaveKept};
 ghost use Rattle.pipe_run.specs.Given.{HasRows, IsSource, joined_frames};
 ghost use Rattle.pipe_run.specs.Setting.{run_over};
 ghost use Rattle.pipe_run.specs.Sources.{chunks_left, HasAllRows, IsGiveCause, KeepsAsked, unasked};
@@ -50,6 +50,7 @@ fn joined_chunks<S: SpillStore + Drop>(
     ensures frame { IfOk result (λ f. (rs : List Row) → HasAllRows rs source.old
         → f ≡ joined_frames (query_tree query.now) (chunks_left rs source.old)) }
     ensures kept { KeepsAsked source.old.asked source.new.asked }
+    ensures calm { OnOk result (CountOn source.old.asked.partitions source.new.asked.partitions) }
     ensures cause { IfErr result (λ e. IsGiveCause source.old.asked source.new.asked e) }
 {
     let Ok(mut frame) = DataFrame::empty_with_schema(alloc, query.output_schema()) else {
@@ -87,6 +88,7 @@ fn answer_in_turn<S: SpillStore + Drop>(
         → HasRows rs (unasked query.now closed.items local slice)
         → f ≡ answer_of rs (query_tree query.now) (length closed.items)) }
     ensures kept { AreSamePartitions closed.items result.1.items }
+    ensures calm { OnOk result.0 (CountOn closed.items result.1.items) }
     ensures cause { IfErr result.0 (λ e. IsGiveCause (unasked query.now closed.items local slice)
         (unasked query.now result.1.items local slice) e) }
 {
@@ -113,6 +115,7 @@ fn answer_of_parts<S: SpillStore + Drop + Send, H: Threads + Sync>(
         → HasRows rs (unasked query.now closed.items local (query_tree query.now).slice)
         → f ≡ answer_of rs (query_tree query.now) (length closed.items)) }
     ensures kept { AreSamePartitions closed.items result.1.items }
+    ensures calm { OnOk result.0 (CountOn closed.items result.1.items) }
     ensures cause { IfErr result.0 (λ e. IsGiveCause
         (unasked query.now closed.items local (query_tree query.now).slice)
         (unasked query.now result.1.items local (query_tree query.now).slice) e) }
@@ -144,6 +147,7 @@ pub(crate) fn answer_of_run<S: SpillStore + Drop + Send, H: Threads + Sync>(
         → f ≡ answer (map (λ c. c.value) chunks.now) (query_tree begun.now.query)
         begun.now.limits.partitions) }
     ensures kept { AreSamePartitions closed.items result.1.items }
+    ensures calm { OnOk result.0 (CountOn closed.items result.1.items) }
     ensures cause { IfErr result.0 (λ e. IsAnswerCause
         (run_over begun.now false (map (λ c. c.value) chunks.now)) closed.items result.1.items e) }
 {

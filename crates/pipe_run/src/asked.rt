@@ -7,6 +7,7 @@ ghost use Rattle.pipe_columns.specs.Row.{Row};
 ghost use Rattle.pipe_model.specs.Output.{output_schema};
 ghost use Rattle.pipe_model.specs.Partitions.{groups_in};
 ghost use Rattle.pipe_groups.specs.QueryRows.{ArePlacedRows};
+ghost use Rattle.pipe_run.specs.Fed.{CountOn};
 ghost use Rattle.pipe_run.specs.Given.{HasGivenNext, HasRows, is_used_up, IsSource, KeepsSource};
 ghost use Rattle.pipe_run.specs.Sources.{IsPlacedFrame};
 ghost use Rattle.pipe_global.specs.Finishing.{IsCause};
@@ -131,6 +132,7 @@ impl<'a, S: SpillStore + Drop> AskedPartitions<'a, S> {
         ensures fields { IfOk result
             (λ c. FitsSchema (output_schema (query_tree self.old.query)) c.frame) }
         ensures kept { OnOk result (KeepsSource self.old self.new (self.old.given + 1)) }
+        ensures calm { OnOk result (CountOn self.old.partitions self.new.partitions) }
         ensures refused { OnErr result (KeepsSource self.old self.new self.old.given) }
         ensures slice_err { OnErr result (self.new.slice ≡ self.old.slice) }
         ensures stands { (rs : List Row) → HasRows rs self.old → HasRows rs self.new }
@@ -166,6 +168,7 @@ impl<'a, S: SpillStore + Drop> AskedPartitions<'a, S> {
             g.frame g.firsts) }
         ensures frame { IfOk result (IsPlacedFrame (query_tree self.old.query)) }
         ensures kept { OnOk result (KeepsSource self.old self.new (self.old.given + 1)) }
+        ensures calm { OnOk result (CountOn self.old.partitions self.new.partitions) }
         ensures refused { OnErr result (KeepsSource self.old self.new self.old.given) }
         ensures slice { self.new.slice ≡ self.old.slice }
         ensures stands { (rs : List Row) → HasRows rs self.old → HasRows rs self.new }

@@ -8,7 +8,7 @@ ghost use Rattle.pipe_model.specs.Output.{key_types};
 ghost use Rattle.pipe_plan.specs.Run.{AreLimits, is_generic};
 ghost use Rattle.pipe_plan.specs.Stores.{stores_seen};
 ghost use Rattle.pipe_run.specs.Fed.{IsUnused};
-ghost use Rattle.pipe_run.specs.Feeding.{NoneFell};
+ghost use Rattle.pipe_run.specs.Failing.{NoneFailed};
 ghost use Rattle.pipe_run.specs.Refusals.{IsBeginCause, limits_fit, suits_keys};
 
 use crate::begun::Begun;
@@ -83,7 +83,7 @@ impl<'a, S: SpillStore + Drop + Send> GenericRun<'a, S> {
           stores = stores_seen S.held S.told S.faults S.sure S.path stores.items;
         }) }
         ensures chunks { IfOk result (λ r. r.chunks ≡ []) }
-        ensures counted { IfOk result (λ r. NoneFell
+        ensures counted { IfOk result (λ r. NoneFailed
             (stores_seen S.held S.told S.faults S.sure S.path stores.items) r.stores) }
         ensures cause { IfErr result (λ e. IsBeginCause
             (limits_fit limits.now (vec_len actions) (map (λ s. S.held s) stores.items))
@@ -124,7 +124,7 @@ impl<'a, S: SpillStore + Drop + Send> GenericRun<'a, S> {
           stores = stores_seen S.held S.told S.faults S.sure S.path stores.items;
         }) }
         ensures chunks { IfOk result (λ r. r.chunks ≡ []) }
-        ensures counted { IfOk result (λ r. NoneFell
+        ensures counted { IfOk result (λ r. NoneFailed
             (stores_seen S.held S.told S.faults S.sure S.path stores.items) r.stores) }
         ensures back { IfErr result (λ e. e.1.items ≡ stores.items) }
     {

@@ -1,9 +1,10 @@
 //! The end of a run that was fed.
 
-ghost use Rattle.std.specs.Prelude.{◌≡◌, ◌≤◌, IfErr, IfOk, false, map, vec_capacity, vec_len};
+ghost use Rattle.std.specs.Prelude.{◌≡◌, ◌≤◌, IfErr, IfOk, OnOk, false, map, vec_capacity, vec_len};
 ghost use Rattle.pipe_model.specs.Rows.{total_height};
 ghost use Rattle.pipe_plan.specs.Stores.{stores_seen};
 ghost use Rattle.pipe_run.specs.Answered.{HaveWholeFrames, IsAnswered};
+ghost use Rattle.pipe_run.specs.Failing.{NoneFailed};
 ghost use Rattle.pipe_run.specs.Fed.{IsFedRun};
 ghost use Rattle.pipe_run.specs.Finish.{IsFinishCause};
 ghost use Rattle.pipe_run.specs.Setting.{run_over};
@@ -52,6 +53,8 @@ fn finish_with<S: SpillStore + Drop + Send, G: Gate + Sync, H: Threads + Wait + 
     requires room { (vec_len room ≡ 0) × (vec_len closed ≤ vec_capacity room) }
     ensures answered { IfOk result.0 (λ out. IsAnswered
         (run_over begun.now false (map (λ c. c.value) chunks.now)) out
+        (stores_seen S.held S.told S.faults S.sure S.path result.1.items)) }
+    ensures unfailed { OnOk result.0 (NoneFailed (map (λ c. c.store) closed.items)
         (stores_seen S.held S.told S.faults S.sure S.path result.1.items)) }
     ensures cause { IfErr result.0 (λ e. IsFinishCause (record {
       setting = begun.now;
@@ -106,6 +109,8 @@ impl<'a, S: SpillStore + Drop + Send> GenericRun<'a, S> {
     ) -> (Result<GroupByOutput, PipeError>, Vec<S>)
         ensures answered { IfOk result.0 (λ out. IsAnswered
             (run_over self.entry.setting false self.entry.chunks) out
+            (stores_seen S.held S.told S.faults S.sure S.path result.1.items)) }
+        ensures unfailed { OnOk result.0 (NoneFailed self.entry.stores
             (stores_seen S.held S.told S.faults S.sure S.path result.1.items)) }
         ensures cause { IfErr result.0 (λ e. IsFinishCause self.entry
             (stores_seen S.held S.told S.faults S.sure S.path result.1.items) e) }

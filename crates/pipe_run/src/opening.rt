@@ -11,9 +11,9 @@ ghost use Rattle.pipe_run.specs.Setting.{run_over};
 use crate::begun::Begun;
 use pipe_aggs::CheckedQuery;
 use pipe_global::{Blanks, ClosedPartition, GlobalTable, Naming};
+use pipe_local::WorkerTable;
 use pipe_plan::Limits;
 use pipe_spill::SpillStore;
-use pipe_tables::ThreadLocalTable;
 use pipe_workers::PausedWorker;
 use std::alloc::{AllocError, Global};
 use std::marker::Brand;
@@ -31,7 +31,7 @@ fn unused_worker(
     requires generic { is_generic limits.now.sink ≡ true }
     ensures { IfOk result (λ w. IsUnused limits.now (shape_of (query_tree query.now)) w) }
 {
-    let made = ThreadLocalTable::new(
+    let made = WorkerTable::new(
         alloc,
         query,
         limits.partitions,

@@ -1,6 +1,6 @@
 //! One round of a run: its workers take their chunks, and the partitions come back.
 
-ghost use Rattle.std.specs.Prelude.{◌≡◌, ◌<◌, ◌≤◌, ℕ, All, IfErr, IfOk, List, length, map, true, vec_capacity, vec_len};
+ghost use Rattle.std.specs.Prelude.{◌≡◌, ◌<◌, ◌≤◌, ℕ, All, IfErr, IfOk, List, false, length, map, slice_index_or, true, vec_capacity, vec_len};
 ghost use Rattle.std.specs.List.{list_all};
 ghost use Rattle.pipe_aggs.specs.QueryTrees.{query_tree};
 ghost use Rattle.pipe_workers.specs.Rounds.{IsRoundOf};
@@ -208,6 +208,22 @@ fn work_all<
     Ok(gather(jobs, rooms))
 }
 
+/// Why a round stopped that wasn't worked to its end: a store's fault comes before want of memory.
+fn stop_of<S: SpillStore + Drop>(closed: &[ClosedPartition<S>]) -> RoundStop
+    ensures there { (p : ℕ) → result ≡ stop.Store p → p < length closed.now }
+    ensures failed { (p : ℕ) (d : _) → result ≡ stop.Store p
+        → (slice_index_or closed.now p d).failed ≡ true }
+    ensures least { (p k : ℕ) (d : _) → result ≡ stop.Store p → k < p
+        → (slice_index_or closed.now k d).failed ≡ false }
+    ensures memory { (p : ℕ) (d : _) → result ≡ stop.Memory → p < length closed.now
+        → (slice_index_or closed.now p d).failed ≡ false }
+{
+    match failed_one(closed) {
+        Some(partition) => RoundStop::Store { partition },
+        None => RoundStop::Memory,
+    }
+}
+
 /// All workers work, and the partitions come back.
 pub(crate) fn drive<
     S: SpillStore + Drop + Send,
@@ -239,6 +255,7 @@ pub(crate) fn drive<
     requires ready { StandReady R.run round.now.first rested.items shares.items }
     ensures back { IfErr result (λ e. AllStand R.run e.1.items) }
     ensures store { IfErr result (λ e. (p : ℕ) → e.0 ≡ stop.Store p → RoseAt R.run p e.1.items) }
+    ensures memory { IfErr result (λ e. e.0 ≡ stop.Memory → AreCounted R.run e.1.items) }
     ensures whole { IfOk result (λ e. AreWholePartitions R.run e.closed.items) }
     ensures counted { IfOk result (λ e. AreCounted R.run e.closed.items) }
     ensures ended { IfOk result (λ e. HaveEnded R.run e.rested.items) }
@@ -253,7 +270,9 @@ pub(crate) fn drive<
     } = match worked {
         Ok(gathered) => gathered,
         Err((AllocError, shares)) => {
-            return Err((RoundStop::Memory, table.into_partitions(rt, shares)));
+            let back = table.into_partitions(rt, shares);
+            let stop = stop_of(back.as_slice());
+            return Err((stop, back));
         }
     };
     let closed = table.into_partitions(rt, shares);

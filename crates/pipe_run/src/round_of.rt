@@ -57,6 +57,7 @@ fn round_named<
         (map (λ s. s.value) taken.now ++ chunks.now) }
     ensures back { IfErr result (λ e. AllStand R.run e.1.items) }
     ensures store { IfErr result (λ e. (p : ℕ) → e.0 ≡ stop.Store p → RoseAt R.run p e.1.items) }
+    ensures memory { IfErr result (λ e. e.0 ≡ stop.Memory → AreCounted R.run e.1.items) }
     ensures whole { IfOk result (λ e. AreWholePartitions R.run e.closed.items) }
     ensures counted { IfOk result (λ e. AreCounted R.run e.closed.items) }
     ensures ended { IfOk result (λ e. HaveEnded R.run e.rested.items) }
@@ -109,6 +110,7 @@ pub(crate) fn round<S: SpillStore + Drop + Send, G: Gate + Sync, H: Threads + Wa
         (run_over begun.now is_open (map (λ s. s.value) taken.now ++ chunks.now)) e.1.items) }
     ensures store { IfErr result (λ e. (p : ℕ) → e.0 ≡ stop.Store p
         → RoseFrom closed.items p e.1.items) }
+    ensures memory { IfErr result (λ e. e.0 ≡ stop.Memory → CountOn closed.items e.1.items) }
     ensures whole { IfOk result (λ e. AreWholePartitions
         (run_over begun.now is_open (map (λ s. s.value) taken.now ++ chunks.now)) e.closed.items) }
     ensures counted { IfOk result (λ e. CountOn closed.items e.closed.items) }

@@ -5,7 +5,8 @@ ghost use Rattle.pipe_plan.specs.Journals.{IsWhole, journal_of};
 ghost use Rattle.pipe_plan.specs.Stores.{stores_seen};
 ghost use Rattle.pipe_run.specs.Answered.{HaveReplayedFrames, HaveWholeFrames};
 ghost use Rattle.pipe_run.specs.Fed.{IsFedRun};
-ghost use Rattle.pipe_run.specs.Feeding.{chunks_reached, IsBadChunks, IsFeedCause, NoneFell};
+ghost use Rattle.pipe_run.specs.Failing.{NoneFailed};
+ghost use Rattle.pipe_run.specs.Feeding.{chunks_reached, IsBadChunks, IsFeedCause};
 ghost use Rattle.pipe_run.specs.Refusals.{CanFeed};
 ghost use Rattle.pipe_run.specs.Setting.{run_over};
 
@@ -81,7 +82,7 @@ fn fed_round<S: SpillStore + Drop + Send, G: Gate + Sync, H: Threads + Wait + Sy
     requires { IsFedRun begun.now (map (λ c. c.value) taken.now) closed.items rested.items rows }
     ensures run { IfOk result (λ r. IsFedRun begun.now (map (λ c. c.value) taken.now ++ chunks.now)
         r.closed.items r.rested.items r.rows) }
-    ensures counted { IfOk result (λ r. NoneFell (map (λ c. c.store) closed.items)
+    ensures counted { IfOk result (λ r. NoneFailed (map (λ c. c.store) closed.items)
         (map (λ c. c.store) r.closed.items)) }
     ensures cause { IfErr result (λ e. IsFeedCause (record {
       setting = begun.now;
@@ -130,7 +131,7 @@ impl<'a, S: SpillStore + Drop + Send> GenericRun<'a, S> {
         ensures chunks { IfOk result (λ r. r.0.chunks ≡ self.entry.chunks ++ chunks.items) }
         ensures fed { OnOk result
             (CanFeed self.entry.setting.query.schema (self.entry.chunks ++ chunks.items)) }
-        ensures counted { IfOk result (λ r. NoneFell self.entry.stores r.0.stores) }
+        ensures counted { IfOk result (λ r. NoneFailed self.entry.stores r.0.stores) }
         ensures cause { IfErr result (λ e. IsFeedCause self.entry chunks.items
             (stores_seen S.held S.told S.faults S.sure S.path e.1.items) e.0) }
         ensures untouched { IfErr result (λ e. IsBadChunks e.0 →
@@ -186,7 +187,7 @@ impl<'a, S: SpillStore + Drop + Send> GenericRun<'a, S> {
         ensures chunks { IfOk result (λ r. r.chunks ≡ self.entry.chunks ++ chunks.items) }
         ensures fed { OnOk result
             (CanFeed self.entry.setting.query.schema (self.entry.chunks ++ chunks.items)) }
-        ensures counted { IfOk result (λ r. NoneFell self.entry.stores r.stores) }
+        ensures counted { IfOk result (λ r. NoneFailed self.entry.stores r.stores) }
         ensures cause { IfErr result (λ e. IsFeedCause self.entry chunks.items
             (stores_seen S.held S.told S.faults S.sure S.path e.1.items) e.0) }
         ensures untouched { IfErr result (λ e. IsBadChunks e.0 →
@@ -219,6 +220,8 @@ impl<'a, S: SpillStore + Drop + Send> GenericRun<'a, S> {
             self.entry.journals (stores_seen S.held S.told S.faults S.sure S.path result.items) }
         ensures back { HaveWholeFrames (run_over self.entry.setting true self.entry.chunks)
             (stores_seen S.held S.told S.faults S.sure S.path result.items) }
+        ensures as_before { stores_seen S.held S.told S.faults S.sure S.path result.items
+            ≡ self.entry.stores }
     {
         let GenericRun {
             begun,

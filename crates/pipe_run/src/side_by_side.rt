@@ -1,6 +1,6 @@
 //! The groups of closed partitions that are finished side by side.
 
-ghost use Rattle.std.specs.Prelude.{◌≡◌, ◌<◌, All, IfErr, IfOk, List, None, false, length};
+ghost use Rattle.std.specs.Prelude.{◌≡◌, ◌<◌, All, IfErr, IfOk, List, None, OnOk, false, length};
 ghost use Rattle.pipe_aggs.specs.QueryTrees.{query_tree};
 ghost use Rattle.pipe_columns.specs.Row.{Row};
 ghost use Rattle.pipe_model.specs.Answer.{answer_of};
@@ -8,6 +8,7 @@ ghost use Rattle.pipe_model.specs.Output.{output_schema};
 ghost use Rattle.pipe_model.specs.Rows.{HaveDistinctPlaces};
 ghost use Rattle.pipe_inputs.specs.RowTypes.{IsRowOf};
 ghost use Rattle.pipe_run.specs.Ending.{AreSamePartitions};
+ghost use Rattle.pipe_run.specs.Fed.{CountOn};
 ghost use Rattle.pipe_run.specs.Given.{HasRows, IsSource};
 ghost use Rattle.pipe_run.specs.Sources.{ArePlacedParts, IsGiveCause, IsPlacedFrame, unasked};
 ghost use Rattle.pipe_run.specs.Stacking.{all_frames};
@@ -48,6 +49,7 @@ fn finish_all<S: SpillStore + Drop + Send, H: Threads + Sync>(
         → HasRows rs (unasked query.now closed.items local None)
         → ArePlacedParts (query_tree query.now) rs (length closed.items) v.items) }
     ensures kept { AreSamePartitions closed.items result.1.items }
+    ensures calm { OnOk result.0 (CountOn closed.items result.1.items) }
     ensures cause { IfErr result.0 (λ e. IsGiveCause (unasked query.now closed.items local None)
         (unasked query.now result.1.items local None) e) }
 {
@@ -123,6 +125,7 @@ pub(crate) fn answer_side_by_side<S: SpillStore + Drop + Send, H: Threads + Sync
         → HasRows rs (unasked query.now closed.items local None)
         → f ≡ answer_of rs (query_tree query.now) (length closed.items)) }
     ensures kept { AreSamePartitions closed.items result.1.items }
+    ensures calm { OnOk result.0 (CountOn closed.items result.1.items) }
     ensures cause { IfErr result.0 (λ e. IsGiveCause (unasked query.now closed.items local None)
         (unasked query.now result.1.items local None) e) }
 {

@@ -11,6 +11,4 @@ pub mod RunFacts
 pub mod MarkFacts
 pub mod PartPlaceFacts
 pub mod GaveFacts
-pub mod KeyColumnFacts
-pub mod KeysFacts
 mod KeptFacts

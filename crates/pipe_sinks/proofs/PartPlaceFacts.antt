@@ -1,7 +1,7 @@
 -- Rows of keys that ascend, in the order of places that tell a number of each key: by number, then by key.
 use Rattle.std.proofs.Common.{◌≡◌, ◌∙◌, ◌⊎◌, inl, inr, ℕ, zero, suc, ◌+◌, ◌<◌, ◌≤◌, true, false, List, [], ◌∷◌, ◌++◌, length, map, get_or, Option, Some, unwrap_or, refl, sym, ap, arith}
 use Rattle.std.specs.Cmp.{nat_cmp_is, nat_cmp_total, tied_itself}
-use Rattle.std.specs.List.{All, AllByRecursion, IsDistinct, position, position_from}
+use Rattle.std.specs.List.{All, AllByRecursion, position, position_from}
 use Rattle.std.specs.declared.cmp.Ordering.{Ordering}
 use Rattle.std.specs.declared.cmp.Ordering.TheVariants.{Less, Equal, Greater}
 use Rattle.std.specs.Ordering.{eq_by_cmp, is_eq, nat_cmp, ordering_reverse, ordering_then}
@@ -110,29 +110,6 @@ module _ (part : List AnyValue → ℕ) (whole : List (List AnyValue)) where
       let head : Place = record { chunk = part k; row = i } in
       let e : eq_by_cmp place_cmp p head ≡ false = rows-differ p head (λ q. omega (arith, q, r)) in
       rw e (place-found ks (i + 1) n (m + 1) p (omega arith) (omega (arith, r)) c ∙ ap Some (omega arith))
-
-  -- ---- no place twice
-
-  later-places : (p : Place) (i : ℕ) (ks : List (List AnyValue)) → p.row < i → AllByRecursion (λ x. eq_by_cmp place_cmp p x ≡ false) (part_places part i ks)
-  later-places p i [] lt = tt
-  later-places p i (k ∷ ks) lt = (rows-differ p (record { chunk = part k; row = i }) (λ e. omega (arith, lt, e)), later-places p (i + 1) ks (omega arith))
-
-  pub places-once : (i : ℕ) (ks : List (List AnyValue)) → IsDistinct (eq_by_cmp place_cmp) (part_places part i ks)
-  unfolding IsDistinct
-  places-once i [] = tt
-  places-once i (k ∷ ks) = (later-places (record { chunk = part k; row = i }) (i + 1) ks (omega arith), places-once (i + 1) ks)
-
-  pub places-length : (i : ℕ) (ks : List (List AnyValue)) → length (part_places part i ks) ≡ length ks
-  places-length i [] = refl
-  places-length i (k ∷ ks) = ap suc (places-length (i + 1) ks)
-
-  -- one key more
-  pub places-push : (i : ℕ) (ks : List (List AnyValue)) (k : List AnyValue) → part_places part i (ks ++ k ∷ []) ≡ part_places part i ks ++ record { chunk = part k; row = i + length ks } ∷ []
-  places-push i [] k = let e : i ≡ i + 0 = omega arith in ap (λ (n : ℕ). record { chunk = part k; row = n } ∷ []) e
-  places-push i (x ∷ xs) k =
-      let e : i + 1 + length xs ≡ i + length (x ∷ xs) = omega arith in
-      ap (λ (l : List Place). record { chunk = part x; row = i } ∷ l)
-      (places-push (i + 1) xs k ∙ ap (λ (n : ℕ). part_places part (i + 1) xs ++ record { chunk = part k; row = n } ∷ []) e)
 
   -- ---- rows by these places
 

@@ -1,5 +1,5 @@
 -- What a sink keeps of the chunks that it took, call by call.
-use Rattle.std.proofs.Common.{◌≡◌, ◌∙◌, ℕ, false, is_some, Result, Ok, Err, OnErr, ◌+◌, ◌<◌, ◌≤◌, ◌^◌, List, [], ◌∷◌, ◌++◌, map, Option, Some, None, sym, ap, subst, arith}
+use Rattle.std.proofs.Common.{◌≡◌, ◌∙◌, ℕ, Result, Ok, Err, OnErr, ◌+◌, ◌<◌, ◌≤◌, ◌^◌, List, [], ◌∷◌, ◌++◌, map, sym, ap, subst, arith}
 use Rattle.std.specs.List.{All, IsDistinct}
 use Rattle.std.proofs.lemmas.List.{append-nil}
 use Rattle.std.proofs.lemmas.List.Elements.{All-append, All-cons, All-nil, All-weaker}
@@ -12,7 +12,6 @@ use Rattle.pipe_model.specs.Rows.{chunk_rows, total_height}
 use Rattle.pipe_aggs.specs.CheckedQuery.{input_types}
 use Rattle.pipe_spill.specs.SpillRow.{AreRows, IsRow, spilled}
 use Rattle.pipe_spill.specs.declared.spill_row.SpillRow.{SpillRow}
-use Rattle.pipe_groups.specs.declared.placed_groups.PlacedGroups.{PlacedGroups}
 use Rattle.pipe_groups.specs.Groups.{AreJoined}
 use Rattle.pipe_groups.specs.Holds.{HoldFewer, Holds}
 use Rattle.pipe_groups.specs.Shape.{Shape, shape_of}
@@ -20,7 +19,7 @@ use Rattle.pipe_groups.proofs.HoldFacts.{holds-joined, holds-none}
 use Rattle.pipe_keyed.specs.TakenRows.{spilled_first}
 use Rattle.pipe_sinks.specs.ChunkTaking.{TookChunk}
 use Rattle.pipe_sinks.specs.SoleKeys.{IsSole}
-use Rattle.pipe_sinks.specs.RunLayout.{AreKept, AreTakenChunks, SinkHasTaken, HoldsChunks, spilled_rows}
+use Rattle.pipe_sinks.specs.RunLayout.{AreTakenChunks, SinkHasTaken, HoldsChunks, spilled_rows}
 use Rattle.pipe_keyed.specs.Tables.{HasGroups, HoldFewTogether, Table}
 use Rattle.pipe_sinks.specs.Runs.{ComesBehind, HaveOwnIndexes}
 use Rattle.pipe_sinks.specs.Alike.{HoldAlike}
@@ -44,14 +43,9 @@ holds-no_chunk q t shape none = record {
   typed = All-nil (IsRow t.shape.key_types t.shape.input_types);
 }
 
--- the shape of the table is that of the query
-pub kept-shape : (q : QueryTree) (taken : List DataChunk) (t : Table) (given : Option PlacedGroups) → AreKept q taken t given → t.shape ≡ shape_of q
-kept-shape q taken t None h = h.shape
-kept-shape q taken t (Some p) h = h.0.shape
-
 -- a sink that took nothing
 pub run-new : (q : QueryTree) (partitions : ℕ) (chunks : List DataChunk) (t : Table) → 0 < partitions → partitions ≤ 2 ^ 32 → IsSole (key_types q) → chunks ≡ []
-    → t.shape ≡ shape_of q → t.groups ≡ [] → SinkHasTaken q partitions chunks t None
+    → t.shape ≡ shape_of q → t.groups ≡ [] → SinkHasTaken q partitions chunks t
 run-new q partitions chunks t some few keyed none shape empty = rw none (record {
   some = some;
   few = few;
@@ -143,79 +137,57 @@ pub on-err : {A E P : Type 0} (r : Result A E) → P → OnErr r P
 on-err (Ok x) p = tt
 on-err (Err e) p = p
 
--- where nothing was given out the table holds the rows
-pub kept-none : (q : QueryTree) (taken : List DataChunk) (t : Table) (given : Option PlacedGroups) → is_some given ≡ false → AreKept q taken t given → HoldsChunks q taken t
-kept-none q taken t None e h = h
-kept-none q taken t (Some p) e h = absurd (cc)
-
-kept-again : (q : QueryTree) (taken : List DataChunk) (t : Table) (given : Option PlacedGroups) → is_some given ≡ false → HoldsChunks q taken t → AreKept q taken t given
-kept-again q taken t None e h = h
-kept-again q taken t (Some p) e h = absurd (cc)
-
-module _ (q : QueryTree) (n : ℕ) (xs : List DataChunk) (t : Table) (given : Option PlacedGroups) (h : SinkHasTaken q n xs t given) where
+module _ (q : QueryTree) (n : ℕ) (xs : List DataChunk) (t : Table) (h : SinkHasTaken q n xs t) where
   -- a sink whose table has the same groups has taken the same
-  pub run-same : (u : Table) (chunks : List DataChunk) → HasGroups t u t.groups → chunks ≡ xs → SinkHasTaken q n chunks u given
+  pub run-same : (u : Table) (chunks : List DataChunk) → HasGroups t u t.groups → chunks ≡ xs → SinkHasTaken q n chunks u
   run-same u chunks is same =
       let e : t ≡ u = λ i. record { shape = sym is.1 i; limit = sym is.2 i; groups = sym is.0 i } in
-      subst (λ (l : List DataChunk). SinkHasTaken q n l u given) (sym same) (subst (λ (x : Table). SinkHasTaken q n xs x given) e h)
+      subst (λ (l : List DataChunk). SinkHasTaken q n l u) (sym same) (subst (λ (x : Table). SinkHasTaken q n xs x) e h)
 
   -- a sink that gave everything out has taken nothing
-  pub run-given : (u : Table) (chunks : List DataChunk) (left : Option PlacedGroups) → HoldsChunks q [] u → chunks ≡ [] → left ≡ None → SinkHasTaken q n chunks u left
-  run-given u chunks left holds empty none = rw (empty, none) (record { some = h.some; few = h.few; keyed = h.keyed; chunks = taken-none q; kept = holds })
+  pub run-given : (u : Table) (chunks : List DataChunk) → HoldsChunks q [] u → chunks ≡ [] → SinkHasTaken q n chunks u
+  run-given u chunks holds empty = rw empty (record { some = h.some; few = h.few; keyed = h.keyed; chunks = taken-none q; kept = holds })
 
-  module _ (none : is_some given ≡ false) where
-    -- one whose table was emptied has taken nothing
-    pub run-emptied : (u : Table) (chunks : List DataChunk) → u.groups ≡ [] → u.shape ≡ t.shape → chunks ≡ [] → SinkHasTaken q n chunks u given
-    run-emptied u chunks groups shape empty = rw empty (record {
+  -- one whose table was emptied has taken nothing
+  pub run-emptied : (u : Table) (chunks : List DataChunk) → u.groups ≡ [] → u.shape ≡ t.shape → chunks ≡ [] → SinkHasTaken q n chunks u
+  run-emptied u chunks groups shape empty = run-given u chunks (holds-no_chunk q u (shape ∙ h.kept.shape) groups) empty
+
+  -- and one whose table took that of other chunks over has taken both
+  module _ (ys : List DataChunk) (o : Table) (taken : AreTakenChunks q ys) (holds : HoldsChunks q ys o) (few : total_height xs + total_height ys < 2 ^ 32) where
+    pub run-few : HoldFewTogether t o
+    run-few = both-few q xs ys t o h.kept holds few
+
+    pub run-both : (u : Table) (chunks : List DataChunk) → All (λ c. All (λ d. HaveOwnIndexes c d) ys) xs → AreJoined t.shape.prototypes t.groups o.groups u.groups → u.shape ≡ t.shape
+        → chunks ≡ xs ++ ys → SinkHasTaken q n chunks u
+    run-both u chunks apart joined shape both = rw both (record {
       some = h.some;
       few = h.few;
       keyed = h.keyed;
-      chunks = taken-none q;
-      kept = kept-again q [] u given none (holds-no_chunk q u (shape ∙ kept-shape q xs t given h.kept) groups);
+      chunks = taken-both q xs ys h.chunks taken apart few;
+      kept = both-held q xs ys t o h.kept holds u joined shape;
     })
 
-    -- and one whose table took that of other chunks over has taken both
-    module _ (ys : List DataChunk) (o : Table) (taken : AreTakenChunks q ys) (holds : HoldsChunks q ys o) (few : total_height xs + total_height ys < 2 ^ 32) where
-      pub run-few : HoldFewTogether t o
-      run-few = both-few q xs ys t o (kept-none q xs t given none h.kept) holds few
+  -- one whose table took the rows of a chunk has taken it too
+  module _ (c : DataChunk) (few : total_height xs + total_height (c ∷ []) < 2 ^ 32) where
+    -- there is room for its rows
+    pub room-once : HoldFewer t.shape t.groups c.frame.height
+    room-once = record { rows = spilled_rows q xs; holds = h.kept.holds; typed = h.kept.typed; few = omega (arith, few, length-spilled q xs, single-height c) }
 
-      pub run-both : (u : Table) (chunks : List DataChunk) → All (λ c. All (λ d. HaveOwnIndexes c d) ys) xs → AreJoined t.shape.prototypes t.groups o.groups u.groups → u.shape ≡ t.shape
-          → chunks ≡ xs ++ ys → SinkHasTaken q n chunks u given
-      run-both u chunks apart joined shape both = rw both (record {
-        some = h.some;
-        few = h.few;
-        keyed = h.keyed;
-        chunks = taken-both q xs ys h.chunks taken apart few;
-        kept = kept-again q (xs ++ ys) u given none (both-held q xs ys t o (kept-none q xs t given none h.kept) holds u joined shape);
-      })
-
-    -- one whose table took the rows of a chunk has taken it too
-    module _ (c : DataChunk) (few : total_height xs + total_height (c ∷ []) < 2 ^ 32) where
-      abbrev held : HoldsChunks q xs t
-      held = kept-none q xs t given none h.kept
-
-      -- there is room for its rows
-      pub room-once : HoldFewer t.shape t.groups c.frame.height
-      room-once = record { rows = spilled_rows q xs; holds = held.holds; typed = held.typed; few = omega (arith, few, length-spilled q xs, single-height c) }
-
-      pub shape-once : t.shape ≡ shape_of q
-      shape-once = held.shape
-
-      pub run-once : AreTakenChunks q (c ∷ []) → (u : Table) (chunks : List DataChunk) → All (λ x. All (λ d. HaveOwnIndexes x d) (c ∷ [])) xs → TookChunk q c t u → chunks ≡ xs ++ c ∷ [] → SinkHasTaken q n chunks u given
-      run-once taken u chunks apart took both = rw both (record {
-        some = h.some;
-        few = h.few;
-        keyed = h.keyed;
-        chunks = taken-both q xs (c ∷ []) h.chunks taken apart few;
-        kept = kept-again q (xs ++ c ∷ []) u given none (once-held q xs c t u held took);
-      })
-
-    -- one whose table holds alike has taken the same
-    pub run-alike : (u : Table) (chunks : List DataChunk) → HoldAlike t u → chunks ≡ xs → SinkHasTaken q n chunks u given
-    run-alike u chunks alike same = rw same (record {
+    pub run-once : AreTakenChunks q (c ∷ []) → (u : Table) (chunks : List DataChunk) → All (λ x. All (λ d. HaveOwnIndexes x d) (c ∷ [])) xs → TookChunk q c t u → chunks ≡ xs ++ c ∷ [] → SinkHasTaken q n chunks u
+    run-once taken u chunks apart took both = rw both (record {
       some = h.some;
       few = h.few;
       keyed = h.keyed;
-      chunks = h.chunks;
-      kept = kept-again q xs u given none (alike-held q xs t u (kept-none q xs t given none h.kept) alike);
+      chunks = taken-both q xs (c ∷ []) h.chunks taken apart few;
+      kept = once-held q xs c t u h.kept took;
     })
+
+  -- one whose table holds alike has taken the same
+  pub run-alike : (u : Table) (chunks : List DataChunk) → HoldAlike t u → chunks ≡ xs → SinkHasTaken q n chunks u
+  run-alike u chunks alike same = rw same (record {
+    some = h.some;
+    few = h.few;
+    keyed = h.keyed;
+    chunks = h.chunks;
+    kept = alike-held q xs t u h.kept alike;
+  })

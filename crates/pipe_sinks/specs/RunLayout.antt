@@ -1,20 +1,13 @@
 -- Of the proofs alone: how a sink keeps what it took.
-use Rattle.std.specs.Prelude.{◌≡◌, ◌<◌, ◌≤◌, ◌^◌, ℕ, All, true, List, [], map, Option, Some, None}
+use Rattle.std.specs.Prelude.{◌<◌, ◌≤◌, ◌^◌, ◌≡◌, ℕ, All, List, map}
 use Rattle.pipe_columns.specs.declared.data_chunk.DataChunk.{DataChunk}
-use Rattle.pipe_columns.specs.declared.any_value.AnyValue.{AnyValue}
-use Rattle.pipe_columns.specs.Frame.{FitsSchema, frame_of, HoldsTypes}
-use Rattle.pipe_columns.specs.Groups.{sorted_keys}
-use Rattle.pipe_columns.specs.Row.{Row}
-use Rattle.pipe_inputs.specs.RowTypes.{IsRowOf}
-use Rattle.pipe_model.specs.Answer.{answer_row, tuple_cmp}
-use Rattle.pipe_model.specs.Output.{key_types, output_schema}
+use Rattle.pipe_columns.specs.Frame.{FitsSchema, HoldsTypes}
+use Rattle.pipe_model.specs.Output.{key_types}
 use Rattle.pipe_model.specs.Query.{QueryTree}
 use Rattle.pipe_model.specs.Rows.{HaveDistinctPlaces, total_height}
 use Rattle.pipe_spill.specs.SpillRow.{AreRows, spilled}
 use Rattle.pipe_spill.specs.declared.spill_row.SpillRow.{SpillRow}
-use Rattle.pipe_groups.specs.declared.placed_groups.PlacedGroups.{PlacedGroups}
 use Rattle.pipe_groups.specs.Holds.{Holds}
-use Rattle.pipe_groups.specs.QueryRows.{ArePlacedRows}
 use Rattle.pipe_groups.specs.Shape.{shape_of}
 use Rattle.pipe_sinks.specs.SoleKeys.{IsSole}
 use Rattle.pipe_sinks.specs.Runs.{placed_rows}
@@ -37,29 +30,11 @@ pub record HoldsChunks (q : QueryTree) (taken : List DataChunk) (t : Table) : Ty
   pub holds : Holds t.shape.prototypes t.groups (spilled_rows q taken)
   pub typed : AreRows t.shape.key_types t.shape.input_types (spilled_rows q taken)
 
--- the distinct keys of rows, in their order
-abbrev pub keys_in_order : List Row → List (List AnyValue)
-keys_in_order rs = sorted_keys tuple_cmp (map (λ r. r.key) rs)
-
--- a table gave its groups out: their rows of the answer, in the order of their keys, with the least
--- place where rows have each, if order is kept
-pub record GaveChunks (q : QueryTree) (taken : List DataChunk) (p : PlacedGroups) : Type 0 where
-  pub frame_is : p.frame ≡ frame_of (output_schema q)
-      (map (answer_row q (placed_rows q taken)) (keys_in_order (placed_rows q taken)))
-  pub typed : All (IsRowOf q) (placed_rows q taken)
-  pub placed : q.keeps_order ≡ true
-      → ArePlacedRows q (placed_rows q taken) (keys_in_order (placed_rows q taken)) p.frame p.firsts
-
--- the rows of chunks are in a table, or were given out by it
-abbrev pub AreKept : QueryTree → List DataChunk → Table → Option PlacedGroups → Type 0
-AreKept q taken t None = HoldsChunks q taken t
-AreKept q taken t (Some p) = HoldsChunks q [] t × GaveChunks q taken p
-
 -- a sink of so many partitions has taken chunks
 pub record SinkHasTaken (q : QueryTree) (partitions : ℕ) (taken : List DataChunk) (t : Table)
-    (given : Option PlacedGroups) : Type 0 where
+    : Type 0 where
   pub some : 0 < partitions
   pub few : partitions ≤ 2 ^ 32
   pub keyed : IsSole (key_types q)
   pub chunks : AreTakenChunks q taken
-  pub kept : AreKept q taken t given
+  pub kept : HoldsChunks q taken t

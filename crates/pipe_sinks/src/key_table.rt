@@ -1,6 +1,6 @@
 //! A table of groups by key.
 
-ghost use Rattle.std.specs.Prelude.{◌≡◌, ◌<◌, ◌^◌, ◌∷◌, ◌++◌, [], IfOk, List, length, OnErr, OnOk, true};
+ghost use Rattle.std.specs.Prelude.{◌≡◌, ◌<◌, ◌≤◌, ◌^◌, ◌∷◌, ◌++◌, [], IfOk, List, length, OnErr, OnOk, true};
 ghost use Rattle.pipe_columns.specs.Key.{code};
 ghost use Rattle.pipe_columns.specs.Slice.{sliced};
 ghost use Rattle.pipe_aggs.specs.QueryTrees.{query_tree};
@@ -8,10 +8,10 @@ ghost use Rattle.pipe_inputs.specs.ChunkRows.{row_at};
 ghost use Rattle.pipe_spill.specs.KeyTypes.{AreOfTypes};
 ghost use Rattle.pipe_spill.specs.SpillRow.{IsRow, spilled};
 ghost use Rattle.pipe_spill.specs.declared.spill_row.SpillRow.{SpillRow};
-ghost use Rattle.pipe_groups.specs.Given.{in_order, IsFrameOfGroups, slice_after};
+ghost use Rattle.pipe_groups.specs.Given.{IsFrameOfGroups};
 ghost use Rattle.pipe_groups.specs.GroupRuns.{keep_no_text};
 ghost use Rattle.pipe_groups.specs.Holds.{HoldFewer, Holds};
-ghost use Rattle.pipe_groups.specs.QueryRows.{ArePlaced};
+ghost use Rattle.pipe_groups.specs.Placed.{HaveFirstsApart, in_order_of_parts, IsFrameByRow};
 ghost use Rattle.pipe_groups.specs.Shape.{shape_of};
 ghost use Rattle.pipe_sinks.specs.SoleKeys.{IsSole};
 ghost use Rattle.pipe_keyed.specs.Keyed.{IsAt};
@@ -23,7 +23,6 @@ use crate::by_value::ByValue;
 use crate::cover_lent::cover_lent;
 use pipe_aggs::CheckedQuery;
 use pipe_columns::{DataFrame, DataType};
-use pipe_groups::PlacedGroups;
 use pipe_inputs::ChunkRows;
 use pipe_keyed::{KeyedGroups, take_all};
 use std::alloc::{AllocError, Global};
@@ -156,32 +155,38 @@ impl KeyTable {
         Ok(())
     }
 
-    /// Gives the groups in the order of their keys, under a slice. None is left. Where memory is
+    /// Gives the groups in the order of their first rows, under a slice. None is left. Where memory is
     /// wanting, all stays as it was.
-    pub(crate) fn finalize(
+    pub(crate) fn finalize_by_row(
         &mut self,
-        slice: &mut Option<(usize, usize)>,
+        slice: Option<(usize, usize)>,
     ) -> Result<DataFrame, AllocError>
-        ensures frame { IfOk result (λ f. IsFrameOfGroups self.old.shape
-            (sliced slice.old (in_order self.old.groups)) f) }
+        requires { IsTable self.old → HaveFirstsApart self.old.groups }
+        ensures frame { IfOk result (λ f. IsFrameByRow self.old.shape self.old.groups slice f) }
         ensures emptied { OnOk result (HasGroups self.old self.new []) }
         ensures err { OnErr result (HasGroups self.old self.new self.old.groups) }
         ensures table { IsTable self.old }
     {
-        let frame = self.keyed.finalize(slice)?;
+        let frame = self.keyed.finalize_by_row(slice)?;
         Ok(frame)
     }
 
-    /// Gives all groups in the order of their keys, each with the least place of its rows. None is
-    /// left. Where memory is wanting, all stays as it was.
-    pub(crate) fn finalize_placed(&mut self) -> Result<PlacedGroups, AllocError>
-        ensures placed { IfOk result (λ p.
-            ArePlaced self.old.shape self.old.groups p.frame p.firsts) }
+    /// Gives the groups partition by partition, and by key in each, under a slice. None is left. Where
+    /// memory is wanting, all stays as it was.
+    pub(crate) fn finalize_by_partition(
+        &mut self,
+        partitions: usize,
+        slice: Option<(usize, usize)>,
+    ) -> Result<DataFrame, AllocError>
+        requires some { 0 < partitions }
+        requires few { partitions ≤ 2 ^ 32 }
+        ensures frame { IfOk result (λ f. IsFrameOfGroups self.old.shape
+            (sliced slice (in_order_of_parts partitions self.old.groups)) f) }
         ensures emptied { OnOk result (HasGroups self.old self.new []) }
         ensures err { OnErr result (HasGroups self.old self.new self.old.groups) }
         ensures table { IsTable self.old }
     {
-        let placed = self.keyed.finalize_placed()?;
-        Ok(placed)
+        let frame = self.keyed.finalize_by_partition(partitions, slice)?;
+        Ok(frame)
     }
 }

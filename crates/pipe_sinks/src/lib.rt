@@ -2,8 +2,6 @@
 #![tactic(auto)]
 
 mod add_chunk;
-mod by_partition;
-mod by_row;
 mod by_value;
 mod cover_lent;
 mod key_runs;

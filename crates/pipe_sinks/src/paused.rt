@@ -6,7 +6,6 @@ use crate::key_table::KeyTable;
 use crate::sink_run::SinkRun;
 use pipe_aggs::{CheckedQuery, Query};
 use pipe_columns::DataChunk;
-use pipe_groups::PlacedGroups;
 use std::marker::Model;
 use std::snapshot::Snapshot;
 
@@ -17,7 +16,6 @@ pub struct PausedSink {
     of: Snapshot<Query>,
     partitions: usize,
     table: KeyTable,
-    given: Option<PlacedGroups>,
     key: Vec<u8>,
     taken: Vec<Snapshot<DataChunk>>,
 }
@@ -37,7 +35,7 @@ impl Model for PausedSink {
     } };
 
     ghost invariant = { λ a. SinkHasTaken (query_tree a.of.value) a.partitions
-        (map (λ s. s.value) a.taken.items) a.table a.given };
+        (map (λ s. s.value) a.taken.items) a.table };
 }
 
 impl PausedSink {
@@ -50,7 +48,6 @@ impl PausedSink {
             of: _,
             partitions,
             table,
-            given,
             key,
             taken,
         } = self;
@@ -58,7 +55,6 @@ impl PausedSink {
             query,
             partitions,
             table,
-            given,
             key,
             taken,
         }
@@ -74,7 +70,6 @@ impl<'a> SinkRun<'a> {
             query,
             partitions,
             table,
-            given,
             key,
             taken,
         } = self;
@@ -82,7 +77,6 @@ impl<'a> SinkRun<'a> {
             of: Snapshot::of(query.query()),
             partitions,
             table,
-            given,
             key,
             taken,
         }

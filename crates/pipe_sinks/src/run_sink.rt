@@ -21,9 +21,6 @@ impl<'a> SinkRun<'a> {
             (self.new ≡ with_taken (self.old.taken ++ chunk.now ∷ []) self.old) }
         ensures err { OnErr result (self.new ≡ self.old) }
     {
-        if self.given.is_some() {
-            return Err(AllocError);
-        }
         let alloc = *self.taken.allocator();
         self.taken.reserve(1)?;
         let index = chunk.chunk_index;
@@ -48,9 +45,6 @@ impl<'a> SinkRun<'a> {
             (self.new ≡ with_taken (self.old.taken ++ chunk.now ∷ []) self.old) }
         ensures err { OnErr result (self.new ≡ self.old) }
     {
-        if self.given.is_some() {
-            return Err(AllocError);
-        }
         if !self.table.keep_no_text() {
             return self.take_apart(chunk);
         }
@@ -79,9 +73,6 @@ impl<'a> SinkRun<'a> {
         ensures err { OnErr result (self.new ≡ self.old) }
         ensures other_err { OnErr result (other.new ≡ other.old) }
     {
-        if self.given.is_some() || other.given.is_some() {
-            return Err(AllocError);
-        }
         self.taken.reserve(other.taken.len())?;
         self.table.combine(&mut other.table)?;
         self.taken.append(&mut other.taken).unwrap();

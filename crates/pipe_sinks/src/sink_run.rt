@@ -9,7 +9,6 @@ ghost use Rattle.pipe_sinks.specs.Runs.{with_taken};
 use crate::key_table::KeyTable;
 use pipe_aggs::CheckedQuery;
 use pipe_columns::DataChunk;
-use pipe_groups::PlacedGroups;
 use std::alloc::{AllocError, Global};
 use std::marker::Model;
 use std::snapshot::Snapshot;
@@ -19,14 +18,12 @@ const MOST: usize = 4294967296;
 
 /// What a sink of one key does, of whatever type that is: its own type alone tells `KeySink`s apart.
 /// Contracts see what it is made for and the chunks taken, though of each only a mark without bytes is
-/// kept. Groups that were given out wait here where the last step of giving them was
-/// refused; until that step succeeds no chunk is taken.
+/// kept.
 #[derive(Drop)]
 pub struct SinkRun<'a> {
     pub(crate) query: &'a CheckedQuery<'a>,
     pub(crate) partitions: usize,
     pub(crate) table: KeyTable,
-    pub(crate) given: Option<PlacedGroups>,
     pub(crate) key: Vec<u8>,
     pub(crate) taken: Vec<Snapshot<DataChunk>>,
 }
@@ -46,7 +43,7 @@ impl<'a> Model for SinkRun<'a> {
     } };
 
     ghost invariant = { λ a. SinkHasTaken (query_tree a.query.now) a.partitions
-        (map (λ s. s.value) a.taken.items) a.table a.given };
+        (map (λ s. s.value) a.taken.items) a.table };
 }
 
 impl<'a> SinkRun<'a> {
@@ -70,7 +67,6 @@ impl<'a> SinkRun<'a> {
             query,
             partitions,
             table,
-            given: None,
             key: Vec::new(alloc),
             taken: Vec::new(alloc),
         })
@@ -86,7 +82,6 @@ impl<'a> SinkRun<'a> {
             query: self.query,
             partitions: self.partitions,
             table,
-            given: None,
             key: Vec::new(alloc),
             taken: Vec::new(alloc),
         })

@@ -1,7 +1,9 @@
 //! Values out of the bytes of their codes.
 
-ghost use Rattle.std.specs.Prelude.{◌≡◌, ◌≢◌, ◌++◌, ◌∷◌, Bool, IfOk, IfSome, IsErrOf, IsNone, List, ℕ, if◌then◌else◌};
+ghost use Rattle.std.specs.Prelude.{◌≡◌, ◌≢◌, ◌++◌, ◌∷◌, Bool, false, IfOk, IfSome, IsErrOf, IsNone, List, ℕ, if◌then◌else◌};
+ghost use Rattle.pipe_columns.specs.DataType.{is_string};
 ghost use Rattle.pipe_columns.specs.Key.{code, value_code};
+ghost use Rattle.pipe_columns.specs.declared.data_type.DataType.TheVariants as dt;
 ghost use Rattle.pipe_spill.specs.declared.decode.DecodeError.TheVariants as fault;
 ghost use Rattle.pipe_spill.specs.KeyTypes.{BeginsNoValue, IsCodeOfNone, IsTuple, IsValue};
 ghost use Rattle.pipe_spill.specs.Reading.{BeginsNoTuple};
@@ -49,25 +51,54 @@ pub(crate) fn read_truth(body: &[u8]) -> Option<(bool, &[u8])>
     }
 }
 
-/// The value whose code, after the mark of a value that isn't null, stands in front.
-fn read_body(alloc: Global, body: &[u8], dtype: DataType) -> Result<(AnyValue, &[u8]), DecodeError>
-    ensures value { IfOk result (λ p. IsValue dtype p.0) }
-    ensures code { IfOk result (λ p. value_code dtype p.0 ++ p.1.now ≡ 1 ∷ body.now) }
-    ensures not_a_key { IsErrOf result fault.NotAKey → BeginsNoValue dtype (1 ∷ body.now) }
+/// The value of a type that isn't a text whose code, after the mark of a value that isn't null,
+/// stands in front.
+fn read_plain_body(body: &[u8], dtype: DataType) -> Option<(AnyValue, &[u8])>
+    requires { is_string dtype ≡ false }
+    ensures value { IfSome result (λ p. IsValue dtype p.0) }
+    ensures code { IfSome result (λ p. value_code dtype p.0 ++ p.1.now ≡ 1 ∷ body.now) }
+    ensures none { IsNone result → BeginsNoValue dtype (1 ∷ body.now) }
 {
     match dtype {
-        DataType::Boolean => match read_truth(body) {
-            Some((truth, rest)) => Ok((AnyValue::Boolean(truth), rest)),
-            None => Err(DecodeError::NotAKey),
-        },
-        DataType::String => {
+        DataType::Boolean => {
+            let (truth, rest) = read_truth(body)?;
+            Some((AnyValue::Boolean(truth), rest))
+        }
+        _ => {
+            let (number, rest) = read_number(body, dtype)?;
+            Some((AnyValue::Int(number), rest))
+        }
+    }
+}
+
+/// The value of a type that isn't a text whose code the bytes begin with, and the bytes after it.
+/// It takes no memory.
+pub fn read_plain(bytes: &[u8], dtype: DataType) -> Option<(AnyValue, &[u8])>
+    requires { is_string dtype ≡ false }
+    ensures value { IfSome result (λ p. IsValue dtype p.0) }
+    ensures code { IfSome result (λ p. value_code dtype p.0 ++ p.1.now ≡ bytes.now) }
+    ensures none { IsNone result → BeginsNoValue dtype bytes.now }
+{
+    match bytes.split_first() {
+        Some((0, rest)) => Some((AnyValue::Null, rest)),
+        Some((1, body)) => read_plain_body(body, dtype),
+        _ => None,
+    }
+}
+
+/// The text or the null whose code the bytes begin with, and the bytes after it.
+fn read_text_value(alloc: Global, bytes: &[u8]) -> Result<(AnyValue, &[u8]), DecodeError>
+    ensures value { IfOk result (λ p. IsValue dt.String p.0) }
+    ensures code { IfOk result (λ p. value_code dt.String p.0 ++ p.1.now ≡ bytes.now) }
+    ensures not_a_key { IsErrOf result fault.NotAKey → BeginsNoValue dt.String bytes.now }
+{
+    match bytes.split_first() {
+        Some((0, rest)) => Ok((AnyValue::Null, rest)),
+        Some((1, body)) => {
             let (text, rest) = read_text(alloc, body)?;
             Ok((AnyValue::Text(text), rest))
         }
-        _ => match read_number(body, dtype) {
-            Some((number, rest)) => Ok((AnyValue::Int(number), rest)),
-            None => Err(DecodeError::NotAKey),
-        },
+        _ => Err(DecodeError::NotAKey),
     }
 }
 
@@ -81,10 +112,12 @@ pub fn read_value(
     ensures code { IfOk result (λ p. value_code dtype p.0 ++ p.1.now ≡ bytes.now) }
     ensures not_a_key { IsErrOf result fault.NotAKey → BeginsNoValue dtype bytes.now }
 {
-    match bytes.split_first() {
-        Some((0, rest)) => Ok((AnyValue::Null, rest)),
-        Some((1, body)) => read_body(alloc, body, dtype),
-        _ => Err(DecodeError::NotAKey),
+    match dtype {
+        DataType::String => read_text_value(alloc, bytes),
+        _ => match read_plain(bytes, dtype) {
+            Some(read) => Ok(read),
+            None => Err(DecodeError::NotAKey),
+        },
     }
 }
 

@@ -25,8 +25,8 @@ fn count_zeros(bytes: &[u8]) -> usize {
     zeros
 }
 
-/// How many bytes the code of a value takes.
-fn value_size(value: &AnyValue, dtype: DataType) -> usize {
+/// How many bytes the code of a value takes. Room is asked for by it, and no clause rests on it.
+pub fn value_size(value: &AnyValue, dtype: DataType) -> usize {
     match value {
         AnyValue::Null => 1,
         AnyValue::Boolean(_) => 2,
@@ -50,8 +50,8 @@ fn row_size(row: &SpillRow, input_types: &[DataType]) -> usize {
     size
 }
 
-/// How many bytes some rows take in a frame.
-pub(crate) fn rows_size(rows: &[SpillRow], input_types: &[DataType]) -> usize {
+/// How many bytes some rows take in a frame. Room is asked for by it, and no clause rests on it.
+pub fn rows_size(rows: &[SpillRow], input_types: &[DataType]) -> usize {
     let mut size = 0usize;
     for row in rows {
         size = size.saturating_add(row_size(row, input_types));

@@ -24,10 +24,11 @@ mod store;
 mod values;
 mod worked;
 
-pub use decode::{DecodeError, decode_key, read_value};
+pub use decode::{DecodeError, decode_key, read_plain, read_value};
 pub use encode::{append_value, encode_key, encode_key_into};
 pub use file_store::FileStore;
 pub use frame_read::{FrameError, read_frame};
+pub use frame_size::{rows_size, value_size};
 pub use frame_write::{write_frame, write_payloads};
 pub use frames::Frames;
 pub use key_bytes::KeyBytes;

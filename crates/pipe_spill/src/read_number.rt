@@ -6,6 +6,7 @@ ghost use Rattle.pipe_columns.specs.AnyValue.{fits_number};
 ghost use Rattle.pipe_columns.specs.Key.{number_code};
 ghost use Rattle.pipe_spill.specs.Reading.{width};
 
+use crate::row_read::take_u64;
 use pipe_columns::DataType;
 
 /// How many bytes a number of the type has in its code.
@@ -29,6 +30,10 @@ fn read_bytes(body: &[u8], width: usize) -> Option<(u128, &[u8])>
     ensures bytes { IfSome result (λ p. bytes_high_first width p.0 ++ p.1.now ≡ body.now) }
     ensures none { IsNone result → length body.now < width }
 {
+    if width == 8 {
+        let (number, rest) = take_u64(body)?;
+        return Some((u128::from(number), rest));
+    }
     if body.len() < width {
         return None;
     }

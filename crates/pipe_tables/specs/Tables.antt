@@ -2,6 +2,8 @@
 use Rattle.std.specs.Prelude.{◌%◌, ◌==◌, ℕ, Bool, false, List, fold, nat_lt, Option, Some, None, filter}
 use Rattle.std.specs.List.{list_all}
 use Rattle.pipe_columns.specs.Key.{fold_bytes}
+use Rattle.pipe_columns.specs.declared.any_value.AnyValue.{AnyValue}
+use Rattle.pipe_columns.specs.declared.place.Place.{Place}
 use Rattle.pipe_running.specs.declared.function.AggregateFunction.{AggregateFunction}
 use Rattle.pipe_spill.specs.declared.spill_row.SpillRow.{SpillRow}
 use Rattle.pipe_groups.specs.Groups.{count_held, cover, Group, held_groups}
@@ -15,6 +17,10 @@ passes held (Some limit) = nat_lt limit held
 -- whether a table takes no new key
 abbrev pub is_full : Table → Bool
 is_full t = passes (count_held t.groups) t.limit
+
+-- the row of a place, of a key's code and of inputs
+abbrev pub taken_row : Place → List ℕ → List AnyValue → SpillRow
+taken_row place key values = record { place = place; key = key; values = values }
 
 -- groups with room for the key of each row
 abbrev pub cover_rows : List AggregateFunction → List SpillRow → List Group → List Group

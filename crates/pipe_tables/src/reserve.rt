@@ -30,7 +30,7 @@ fn key_bytes_of(rows: &[SpillRow]) -> Result<usize, AllocError>
 
 /// Makes a group for a key that has none, for which there is room. It is looked for where the hint
 /// says, and the hint says where it is then.
-fn cover_near(keyed: &mut KeyedGroups<ByHash>, hints: &mut Hints, key: &[u8])
+pub(crate) fn cover_near(keyed: &mut KeyedGroups<ByHash>, hints: &mut Hints, key: &[u8])
     requires { Covers keyed.old 1 (length key.now) }
     ensures groups { SameGroups keyed.old keyed.new
         (cover keyed.old.shape.prototypes key.now keyed.old.groups) }

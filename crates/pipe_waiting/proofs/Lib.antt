@@ -2,3 +2,4 @@ pub mod ReadBack
 pub mod Appending
 pub mod Giving
 pub mod FrameFacts
+pub mod PlainRead

@@ -24,7 +24,7 @@ use Rattle.pipe_spill.proofs.CodeOrder.{text_code-more}
 use Rattle.pipe_spill.proofs.RowBytes.{rows_bytes-append}
 use Rattle.pipe_spill.proofs.RowOnce.{row_least}
 use Rattle.pipe_waiting.specs.ReadRows.{number_of, put_before, read_body, read_parts, read_rows, read_row, read_signed, read_text, read_unsigned, read_value, read_values, value_before}
-use Rattle.pipe_waiting.specs.Waiting.{AreWaiting, CanWait, HasJoined, HasPushed, HoldRows, Waiting, waiting_rows}
+use Rattle.pipe_waiting.specs.Waiting.{AreWaiting, CanWait, HasPushed, HoldRows, Waiting, waiting_rows}
 
 -- ---- numbers
 
@@ -293,14 +293,6 @@ pushed types r before after can count bytes =
     let is : AreWaiting types before → AreOfRows types after.count after.bytes (waiting_rows types before ++ r ∷ []) =
     λ h. rw (count, bytes) (more types before.count before.bytes r h can) in
     record { count = count; bytes = bytes; typed = λ h. (is h).hold; rows = λ h. (is h).read }
-
--- other rows wait behind
-pub joined : (before other after : Waiting) → after.count ≡ before.count + other.count → after.bytes ≡ before.bytes ++ other.bytes → HasJoined before other after
-joined before other after count bytes =
-    let is : (types : List DataType) → AreWaiting types before → AreWaiting types other
-    → AreOfRows types after.count after.bytes (waiting_rows types before ++ waiting_rows types other) =
-    λ types h g. rw (count, bytes) (join types before.count other.count before.bytes other.bytes h g) in
-    record { count = count; bytes = bytes; typed = λ types h g. (is types h g).hold; rows = λ types h g. (is types h g).read }
 
 -- one more row waits where it was appended
 pub pushed_if : {X E : Type 0} (result : Result X E) (types : List DataType) (r : SpillRow) (before after : Waiting) → OnOk result (CanWait types r)

@@ -1,11 +1,13 @@
 -- Rows that wait as bytes, and what makes bytes those of rows.
-use Rattle.std.specs.Prelude.{◌≡◌, ◌<◌, ◌^◌, ◌+◌, ◌++◌, ◌∷◌, [], ℕ, List, All, length}
+use Rattle.std.specs.Prelude.{◌≡◌, ◌<◌, ◌^◌, ◌+◌, ◌++◌, ◌∷◌, [], ℕ, List, All, false, length}
 use Rattle.pipe_columns.specs.declared.data_type.DataType.{DataType}
 use Rattle.pipe_columns.specs.declared.place.Place.{Place}
+use Rattle.pipe_columns.specs.DataType.{is_string}
 use Rattle.pipe_columns.specs.Row.{Row}
 use Rattle.pipe_inputs.specs.ChunkRows.{row_at}
 use Rattle.pipe_spill.specs.FrameBytes.{row_bytes, rows_bytes}
 use Rattle.pipe_spill.specs.KeyTypes.{IsTuple}
+use Rattle.pipe_spill.specs.SpillRow.{Payload}
 use Rattle.pipe_spill.specs.declared.spill_row.SpillRow.{SpillRow}
 use Rattle.pipe_waiting.specs.ReadRows.{read_rows}
 
@@ -18,6 +20,14 @@ pub record Waiting : Type 0 where
 -- the rows that wait, whose inputs have these types
 abbrev pub waiting_rows : List DataType → Waiting → List SpillRow
 waiting_rows types w = read_rows types w.count w.bytes
+
+-- the payload that rows as bytes are
+abbrev pub payload_read : List DataType → Waiting → Payload
+payload_read types w = record { rows = waiting_rows types w }
+
+-- no type is that of texts
+abbrev pub HaveNoTexts : List DataType → Type 0
+HaveNoTexts types = All (λ t. is_string t ≡ false) types
 
 -- a row that can wait: its place and the length of its key have their bytes, and its inputs these types
 pub record CanWait (types : List DataType) (r : SpillRow) : Type 0 where
@@ -47,15 +57,6 @@ pub record HasPushed (types : List DataType) (r : SpillRow) (before after : Wait
   pub typed : AreWaiting types before → AreWaiting types after
   pub rows : AreWaiting types before
       → waiting_rows types after ≡ waiting_rows types before ++ r ∷ []
-
--- other rows wait behind the rows
-pub record HasJoined (before other after : Waiting) : Type 0 where
-  pub count : after.count ≡ before.count + other.count
-  pub bytes : after.bytes ≡ before.bytes ++ other.bytes
-  pub typed : (types : List DataType) → AreWaiting types before → AreWaiting types other
-      → AreWaiting types after
-  pub rows : (types : List DataType) → AreWaiting types before → AreWaiting types other
-      → waiting_rows types after ≡ waiting_rows types before ++ waiting_rows types other
 
 -- row n of a chunk as it waits: its key's code, its place and its inputs
 abbrev pub lent_row : List ℕ → Place → List Row → ℕ → SpillRow

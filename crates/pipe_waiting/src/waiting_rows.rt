@@ -4,7 +4,7 @@ ghost use Rattle.std.specs.Prelude.{◌≡◌, ◌≤◌, ◌+◌, ◌*◌, ◌+
 ghost use Rattle.std.specs.Int.{bytes_high_first};
 ghost use Rattle.pipe_columns.specs.declared.data_type.DataType.{DataType};
 ghost use Rattle.pipe_spill.specs.FrameBytes.{frame_bytes};
-ghost use Rattle.pipe_waiting.specs.Waiting.{AreWaiting, HasJoined, WaitAsBefore, waiting_rows};
+ghost use Rattle.pipe_waiting.specs.Waiting.{AreWaiting, WaitAsBefore, waiting_rows};
 
 use std::alloc::{AllocError, Global};
 use std::marker::Model;
@@ -83,14 +83,15 @@ impl WaitingRows {
         Ok(frame)
     }
 
-    /// Puts copies of other rows behind.
-    pub fn append(&mut self, other: &WaitingRows) -> Result<(), AllocError>
-        ensures joined { OnOk result (HasJoined self.old other.now self.new) }
-        ensures refused { OnErr result (WaitAsBefore self.old self.new) }
+    /// Lets the rows go. The room stays.
+    pub fn clear(&mut self)
+        ensures count { self.new.count ≡ 0 }
+        ensures bytes { self.new.bytes ≡ [] }
+        ensures typed { (types : List DataType) → AreWaiting types self.new }
+        ensures room { self.new.room ≡ self.old.room }
     {
-        self.bytes.extend_from_slice(&other.bytes)?;
-        self.count += other.count;
-        Ok(())
+        self.count = 0;
+        self.bytes.clear();
     }
 
     /// Gives memory back until at most a quarter of what the rows take is free. It is refused where

@@ -59,6 +59,7 @@ closing-begins r w x takes ready =
     record {
       worker = after.shares.worker;
       faults = after.shares.faults;
+      shape = after.table.shape;
       buffers = ap (λ (l : List (List SpillRow)). length l) after.table.waits ∙ length-map-range_with_len (waiting_of r.limits (key_types r.query) (rows_before r w (length r.chunks))) 0 r.limits.partitions;
       sent = λ q lt. absurd (omega arith);
       none = λ q lt. absurd (omega arith);
@@ -112,6 +113,7 @@ module _ (r : Run) (w p : ℕ) (t : Local) (s : SharesSeen) (takes : TakesTurns 
   closing-next h worker faults own others = record {
     worker = worker ∙ at.worker;
     faults = faults ∙ at.faults;
+    shape = at.shape;
     buffers = length-set t.buffers.rows p [] ∙ at.buffers;
     sent = λ q below. by q below (q == p) refl;
     none = none-below;

@@ -43,6 +43,7 @@ pub record IsInTurn (r : Run) (w i : ℕ) (taken : List Row) (t : Local) (s : Sh
 pub record IsClosing (r : Run) (w p : ℕ) (t : Local) (s : SharesSeen) : Type 0 where
   pub worker : s.worker ≡ w
   pub faults : s.faults ≡ no_faults r.limits.partitions
+  pub shape : t.table.shape ≡ shape_of r.query
   pub buffers : length t.buffers.rows ≡ r.limits.partitions
   pub sent : (q : ℕ) → q < p → share_of s q ≡ length (plan r w q)
   pub none : (q : ℕ) → q < p → waiting_in q t.buffers ≡ []

@@ -8,8 +8,8 @@ ghost use Rattle.pipe_workers.specs.declared.stop.WorkerStop.TheVariants as stop
 use crate::groupby::GenericGroupby2;
 use crate::shared::Shared;
 use pipe_global::{Gate, Naming, Shares};
+use pipe_local::WorkerTable;
 use pipe_spill::SpillStore;
-use pipe_tables::ThreadLocalTable;
 use std::alloc::AllocError;
 use std::sync::Wait;
 
@@ -17,7 +17,7 @@ use std::sync::Wait;
 fn send_rest<S: SpillStore + Drop, R: Naming, G: Gate, H: Wait>(
     rt: &H,
     shared: &Shared<'_, S, R, G>,
-    table: &mut ThreadLocalTable,
+    table: &mut WorkerTable,
     shares: &mut Shares<R>,
     partition: usize,
 ) -> Result<(), AllocError>
@@ -33,11 +33,12 @@ fn send_rest<S: SpillStore + Drop, R: Naming, G: Gate, H: Wait>(
     // Called for what its clauses say.
     let _query = shared.query();
     let _worker = shares.worker();
-    let Some(payload) = table.rest(partition) else {
+    let left = table.rest(partition)?;
+    let Some(payload) = left else {
         return Ok(());
     };
     let global = shared.global;
-    let Ok(()) = global.spill(rt, shared.gate, shares, partition, payload) else {
+    let Ok(()) = global.spill_waiting(rt, shared.gate, shares, partition, payload) else {
         return Err(AllocError);
     };
     Ok(())
@@ -47,7 +48,7 @@ fn send_rest<S: SpillStore + Drop, R: Naming, G: Gate, H: Wait>(
 fn send_rests<S: SpillStore + Drop, R: Naming, G: Gate, H: Wait>(
     rt: &H,
     shared: &Shared<'_, S, R, G>,
-    table: &mut ThreadLocalTable,
+    table: &mut WorkerTable,
     shares: &mut Shares<R>,
 ) -> Result<(), AllocError>
     requires closed_run { R.run.is_open ≡ false }

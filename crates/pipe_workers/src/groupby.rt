@@ -11,9 +11,9 @@ use crate::paused::PausedWorker;
 use crate::shared::Shared;
 use pipe_aggs::CheckedQuery;
 use pipe_global::{Gate, GlobalTable, Naming, Shares};
+use pipe_local::WorkerTable;
 use pipe_plan::Limits;
 use pipe_spill::SpillStore;
-use pipe_tables::ThreadLocalTable;
 use std::alloc::{AllocError, Global};
 use std::marker::Model;
 
@@ -23,7 +23,7 @@ use std::marker::Model;
 #[derive(Drop)]
 pub struct GenericGroupby2<'a, S: SpillStore + Drop, R: Naming, G: Gate> {
     pub(crate) shared: Shared<'a, S, R, G>,
-    pub(crate) table: ThreadLocalTable,
+    pub(crate) table: WorkerTable,
     pub(crate) shares: Shares<R>,
     pub(crate) turns: usize,
     pub(crate) key: Vec<u8>,
@@ -62,7 +62,7 @@ impl<'a, S: SpillStore + Drop, R: Naming, G: Gate> GenericGroupby2<'a, S, R, G> 
         ensures ready { IfOk result (λ w. IsReady R.run shares.worker 0 w) }
         ensures back { IfErr result (λ e. e.1 ≡ shares) }
     {
-        let made = ThreadLocalTable::new(
+        let made = WorkerTable::new(
             alloc,
             query,
             limits.partitions,

@@ -9,8 +9,8 @@ use crate::shared::Shared;
 use pipe_global::{Gate, Naming, Shares};
 use pipe_groups::encode_row;
 use pipe_inputs::ChunkRows;
+use pipe_local::{WorkerEnd, WorkerTable};
 use pipe_spill::SpillStore;
-use pipe_tables::{LentLocalEnd, ThreadLocalTable};
 use std::alloc::AllocError;
 use std::sync::Wait;
 
@@ -25,7 +25,7 @@ pub(crate) struct TurnRows<'a> {
 pub(crate) fn take_row<S: SpillStore + Drop, R: Naming, G: Gate, H: Wait>(
     rt: &H,
     shared: &Shared<'_, S, R, G>,
-    table: &mut ThreadLocalTable,
+    table: &mut WorkerTable,
     shares: &mut Shares<R>,
     key: &mut Vec<u8>,
     turn: &TurnRows<'_>,
@@ -50,11 +50,11 @@ pub(crate) fn take_row<S: SpillStore + Drop, R: Naming, G: Gate, H: Wait>(
         return Err(AllocError);
     }
     match table.insert_lent(key, rows, row) {
-        LentLocalEnd::Done => Ok(()),
-        LentLocalEnd::Memory => Err(AllocError),
-        LentLocalEnd::Payload(partition, payload) => {
+        WorkerEnd::Done => Ok(()),
+        WorkerEnd::Memory => Err(AllocError),
+        WorkerEnd::Payload(partition, payload) => {
             let global = shared.global;
-            let Ok(()) = global.spill(rt, shared.gate, shares, partition, payload) else {
+            let Ok(()) = global.spill_waiting(rt, shared.gate, shares, partition, payload) else {
                 return Err(AllocError);
             };
             Ok(())

@@ -17,9 +17,9 @@ use crate::stop::WorkerStop;
 use pipe_columns::DataChunk;
 use pipe_global::{Gate, Naming, Shares};
 use pipe_inputs::ChunkRows;
+use pipe_local::WorkerTable;
 use pipe_plan::SpillAction;
 use pipe_spill::SpillStore;
-use pipe_tables::ThreadLocalTable;
 use std::alloc::AllocError;
 use std::sync::Wait;
 
@@ -27,7 +27,7 @@ use std::sync::Wait;
 fn take_all<S: SpillStore + Drop, R: Naming, G: Gate, H: Wait>(
     rt: &H,
     shared: &Shared<'_, S, R, G>,
-    table: &mut ThreadLocalTable,
+    table: &mut WorkerTable,
     shares: &mut Shares<R>,
     key: &mut Vec<u8>,
     turn: &TurnRows<'_>,
@@ -54,7 +54,7 @@ fn take_all<S: SpillStore + Drop, R: Naming, G: Gate, H: Wait>(
 fn take_rows<S: SpillStore + Drop, R: Naming, G: Gate, H: Wait>(
     rt: &H,
     shared: &Shared<'_, S, R, G>,
-    table: &mut ThreadLocalTable,
+    table: &mut WorkerTable,
     shares: &mut Shares<R>,
     key: &mut Vec<u8>,
     position: usize,
@@ -76,7 +76,7 @@ fn take_rows<S: SpillStore + Drop, R: Naming, G: Gate, H: Wait>(
 pub(crate) fn take_turn<S: SpillStore + Drop, R: Naming, G: Gate, H: Wait>(
     rt: &H,
     shared: &Shared<'_, S, R, G>,
-    table: &mut ThreadLocalTable,
+    table: &mut WorkerTable,
     shares: &mut Shares<R>,
     key: &mut Vec<u8>,
     position: usize,

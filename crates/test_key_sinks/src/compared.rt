@@ -109,12 +109,27 @@ fn merge<'a, S: SoleKey>(
     sink.merge(other)
 }
 
-/// What a sink gives, asked for again where memory was wanting.
-fn finish<S: SoleKey>(sink: &mut TurnSink<'_, S>) -> Result<DataFrame, AllocError> {
-    match sink.finish() {
-        Ok(frame) => Ok(frame),
-        Err(AllocError) => sink.finish(),
+/// What a sink gives that has taken the chunks of a later one over.
+fn finish_with<'a, S: SoleKey>(
+    sink: &mut TurnSink<'a, S>,
+    later: &mut TurnSink<'a, S>,
+) -> Result<DataFrame, AllocError>
+    requires { purpose_of later.old ≡ purpose_of sink.old }
+{
+    sink.merge(later)?;
+    sink.finish()
+}
+
+/// What a sink gives. Where memory was wanting the sink goes on: it takes those of one more over, of
+/// which there are none, and is asked again.
+fn finish<S: SoleKey>(sink: &mut TurnSink<'_, S>, turn: u32) -> Result<DataFrame, AllocError> {
+    if let Ok(frame) = sink.finish() {
+        return Ok(frame);
     }
+    let mut later = sink.split(turn)?;
+    let frame = finish_with(sink, &mut later);
+    drop(later);
+    frame
 }
 
 /// Feeds a sink the chunks of one turn, and combines the sink of all with it.
@@ -157,7 +172,7 @@ fn given_by<S: SoleKey>(
             return Err("sinks that don't follow one another".into());
         }
     }
-    Ok(finish(all)?)
+    Ok(finish(all, case.sinks)?)
 }
 
 /// What the sinks of a case give, combined.

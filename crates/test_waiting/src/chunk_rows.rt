@@ -97,36 +97,62 @@ fn put(
     }
 }
 
-/// Puts both rows of the chunk behind.
+/// A row behind others, apart from them, with its key's code. The others stay, also where memory is
+/// wanted.
+fn put_apart(
+    alloc: Global,
+    waiting: &WaitingRows,
+    query: &CheckedQuery<'_>,
+    rows: &ChunkRows<'_>,
+    row: usize,
+    key: &[u8],
+) -> Result<WaitingRows, Fail>
+    requires there { row < length rows.now }
+    requires few { row < 2 ^ 32 }
+    requires typed { All (IsRowOf (query_tree query.now)) rows.now }
+{
+    match waiting.with_lent(alloc, key, rows.place(row), rows, row, query.input_types()) {
+        Ok(apart) => Ok(apart),
+        Err(AllocError) => Err("with_lent wants memory".into()),
+    }
+}
+
+/// Puts the first row of the chunk behind, and the second behind it apart.
 fn put_both(
+    alloc: Global,
     waiting: &mut WaitingRows,
     query: &CheckedQuery<'_>,
     rows: &ChunkRows<'_>,
-) -> Result<(), Fail>
+) -> Result<WaitingRows, Fail>
     requires { All (IsRowOf (query_tree query.now)) rows.now }
 {
     if rows.len() != 2 {
         return Err("other rows".into());
     }
     put(waiting, query, rows, 0, &[1, 255])?;
-    put(waiting, query, rows, 1, &[0])
+    put_apart(alloc, waiting, query, rows, 1, &[0])
 }
 
-/// Puts both rows of a chunk behind that has the columns of the query.
+/// Puts the rows of a chunk that has the columns of the query behind, the second apart.
 fn put_chunk(
     alloc: Global,
     waiting: &mut WaitingRows,
     query: &CheckedQuery<'_>,
     chunk: &DataChunk,
-) -> Result<(), Fail> {
+) -> Result<WaitingRows, Fail> {
     if !chunk.frame.fits(&query.query().schema) {
         return Err("other columns".into());
     }
-    put_both(waiting, query, &ChunkRows::new(alloc, query, 3, chunk)?)
+    put_both(
+        alloc,
+        waiting,
+        query,
+        &ChunkRows::new(alloc, query, 3, chunk)?,
+    )
 }
 
-/// Puts both rows of the chunk behind, where the query is one.
-fn fill(alloc: Global, waiting: &mut WaitingRows) -> Result<(), Fail> {
+/// Puts the first row of the chunk behind, and the second apart, where the query is one.
+fn fill(alloc: Global, waiting: &mut WaitingRows) -> Result<WaitingRows, Fail> {
     let query = query_of(alloc)?;
     let chunk = chunk_of(alloc)?;
     match query.check(alloc) {
@@ -135,8 +161,9 @@ fn fill(alloc: Global, waiting: &mut WaitingRows) -> Result<(), Fail> {
     }
 }
 
-/// Whether the rows of the chunk wait as they are to.
+/// Whether the first row of the chunk waits as it is to, and both wait so apart.
 pub(crate) fn wait_as_bytes(alloc: Global, waiting: &mut WaitingRows) -> Result<bool, Fail> {
-    fill(alloc, waiting)?;
-    Ok(waiting.len() == 2 && waiting.bytes() == OF_CHUNK.as_slice())
+    let apart = fill(alloc, waiting)?;
+    let first = waiting.len() == 1 && waiting.bytes() == &OF_CHUNK[..20];
+    Ok(first && apart.len() == 2 && apart.bytes() == OF_CHUNK.as_slice())
 }

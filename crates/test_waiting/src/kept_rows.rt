@@ -1,4 +1,4 @@
-//! Rows that are put behind and joined.
+//! Rows that are put behind one another.
 
 ghost use Rattle.std.specs.Prelude.{[], ◌∷◌, IfOk};
 ghost use Rattle.pipe_columns.specs.declared.data_type.DataType.TheVariants as dt;
@@ -43,12 +43,12 @@ pub(crate) fn one_row(alloc: Global, row: u32, value: i64) -> Result<WaitingRows
     Ok(waiting)
 }
 
-/// Both rows, the second joined behind the first.
+/// Both rows, the second behind the first.
 pub(crate) fn two_rows(alloc: Global) -> Result<WaitingRows, AllocError>
     ensures { IfOk result (AreWaiting (dt.Int64 ∷ [])) }
 {
     let mut waiting = one_row(alloc, 1, 6)?;
-    waiting.append(&one_row(alloc, 2, 7)?)?;
+    waiting.push(&row_of(alloc, 2, 2, 7)?, &TYPES)?;
     Ok(waiting)
 }
 

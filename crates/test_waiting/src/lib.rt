@@ -10,4 +10,6 @@ mod kept_rows;
 #[cfg(test)]
 mod memory_tests;
 #[cfg(test)]
+mod mixed_rows;
+#[cfg(test)]
 mod store_frames;

@@ -3,6 +3,7 @@
 
 use crate::chunk_rows::wait_as_bytes;
 use crate::kept_rows::{TWO_ROWS, TYPES, one_row, row_of, two_rows};
+use crate::mixed_rows::{TEXT_ROWS, TEXT_TYPES, are_of_frame, own_and_wait};
 use crate::store_frames::gives_mixed;
 use pipe_spill::FrameError;
 use pipe_waiting::WaitingRows;
@@ -36,13 +37,6 @@ fn pushes(alloc: Global, waiting: &mut WaitingRows) -> Result<bool, Fail> {
     ends_with_both(waiting, end, 1)
 }
 
-/// Whether the second row stands behind the first as a copy.
-fn appends(alloc: Global, waiting: &mut WaitingRows) -> Result<bool, Fail> {
-    let other = one_row(alloc, 2, 7)?;
-    let end = waiting.append(&other);
-    ends_with_both(waiting, end, 1)
-}
-
 /// Whether the frame is that of both rows.
 fn frames(alloc: Global, waiting: &WaitingRows) -> Result<bool, Fail> {
     match waiting.frame(alloc) {
@@ -55,13 +49,6 @@ fn frames(alloc: Global, waiting: &WaitingRows) -> Result<bool, Fail> {
 fn memory_for_a_row(rt: HostRuntime) -> Result<(), Fail> {
     let mut waiting = one_row(rt.alloc(), 1, 6)?;
     assert!(rt; pushes(rt.alloc(), &mut waiting)?);
-    Ok(())
-}
-
-#[test]
-fn memory_for_rows(rt: HostRuntime) -> Result<(), Fail> {
-    let mut waiting = one_row(rt.alloc(), 1, 6)?;
-    assert!(rt; appends(rt.alloc(), &mut waiting)?);
     Ok(())
 }
 
@@ -93,6 +80,16 @@ fn memory_for_rows_of_a_store(rt: HostRuntime) -> Result<(), Fail> {
     match gives_mixed(rt.alloc(), &mut values) {
         Ok(given) => assert!(rt; given),
         Err(FrameError::Memory) => return Err("lend_frame wants memory".into()),
+        Err(FrameError::NotAFrame) => return Err("not a frame".into()),
+    }
+    Ok(())
+}
+
+#[test]
+fn memory_for_rows_of_their_own(rt: HostRuntime) -> Result<(), Fail> {
+    match own_and_wait(rt.alloc(), &TEXT_ROWS, &TEXT_TYPES, 2) {
+        Ok(waiting) => assert!(rt; are_of_frame(&waiting, &TEXT_ROWS, 2)),
+        Err(FrameError::Memory) => return Err("own_rows or of_rows wants memory".into()),
         Err(FrameError::NotAFrame) => return Err("not a frame".into()),
     }
     Ok(())

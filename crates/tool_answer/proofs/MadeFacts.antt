@@ -96,7 +96,7 @@ module _ (p : PlanSeen) (q : Query) (m : Made) (is : query_tree q ≡ made_tree)
   pub made-caused : (told : Option Files) (never : All (λ (x : StoreSeen). IsTrue x.sure → x.faults ≡ 0) stores) (e : PipeError)
       → IsFinishCause s stores e → IsCaused (run_fault e) (makes p m) told stores
   made-caused told never (pipe_error.Store k) end =
-      store-caused p made_tree back.is_open back.chunks new stores began.new began.count have never k end.0 (rose-above _ _ end.1)
+      store-caused p made_tree back.is_open back.chunks new stores began.new began.count have never k end.exists (rose-above _ _ end.rose)
   made-caused told never (pipe_error.Damaged k n) end =
       frame-caused p made_tree back.is_open back.chunks new stores began.new began.count have never k n end.0
       (subst (λ (x : Setting). (slice_index_or x.stores k no_store).told ≡ None) began.setting end.1.untold) end.1.last

@@ -24,6 +24,7 @@ use Rattle.pipe_plan.specs.declared.limits.SinkKind.TheVariants as sink_kind
 use Rattle.pipe_plan.specs.Run.{Run, StoreSeen, tells}
 use Rattle.tool_stores.specs.StorePath.{store_paths}
 use Rattle.pipe_run.specs.Answered.{HasFrames, HaveWholeFrames, IsAnswered}
+use Rattle.pipe_run.specs.Failing.{NoneFailed}
 use Rattle.pipe_run.specs.Fed.{FedSeen}
 use Rattle.pipe_run.specs.declared.error.PipeError.TheVariants as pipe_error
 use Rattle.pipe_run.specs.declared.output.GroupByOutput.{GroupByOutput}
@@ -43,7 +44,7 @@ use Rattle.pipe_words.specs.Plans.{CanRun, PlanSeen}
 use Rattle.tool_answer.specs.declared.fault.ToolFault.TheVariants as fault
 use Rattle.tool_answer.specs.Asking.{asked_run, has_folder, input_chunks}
 use Rattle.pipe_plan.specs.Stores.{stores_seen}
-use Rattle.tool_answer.specs.Ended.{HasFailed, HasUntold, IsMade, IsSoundStore}
+use Rattle.tool_answer.specs.Ended.{HasFailed, HasUntold, IsMade, IsSoundStore, NeverFailed}
 use Rattle.tool_answer.specs.Faults.{EndsFor, IsCaused}
 use Rattle.tool_answer.specs.Inside.{CanCome, file_fault, IsOfRun}
 use Rattle.tool_answer.specs.Headline.{AreFedInput, HasRunTo, HaveFront}
@@ -315,26 +316,33 @@ module _ (p : PlanSeen) (q : Query) (ws : List Bool) (covered : covers ws (query
   pub run-sound : All (λ (x : StoreSeen). IsTrue x.sure → x.faults ≡ 0) stores → p.spill_dir ≡ None → All IsSoundStore stores
   run-sound never = all-sound p (query_tree q) left.is_open wide made stores began.new began.count have never
 
-  pub run-caused : (first : ReaderState) (never : All (λ (x : StoreSeen). IsTrue x.sure → x.faults ≡ 0) stores) (reader : IsReader p (query_tree q) ws first)
+  -- nor has one failed since they were made where none failed in the run
+  unfailed : NoneFailed made s.stores → NoneFailed s.stores stores → NeverFailed stores
+  unfailed begun calm = All-from_get_or (λ (x : StoreSeen). x.faults ≡ 0) stores no_store (λ k lt.
+      let there : k < length s.stores = omega (arith, lt, calm.count) in
+      let first : k < length made = omega (arith, there, begun.count) in
+      calm.each k there ∙ begun.each k first ∙ (began.new k no_store first).faults)
+
+  pub run-caused : (calm : NoneFailed made s.stores) (first : ReaderState) (never : All (λ (x : StoreSeen). IsTrue x.sure → x.faults ≡ 0) stores) (reader : IsReader p (query_tree q) ws first)
       (e : FileRunError) → IsRunEnd s told first stores e → IsCaused (file_fault e) (asks p (query_tree q)) told stores
-  run-caused first never reader (run_error.Read (csv_error.Missing file)) end = ends-for told first p (query_tree q) ws (misfit (missing file)) reader end
-  run-caused first never reader (run_error.Read (csv_error.Header file)) end = ends-for told first p (query_tree q) ws (misfit (header file)) reader end
-  run-caused first never reader (run_error.Read (csv_error.Width file row)) end = ends-for told first p (query_tree q) ws (misfit (width file row)) reader end
-  run-caused first never reader (run_error.Read (csv_error.Field file row column)) end = ends-for told first p (query_tree q) ws (misfit (field file row column)) reader end
-  run-caused first never reader (run_error.Read csv_error.TooLarge) end = ends-for told first p (query_tree q) ws too_large reader end
-  run-caused first never reader (run_error.Read csv_error.Input) end = tt
-  run-caused first never reader (run_error.Read csv_error.Memory) end = tt
-  run-caused first never reader (run_error.Run (pipe_error.Store k)) end =
-      store-caused p (query_tree q) left.is_open wide made stores began.new began.count have never k end.0 (rose-above _ _ end.1)
-  run-caused first never reader (run_error.Run (pipe_error.Damaged k n)) end =
+  run-caused calm first never reader (run_error.Read (csv_error.Missing file)) end = (ends-for told first p (query_tree q) ws (misfit (missing file)) reader end.0, unfailed calm end.1)
+  run-caused calm first never reader (run_error.Read (csv_error.Header file)) end = (ends-for told first p (query_tree q) ws (misfit (header file)) reader end.0, unfailed calm end.1)
+  run-caused calm first never reader (run_error.Read (csv_error.Width file row)) end = (ends-for told first p (query_tree q) ws (misfit (width file row)) reader end.0, unfailed calm end.1)
+  run-caused calm first never reader (run_error.Read (csv_error.Field file row column)) end = (ends-for told first p (query_tree q) ws (misfit (field file row column)) reader end.0, unfailed calm end.1)
+  run-caused calm first never reader (run_error.Read csv_error.TooLarge) end = (ends-for told first p (query_tree q) ws too_large reader end.0, unfailed calm end.1)
+  run-caused calm first never reader (run_error.Read csv_error.Input) end = unfailed calm end.1
+  run-caused calm first never reader (run_error.Read csv_error.Memory) end = tt
+  run-caused calm first never reader (run_error.Run (pipe_error.Store k)) end =
+      store-caused p (query_tree q) left.is_open wide made stores began.new began.count have never k end.exists (rose-above _ _ end.rose)
+  run-caused calm first never reader (run_error.Run (pipe_error.Damaged k n)) end =
       frame-caused p (query_tree q) left.is_open wide made stores began.new began.count have never k n end.0
       (subst (λ (x : Setting). (slice_index_or x.stores k no_store).told ≡ None) began.setting end.1.untold) end.1.last
-  run-caused first never reader (run_error.Run pipe_error.Memory) end = tt
-  run-caused first never reader (run_error.Run pipe_error.Limits) end = absurd end
-  run-caused first never reader (run_error.Run (pipe_error.Query f)) end = absurd end
-  run-caused first never reader (run_error.Run pipe_error.Sink) end = absurd end
-  run-caused first never reader (run_error.Run (pipe_error.Schema i)) end = absurd end
-  run-caused first never reader (run_error.Run pipe_error.TooLarge) end = absurd end
+  run-caused calm first never reader (run_error.Run pipe_error.Memory) end = tt
+  run-caused calm first never reader (run_error.Run pipe_error.Limits) end = absurd end
+  run-caused calm first never reader (run_error.Run (pipe_error.Query f)) end = absurd end
+  run-caused calm first never reader (run_error.Run pipe_error.Sink) end = absurd end
+  run-caused calm first never reader (run_error.Run (pipe_error.Schema i)) end = absurd end
+  run-caused calm first never reader (run_error.Run pipe_error.TooLarge) end = absurd end
 
 -- an error of a run that was begun is one that can come
 pub end-comes : (s : FedSeen) (told : Option Files) (first : ReaderState) (stores : List StoreSeen) (e : FileRunError) → IsRunEnd s told first stores e → CanCome e

@@ -30,12 +30,12 @@ use Rattle.tool_run.specs.Answering.{AreFedMade}
 use Rattle.tool_stores.specs.StorePath.{store_paths}
 use Rattle.tool_answer.specs.Asking.{asked_run, due_paths, stop_due}
 use Rattle.tool_answer.specs.Formats.{text_in}
-use Rattle.tool_answer.specs.Ended.{HasFailed, HasUntold, IsSoundStore}
+use Rattle.tool_answer.specs.Ended.{HasFailed, HasUntold, IsSoundStore, NeverFailed}
 use Rattle.tool_answer.specs.Faults.{IsCaused, refusal_status, status_of}
 use Rattle.tool_answer.specs.Inside.{EndsMade, EndsRefused, IsLeft, IsUnread}
 use Rattle.tool_answer.specs.Headline.{answer_text, AreFedInput, HasAnswer, HasNoRun, HaveFront, HasRun, HasRunTo, HasStopped, IsAnswerWritten, IsBegun, IsWritten}
 use Rattle.tool_answer.specs.MadeRun.{HasMadeLines, TellAnswer}
-use Rattle.tool_answer.specs.Status.{due_status, EndsAsDue, EndsUnread, FrameDamaged, is_answer, is_unread, IsDue, IsRefusal, stop_status, StoreFailed}
+use Rattle.tool_answer.specs.Status.{due_status, EndsAsDue, EndsUnread, FrameDamaged, is_answer, is_read_end, is_unread, IsDue, IsRefusal, stop_status, StoreFailed}
 use Rattle.tool_answer.proofs.RunFacts.{paths-kept, replayed-are, told-made, whole-are}
 
 -- ---- a run that was answered
@@ -122,11 +122,11 @@ caused-due fault.OutputFailed a (Some files) stores cause = inr refl
 caused-due (fault.Store p) a (Some files) stores cause = inr refl
 caused-due (fault.Damaged p n) a (Some files) stores cause = inr refl
 caused-due fault.Memory a (Some files) stores cause = inr refl
-caused-due (fault.Missing file) a (Some files) stores cause = inl (sym (stop-due a files _ cause))
-caused-due (fault.Header file) a (Some files) stores cause = inl (sym (stop-due a files _ cause))
-caused-due (fault.Width file row) a (Some files) stores cause = inl (sym (stop-due a files _ cause))
-caused-due (fault.Field file row column) a (Some files) stores cause = inl (sym (stop-due a files _ cause))
-caused-due fault.TooLarge a (Some files) stores cause = inl (sym (stop-due a files _ cause))
+caused-due (fault.Missing file) a (Some files) stores cause = inl (sym (stop-due a files _ cause.0))
+caused-due (fault.Header file) a (Some files) stores cause = inl (sym (stop-due a files _ cause.0))
+caused-due (fault.Width file row) a (Some files) stores cause = inl (sym (stop-due a files _ cause.0))
+caused-due (fault.Field file row column) a (Some files) stores cause = inl (sym (stop-due a files _ cause.0))
+caused-due fault.TooLarge a (Some files) stores cause = inl (sym (stop-due a files _ cause.0))
 
 pub told-due : (f : ToolFault) (a : Asked) (told : Option Files) (stores : List StoreSeen) (status : ℕ) → IsCaused f a told stores → (status ≡ status_of f) ⊎ (status ≡ NO_MEMORY) → EndsAsDue status a told
 told-due f a told stores status cause (inl is) = rw is (caused-due f a told stores cause)
@@ -253,6 +253,31 @@ pub told-damaged : (f : ToolFault) (a : Asked) (told : Option Files) (stores : L
 told-damaged f a told stores status cause (inl is) damaged = damaged-of f a told stores cause (sym is ∙ damaged)
 told-damaged f a told stores status cause (inr is) damaged = absurd (omega (arith, is, damaged))
 
+refusal-no-end : (r : Refusal) → IsTrue (is_read_end (refusal_status r)) → ⊥
+refusal-no-end refusal.Words is = false≢true is
+refusal-no-end refusal.NotJson is = false≢true is
+refusal-no-end refusal.NotAQuery is = false≢true is
+refusal-no-end (refusal.Faulty f) is = false≢true is
+refusal-no-end refusal.UnfitSink is = false≢true is
+
+-- where reading ended early no store has failed
+unfailed-of : (f : ToolFault) (a : Asked) (told : Option Files) (stores : List StoreSeen) → IsCaused f a told stores → IsTrue (is_read_end (status_of f)) → NeverFailed stores
+unfailed-of (fault.Refused r) a told stores cause is = absurd (refusal-no-end r is)
+unfailed-of (fault.Missing file) a told stores cause is = cause.1
+unfailed-of (fault.Header file) a told stores cause is = cause.1
+unfailed-of (fault.Width file row) a told stores cause is = cause.1
+unfailed-of (fault.Field file row column) a told stores cause is = cause.1
+unfailed-of fault.InputFailed a told stores cause is = cause
+unfailed-of fault.OutputFailed a told stores cause is = absurd (false≢true is)
+unfailed-of fault.TooLarge a told stores cause is = cause.1
+unfailed-of (fault.Store p) a told stores cause is = absurd (false≢true is)
+unfailed-of (fault.Damaged p n) a told stores cause is = absurd (false≢true is)
+unfailed-of fault.Memory a told stores cause is = absurd (false≢true is)
+
+pub told-unfailed : (f : ToolFault) (a : Asked) (told : Option Files) (stores : List StoreSeen) (status : ℕ) → IsCaused f a told stores → (status ≡ status_of f) ⊎ (status ≡ NO_MEMORY) → IsTrue (is_read_end status) → NeverFailed stores
+told-unfailed f a told stores status cause (inl is) end = unfailed-of f a told stores cause (subst (λ (n : ℕ). IsTrue (is_read_end n)) is end)
+told-unfailed f a told stores status cause (inr is) end = absurd (false≢true (subst (λ (n : ℕ). IsTrue (is_read_end n)) is end))
+
 -- ---- what is left of the run
 
 pub written-run : (a : Asked) (told : Option Files) (old new : Option (List ℕ)) (journals : List (List PartitionEvent)) (stores : List StoreSeen) → IsWritten a told old new journals stores → HasRun a told journals stores
@@ -323,13 +348,13 @@ none-untold stores p n sound untold =
 calm-fault : (f : ToolFault) (a : Asked) (files : Files) (stores : List StoreSeen) → IsCaused f a (Some files) stores → due_status a files ≡ DONE → All IsSoundStore stores
     → (f ≡ fault.InputFailed → ⊥) → (f ≡ fault.OutputFailed → ⊥) → status_of f ≡ NO_MEMORY
 calm-fault (fault.Refused r) a files stores cause due sound input output = absurd (refusal-not-done r (subst (λ (b : Asked). due_status b files ≡ DONE) cause due))
-calm-fault (fault.Missing file) a files stores cause due sound input output = absurd (omega (arith, due, stop-due a files _ cause))
-calm-fault (fault.Header file) a files stores cause due sound input output = absurd (omega (arith, due, stop-due a files _ cause))
-calm-fault (fault.Width file row) a files stores cause due sound input output = absurd (omega (arith, due, stop-due a files _ cause))
-calm-fault (fault.Field file row column) a files stores cause due sound input output = absurd (omega (arith, due, stop-due a files _ cause))
+calm-fault (fault.Missing file) a files stores cause due sound input output = absurd (omega (arith, due, stop-due a files _ cause.0))
+calm-fault (fault.Header file) a files stores cause due sound input output = absurd (omega (arith, due, stop-due a files _ cause.0))
+calm-fault (fault.Width file row) a files stores cause due sound input output = absurd (omega (arith, due, stop-due a files _ cause.0))
+calm-fault (fault.Field file row column) a files stores cause due sound input output = absurd (omega (arith, due, stop-due a files _ cause.0))
 calm-fault fault.InputFailed a files stores cause due sound input output = absurd (input refl)
 calm-fault fault.OutputFailed a files stores cause due sound input output = absurd (output refl)
-calm-fault fault.TooLarge a files stores cause due sound input output = absurd (omega (arith, due, stop-due a files _ cause))
+calm-fault fault.TooLarge a files stores cause due sound input output = absurd (omega (arith, due, stop-due a files _ cause.0))
 calm-fault (fault.Store p) a files stores cause due sound input output = absurd (none-failed stores p sound cause.1)
 calm-fault (fault.Damaged p n) a files stores cause due sound input output = absurd (none-untold stores p n sound cause.1)
 calm-fault fault.Memory a files stores cause due sound input output = refl

@@ -1,5 +1,5 @@
 -- What is seen of stores, and of a run of the tool that has ended.
-use Rattle.std.specs.Prelude.{◌≡◌, ◌<◌, ℕ, true, IsTrue, List, [], length, Option, Some, None, slice_index_or}
+use Rattle.std.specs.Prelude.{◌≡◌, ◌<◌, ℕ, true, All, IsTrue, List, [], length, Option, Some, None, slice_index_or}
 use Rattle.pipe_global.specs.Partition.{no_store}
 use Rattle.pipe_plan.specs.declared.event.PartitionEvent.{PartitionEvent}
 use Rattle.pipe_plan.specs.Run.{StoreSeen, tells}
@@ -21,6 +21,10 @@ pub record IsMade (folder : Option (List ℕ)) (s : StoreSeen) : Type 0 where
 pub record IsSoundStore (s : StoreSeen) : Type 0 where
   pub told : tells s ≡ true
   pub sound : s.faults ≡ 0
+
+-- no store has ever failed
+abbrev pub NeverFailed : List StoreSeen → Type 0
+NeverFailed stores = All (λ s. s.faults ≡ 0) stores
 
 -- the store of a partition failed
 pub record HasFailed (stores : List StoreSeen) (p : ℕ) : Type 0 where

@@ -14,7 +14,7 @@ use Rattle.tool_answer.specs.declared.fault.ToolFault.{ToolFault}
 use Rattle.tool_answer.specs.declared.fault.ToolFault.TheVariants as fault
 use Rattle.tool_answer.specs.declared.status.TheConstants.{DAMAGED, INPUT_FAILED, INPUT_REFUSED, NO_MEMORY, OUTPUT_FAILED, QUERY_REFUSED, STORE_FAILED, TOO_LARGE, WORDS_REFUSED}
 use Rattle.tool_answer.specs.Asking.{has_folder, stop_due}
-use Rattle.tool_answer.specs.Ended.{HasFailed, HasUntold}
+use Rattle.tool_answer.specs.Ended.{HasFailed, HasUntold, NeverFailed}
 
 -- the exit status of words that are refused
 abbrev pub refusal_status : Refusal → ℕ
@@ -90,18 +90,22 @@ fault_line f = fault_text f ++ codes "\n"
 abbrev pub EndsFor : Stop → Asked → Option Files → Type 0
 EndsFor stop a told = IfSome told (λ files. stop_due a files ≡ Some stop)
 
--- what a fault says of what is asked, of the files, where the input tells them, and of the stores;
--- nothing is said of an input or an output that failed, or of want of memory
+-- what a fault says of what is asked, of the files, where the input tells them, and of the stores, none
+-- of which has failed where reading ends early; nothing is said of an output that failed, or of want of
+-- memory
 abbrev pub IsCaused : ToolFault → Asked → Option Files → List StoreSeen → Type 0
 IsCaused (fault.Refused r) a told stores = a ≡ refused r
-IsCaused (fault.Missing file) a told stores = EndsFor (misfit (missing file)) a told
-IsCaused (fault.Header file) a told stores = EndsFor (misfit (header file)) a told
-IsCaused (fault.Width file row) a told stores = EndsFor (misfit (width file row)) a told
+IsCaused (fault.Missing file) a told stores =
+    EndsFor (misfit (missing file)) a told × NeverFailed stores
+IsCaused (fault.Header file) a told stores =
+    EndsFor (misfit (header file)) a told × NeverFailed stores
+IsCaused (fault.Width file row) a told stores =
+    EndsFor (misfit (width file row)) a told × NeverFailed stores
 IsCaused (fault.Field file row column) a told stores =
-    EndsFor (misfit (field file row column)) a told
-IsCaused fault.InputFailed a told stores = ⊤
+    EndsFor (misfit (field file row column)) a told × NeverFailed stores
+IsCaused fault.InputFailed a told stores = NeverFailed stores
 IsCaused fault.OutputFailed a told stores = ⊤
-IsCaused fault.TooLarge a told stores = EndsFor too_large a told
+IsCaused fault.TooLarge a told stores = EndsFor too_large a told × NeverFailed stores
 IsCaused (fault.Store p) a told stores = (has_folder a ≡ true) × HasFailed stores p
 IsCaused (fault.Damaged p n) a told stores = (has_folder a ≡ true) × HasUntold stores p n
 IsCaused fault.Memory a told stores = ⊤

@@ -58,6 +58,11 @@ is_stopped status =
     list_any (λ s. s == status)
     (INPUT_REFUSED ∷ INPUT_FAILED ∷ TOO_LARGE ∷ STORE_FAILED ∷ DAMAGED ∷ [])
 
+-- the statuses of reading that ends early
+abbrev pub is_read_end : ℕ → Bool
+is_read_end status =
+    list_any (λ s. s == status) (INPUT_REFUSED ∷ INPUT_FAILED ∷ TOO_LARGE ∷ [])
+
 -- the statuses of a run that was answered
 abbrev pub is_answer : ℕ → Bool
 is_answer status = list_any (λ s. s == status) (DONE ∷ OUTPUT_FAILED ∷ [])

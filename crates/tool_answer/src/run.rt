@@ -6,6 +6,7 @@ ghost use Rattle.pipe_aggs.specs.QueryTrees.{query_tree};
 ghost use Rattle.pipe_columns.specs.Causes.{Rose};
 ghost use Rattle.pipe_io.specs.Tried.{TriedFront};
 ghost use Rattle.pipe_model.specs.Output.{key_types};
+ghost use Rattle.pipe_run.specs.Failing.{NoneFailed};
 ghost use Rattle.pipe_run.specs.Refusals.{limits_fit};
 ghost use Rattle.pipe_words.specs.Plans.{CanRun, plan_seen};
 ghost use Rattle.tool_words.specs.Asked.{asks, does_keep};
@@ -62,6 +63,8 @@ pub fn begin_run<'a, S: SpillStore + Drop + Send, H: Wait>(
       stores = stores_seen S.held S.told S.faults S.sure S.path stores.items;
     }) }
     ensures chunks { IfOk result (λ r. r.chunks ≡ []) }
+    ensures counted { IfOk result (λ r. NoneFailed
+        (stores_seen S.held S.told S.faults S.sure S.path stores.items) r.stores) }
     ensures back { IfErr result (λ v. v.items ≡ stores.items) }
 {
     match GroupByRun::begin_by_rules(rt, alloc, query, limits, actions, rules, stores) {

@@ -11,12 +11,12 @@ ghost use Rattle.pipe_model.specs.Output.{key_types};
 ghost use Rattle.pipe_words.specs.Plans.{CanRun, plan_seen};
 ghost use Rattle.tool_words.specs.Asked.{asked, asks, does_keep, is_refused, reads_none};
 ghost use Rattle.tool_answer.specs.Asking.{due_paths, files_asked, has_folder};
-ghost use Rattle.tool_answer.specs.Ended.{IsSoundStore};
+ghost use Rattle.tool_answer.specs.Ended.{IsSoundStore, NeverFailed};
 ghost use Rattle.tool_answer.specs.Formats.{text_in};
 ghost use Rattle.tool_answer.specs.Faults.{IsCaused};
 ghost use Rattle.tool_answer.specs.Inside.{EndsMade, EndsRefused, IsBefore, IsLeft};
 ghost use Rattle.tool_answer.specs.Headline.{HasNoRun, HasRun, HasStopped, IsAnswerWritten, IsBegun, IsWritten};
-ghost use Rattle.tool_answer.specs.Status.{EndsAsDue, EndsUnread, FrameDamaged, IsDue, IsRefusal, ReportsFault, ReportsFront, StoreFailed, is_answer, is_refusal, is_status, is_stopped};
+ghost use Rattle.tool_answer.specs.Status.{EndsAsDue, EndsUnread, FrameDamaged, IsDue, IsRefusal, ReportsFault, ReportsFront, StoreFailed, is_answer, is_read_end, is_refusal, is_status, is_stopped};
 ghost use Rattle.pipe_writers.specs.declared.write_error.WriteError.TheVariants as write_error;
 ghost use Rattle.tool_answer.specs.declared.fault.ToolFault.TheVariants as fault;
 
@@ -272,6 +272,10 @@ pub fn run_tool<
         → StoreFailed (asked words.now) result.stores }
     ensures damaged { result.status ≡ DAMAGED → FrameDamaged (asked words.now) result.stores }
     ensures in_memory { has_folder (asked words.now) ≡ false → All IsSoundStore result.stores }
+
+    // An early end of reading is told only where no store has failed: a fault of a store isn't passed
+    // over.
+    ensures unfailed { IsTrue (is_read_end result.status) → NeverFailed result.stores }
 
     // Unless memory runs out, exactly the stores of the folder that the words name are made, one a
     // partition, in order; where it runs out before all are made, none is left.

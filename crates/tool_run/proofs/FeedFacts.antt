@@ -3,28 +3,26 @@ use Rattle.std.proofs.Common.{◌≡◌, ◌∙◌, ◌+◌, ◌<◌, ◌^◌, �
 use Rattle.std.specs.Prelude.{get_or}
 use Rattle.std.specs.Option.{IfSome}
 use Rattle.std.specs.List.{All, slice_index_or}
-use Rattle.std.proofs.lemmas.Bool.{cases_lt}
 use Rattle.std.proofs.lemmas.List.{append-nil, append_assoc}
-use Rattle.std.proofs.Math.ListN.{get_or-eq_default}
 use Rattle.std.proofs.lemmas.List.Elements.{All-append, All-get_or, All-nil}
 use Rattle.std.proofs.lemmas.Option.{get_or_from_slice_get, slice_get_within}
 use Rattle.pipe_columns.specs.declared.data_chunk.DataChunk.{DataChunk}
 use Rattle.pipe_columns.specs.declared.schema.Field.{Field}
-use Rattle.pipe_columns.specs.Causes.{Rose}
 use Rattle.pipe_columns.specs.Frame.{FitsSchema}
 use Rattle.pipe_csv.specs.declared.csv_error.CsvError.{CsvError}
 use Rattle.pipe_io.specs.Files.{Files}
 use Rattle.pipe_model.specs.Rows.{total_height}
 use Rattle.pipe_plan.specs.Run.{StoreSeen}
-use Rattle.pipe_global.specs.Partition.{no_store}
 use Rattle.pipe_run.specs.declared.error.PipeError.{PipeError}
 use Rattle.pipe_run.specs.declared.error.PipeError.TheVariants as pipe_error
 use Rattle.pipe_run.specs.Fed.{FedSeen}
 use Rattle.pipe_run.specs.Answered.{HaveWholeFrames}
-use Rattle.pipe_run.specs.Feeding.{chunks_reached, IsFeedCause, NoneFell}
+use Rattle.pipe_run.specs.Failing.{NoneFailed}
+use Rattle.pipe_run.specs.Feeding.{chunks_reached, IsFeedCause}
 use Rattle.pipe_run.specs.Finish.{IsFinishCause}
 use Rattle.pipe_run.specs.Refusals.{AllHaveFields, AreMany, IsFirstMisfit}
 use Rattle.pipe_run.specs.Setting.{run_over, Setting}
+use Rattle.pipe_run.proofs.Counted.{first-later}
 use Rattle.pipe_run.proofs.Feeding.{height-append}
 use Rattle.pipe_source.specs.CsvChunks.{chunks_then, CsvChunks, Stop, too_large}
 use Rattle.pipe_source.specs.Reader.{chunks_left, ReaderState}
@@ -96,51 +94,30 @@ no-misfit fields chunks i fit is =
 not-many : (chunks : List DataChunk) → total_height chunks < 2 ^ 32 → length chunks < 2 ^ 32 → AreMany chunks → ⊥
 not-many chunks rows number many = ⊎_elim (λ m. omega (arith, m, rows)) (λ m. omega (arith, m, number)) many
 
--- a count that rose since rose before
-rose-before : (before now after : List StoreSeen) (p : ℕ) → NoneFell before now
-    → Rose (slice_index_or now p no_store).faults (slice_index_or after p no_store).faults → Rose (slice_index_or before p no_store).faults (slice_index_or after p no_store).faults
-rose-before before now after p fell rose = ⊎_elim
-    (λ within. omega (arith, fell.each p within, rose))
-    (λ beyond.
-    let none : (slice_index_or before p no_store).faults ≡ 0 = ap (λ (s : StoreSeen). s.faults) (get_or-eq_default before no_store beyond) in
-    omega (arith, none, rose))
-    (cases_lt p (length before))
-
 -- a feed of few chunks that fit is refused for a store or for want of memory
-pub feed-cause : (first s : FedSeen) (chunks : List DataChunk) (stores : List StoreSeen) (err : PipeError) → NoneFell first.stores s.stores
+pub feed-cause : (first s : FedSeen) (chunks : List DataChunk) (stores : List StoreSeen) (err : PipeError) → NoneFailed first.stores s.stores
     → All (λ (c : DataChunk). FitsSchema s.setting.query.schema c.frame) (s.chunks ++ chunks) → total_height (s.chunks ++ chunks) < 2 ^ 32 → length (s.chunks ++ chunks) < 2 ^ 32
     → IsFeedCause s chunks stores err → IsFinishCause first stores err
-feed-cause first s chunks stores (pipe_error.Schema i) fell fit rows number cause = absurd (no-misfit s.setting.query.schema (s.chunks ++ chunks) i fit cause)
-feed-cause first s chunks stores pipe_error.TooLarge fell fit rows number cause = absurd (not-many (s.chunks ++ chunks) rows number cause.1)
-feed-cause first s chunks stores (pipe_error.Store p) fell fit rows number cause = (cause.1, rose-before first.stores s.stores stores p fell cause.2)
-feed-cause first s chunks stores pipe_error.Memory fell fit rows number cause = tt
-feed-cause first s chunks stores pipe_error.Limits fell fit rows number cause = absurd cause
-feed-cause first s chunks stores (pipe_error.Query f) fell fit rows number cause = absurd cause
-feed-cause first s chunks stores pipe_error.Sink fell fit rows number cause = absurd cause
-feed-cause first s chunks stores (pipe_error.Damaged p n) fell fit rows number cause = absurd cause
+feed-cause first s chunks stores (pipe_error.Schema i) calm fit rows number cause = absurd (no-misfit s.setting.query.schema (s.chunks ++ chunks) i fit cause)
+feed-cause first s chunks stores pipe_error.TooLarge calm fit rows number cause = absurd (not-many (s.chunks ++ chunks) rows number cause.1)
+feed-cause first s chunks stores (pipe_error.Store p) calm fit rows number cause = first-later first.stores s.stores stores p calm cause.1
+feed-cause first s chunks stores pipe_error.Memory calm fit rows number cause = tt
+feed-cause first s chunks stores pipe_error.Limits calm fit rows number cause = absurd cause
+feed-cause first s chunks stores (pipe_error.Query f) calm fit rows number cause = absurd cause
+feed-cause first s chunks stores pipe_error.Sink calm fit rows number cause = absurd cause
+feed-cause first s chunks stores (pipe_error.Damaged p n) calm fit rows number cause = absurd cause
 
 -- why a run that was fed is refused at its end, counted from where it began
-pub finish-cause : (first s : FedSeen) (stores : List StoreSeen) (err : PipeError) → NoneFell first.stores s.stores → s.setting ≡ first.setting
+pub finish-cause : (first s : FedSeen) (stores : List StoreSeen) (err : PipeError) → NoneFailed first.stores s.stores → s.setting ≡ first.setting
     → IsFinishCause s stores err → IsFinishCause first stores err
-finish-cause first s stores (pipe_error.Store p) fell same cause = (cause.0, rose-before first.stores s.stores stores p fell cause.1)
-finish-cause first s stores (pipe_error.Damaged p n) fell same cause = rw (← same) cause
-finish-cause first s stores pipe_error.Memory fell same cause = tt
-finish-cause first s stores pipe_error.Limits fell same cause = absurd cause
-finish-cause first s stores (pipe_error.Query f) fell same cause = absurd cause
-finish-cause first s stores pipe_error.Sink fell same cause = absurd cause
-finish-cause first s stores (pipe_error.Schema i) fell same cause = absurd cause
-finish-cause first s stores pipe_error.TooLarge fell same cause = absurd cause
-
--- none fell over two calls
-pub fell-then : (before now after : List StoreSeen) → NoneFell before now → NoneFell now after → NoneFell before after
-fell-then before now after one two = record {
-  count = two.count ∙ one.count;
-  each = λ p within. omega (arith, one.each p within, two.each p (omega (arith, within, one.count)));
-}
-
--- nor over none
-pub fell-none : (stores : List StoreSeen) → NoneFell stores stores
-fell-none stores = record { count = refl; each = λ p within. omega arith }
+finish-cause first s stores (pipe_error.Store p) calm same cause = first-later first.stores s.stores stores p calm cause
+finish-cause first s stores (pipe_error.Damaged p n) calm same cause = rw (← same) cause
+finish-cause first s stores pipe_error.Memory calm same cause = tt
+finish-cause first s stores pipe_error.Limits calm same cause = absurd cause
+finish-cause first s stores (pipe_error.Query f) calm same cause = absurd cause
+finish-cause first s stores pipe_error.Sink calm same cause = absurd cause
+finish-cause first s stores (pipe_error.Schema i) calm same cause = absurd cause
+finish-cause first s stores pipe_error.TooLarge calm same cause = absurd cause
 
 -- ---- what is left of the stores
 

@@ -10,7 +10,8 @@ use Rattle.pipe_plan.specs.Rounds.{IsFront}
 use Rattle.pipe_plan.specs.Run.{StoreSeen}
 use Rattle.pipe_run.specs.declared.error.PipeError.{PipeError}
 use Rattle.pipe_run.specs.Fed.{FedSeen}
-use Rattle.pipe_run.specs.Feeding.{chunks_reached, IsFeedCause, NoneFell}
+use Rattle.pipe_run.specs.Failing.{NoneFailed}
+use Rattle.pipe_run.specs.Feeding.{chunks_reached, IsFeedCause}
 use Rattle.pipe_run.specs.Refusals.{AllHaveFields}
 use Rattle.pipe_run.specs.Finish.{IsFinishCause}
 use Rattle.tool_made.specs.Made.{chunk_count, made, made_chunk, made_from}
@@ -48,15 +49,15 @@ reached-first s m a b more err within one two =
 
 -- a feed of generated rows is refused for a store or for want of memory
 pub made-cause : (first s : FedSeen) (m : Made) (a b : ℕ) (more : List DataChunk) (stores : List StoreSeen) (err : PipeError)
-    → 0 < m.chunk → m.rows < 2 ^ 32 → a + b ≤ chunk_count m → made_schema ≡ s.setting.query.schema → NoneFell first.stores s.stores
+    → 0 < m.chunk → m.rows < 2 ^ 32 → a + b ≤ chunk_count m → made_schema ≡ s.setting.query.schema → NoneFailed first.stores s.stores
     → s.chunks ≡ made_from m 0 a → more ≡ made_from m a b → IsFeedCause s more stores err → IsFinishCause first stores err
-made-cause first s m a b more stores err some small within fields fell one two cause =
+made-cause first s m a b more stores err some small within fields calm one two cause =
     let is : s.chunks ++ more ≡ made_from m 0 (a + b) = fed-then m a b s.chunks more (s.chunks ++ more) one two refl in
     let fit = subst (λ f. All (λ (c : DataChunk). FitsSchema f c.frame) (made_from m 0 (a + b))) fields (chunks-fit m (range_with_len 0 (a + b))) in
     let rows : total_height (made_from m 0 (a + b)) < 2 ^ 32 = omega (arith, first-rows m some (a + b), small) in
     let count : chunk_count m ≤ m.rows = omega (arith, few-chunks m some, length-map-range_with_len (made_chunk m) 0 (chunk_count m)) in
     let number : length (made_from m 0 (a + b)) < 2 ^ 32 = omega (arith, length-map-range_with_len (made_chunk m) 0 (a + b), count, within, small) in
-    feed-cause first s more stores err fell
+    feed-cause first s more stores err calm
     (subst (All (λ (c : DataChunk). FitsSchema s.setting.query.schema c.frame)) (sym is) fit)
     (subst (λ (cs : List DataChunk). total_height cs < 2 ^ 32) (sym is) rows)
     (subst (λ (cs : List DataChunk). length cs < 2 ^ 32) (sym is) number) cause

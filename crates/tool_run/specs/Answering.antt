@@ -6,6 +6,7 @@ use Rattle.pipe_plan.specs.Rounds.{IsFront}
 use Rattle.pipe_plan.specs.Run.{StoreSeen}
 use Rattle.pipe_run.specs.declared.output.GroupByOutput.{GroupByOutput}
 use Rattle.pipe_run.specs.Answered.{HaveWholeFrames, IsAnswered}
+use Rattle.pipe_run.specs.Failing.{NoneFailed}
 use Rattle.pipe_run.specs.Fed.{FedSeen}
 use Rattle.pipe_run.specs.Finish.{IsFinishCause}
 use Rattle.pipe_run.specs.Refusals.{AllHaveFields}
@@ -27,11 +28,12 @@ pub record IsAnsweredFrom
   pub fit : AllHaveFields x.query.schema chunks
   pub answered : IsAnswered (run_over x false chunks) out stores
 
--- why a run over files ends early: their reading does; or a store's faults rose; or a store doesn't
--- tell, and the frame that is named is one that the run put there; or memory ran out
+-- why a run over files ends early: their reading does, and no store failed; or the store that is named
+-- is the first that did; or a store doesn't tell, and the frame that is named is one that the run put
+-- there; or memory ran out
 abbrev pub IsRunEnd :
     FedSeen → Option Files → ReaderState → List StoreSeen → FileRunError → Type 0
-IsRunEnd s told first stores (error.Read e) = EndsBy told first e
+IsRunEnd s told first stores (error.Read e) = EndsBy told first e × NoneFailed s.stores stores
 IsRunEnd s told first stores (error.Run e) = IsFinishCause s stores e
 
 -- the chunks that a run was fed of files, where they are told: the first that were left, and all of

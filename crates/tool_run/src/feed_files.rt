@@ -5,7 +5,7 @@ ghost use Rattle.pipe_columns.specs.Causes.{Rose};
 ghost use Rattle.pipe_plan.specs.Stores.{stores_seen};
 ghost use Rattle.pipe_io.specs.Tried.{TriedFront};
 ghost use Rattle.pipe_csv.specs.declared.csv_error.CsvError.TheVariants as csv_error;
-ghost use Rattle.pipe_run.specs.Feeding.{NoneFell};
+ghost use Rattle.pipe_run.specs.Failing.{NoneFailed};
 ghost use Rattle.pipe_run.specs.Refusals.{AllHaveFields};
 ghost use Rattle.pipe_source.specs.Reader.{given_fields};
 ghost use Rattle.tool_run.specs.Reading.{AreAll, are_few};
@@ -51,7 +51,7 @@ pub(crate) fn feed_files<
     ensures all { IfOk result (λ r. AreAll (I.told input.old) reader.old r.chunks) }
     ensures few { IfOk result (λ r. are_few r.chunks ≡ true) }
     ensures fit { IfOk result (λ r. AllHaveFields run.entry.setting.query.schema r.chunks) }
-    ensures counted { IfOk result (λ r. NoneFell run.entry.stores r.stores) }
+    ensures counted { IfOk result (λ r. NoneFailed run.entry.stores r.stores) }
     ensures cause { IfErr result (λ e. IsRunEnd run.entry (I.told input.old) reader.old
         (stores_seen S.held S.told S.faults S.sure S.path e.1.items) e.0) }
     ensures failed { IfErr result (λ e. e.0 ≡ error.Read csv_error.Input

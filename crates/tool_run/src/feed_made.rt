@@ -2,7 +2,7 @@
 
 ghost use Rattle.std.specs.Prelude.{◌≡◌, ◌<◌, [], IfErr, IfOk};
 ghost use Rattle.pipe_plan.specs.Stores.{stores_seen};
-ghost use Rattle.pipe_run.specs.Feeding.{NoneFell};
+ghost use Rattle.pipe_run.specs.Failing.{NoneFailed};
 ghost use Rattle.pipe_run.specs.Finish.{IsFinishCause};
 ghost use Rattle.tool_made.specs.Made.{made};
 ghost use Rattle.tool_made.specs.MadeQuery.{made_schema};
@@ -33,7 +33,7 @@ pub(crate) fn feed_made<'a, S: SpillStore + Drop + Send, G: Gate + Sync, H: Thre
     requires fits { made_schema ≡ run.setting.query.schema }
     ensures setting { IfOk result (λ r. r.setting ≡ run.entry.setting) }
     ensures all { IfOk result (λ r. r.chunks ≡ made rows.now) }
-    ensures counted { IfOk result (λ r. NoneFell run.entry.stores r.stores) }
+    ensures counted { IfOk result (λ r. NoneFailed run.entry.stores r.stores) }
     ensures cause { IfErr result (λ e. IsFinishCause run.entry
         (stores_seen S.held S.told S.faults S.sure S.path e.1.items) e.0) }
     ensures back { IfErr result (λ e. HaveFront run.entry.setting

@@ -10,7 +10,7 @@ use Rattle.pipe_groups.proofs.FrameRows.{frame-fields}
 use Rattle.pipe_run.specs.Given.{joined_frames}
 use Rattle.pipe_run.specs.Sources.{chunks_left, source_query}
 use Rattle.pipe_run.proofs.AnswerOfRun.{joining-all, joining-more, joining-none}
-use Rattle.pipe_run.proofs.Asking.{cause-later}
+use Rattle.pipe_run.proofs.Asking.{cause-later, others-trans}
 use Rattle.pipe_run.proofs.answer.joined_chunks.Goals as goal
 
 pub chunks-init : goal.chunks-init
@@ -35,3 +35,7 @@ returns-in-None-clause-frame g c =
 pub returns-in-Err-clause-cause : goal.returns-in-Err-clause-cause
 returns-in-Err-clause-cause g c =
     cause-later c.args.source.now.asked c.chunks.source.asked c.next_chunk.new.self.asked c.in-Err.error c.chunks.invariant.kept c.chunks.invariant.others c.in-Err.ensures.cause
+
+pub returns-in-None-clause-calm : goal.returns-in-None-clause-calm
+returns-in-None-clause-calm g c =
+    (others-trans c.args.source.now.asked c.chunks.source.asked c.next_chunk.new.self.asked c.chunks.invariant.kept c.in-Ok-next_chunk.ensures.kept c.chunks.invariant.others c.in-Ok-next_chunk.ensures.others).calm

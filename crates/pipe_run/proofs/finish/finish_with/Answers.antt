@@ -1,5 +1,5 @@
 use Rattle.std.proofs.Common.{rules, ◌≡◌, [], false, List, map, refl, subst, sym, true}
-use Rattle.std.specs.Prelude.{IfErr, IfOk, Result}
+use Rattle.std.specs.Prelude.{IfErr, IfOk, OnOk, Result}
 use Rattle.std.specs.List.{All, sum_by}
 use Rattle.pipe_columns.specs.declared.data_chunk.DataChunk.{DataChunk}
 use Rattle.pipe_columns.specs.Frame.{FrameData}
@@ -10,10 +10,10 @@ use Rattle.pipe_plan.specs.Run.{tells}
 use Rattle.pipe_global.specs.Partition.{PartitionSeen}
 use Rattle.pipe_global.specs.declared.batch_error.BatchError.{BatchError}
 use Rattle.pipe_run.specs.Ending.{IsAnswerCause}
-use Rattle.pipe_run.specs.Fed.{FedSeen}
+use Rattle.pipe_run.specs.Fed.{CountOn, FedSeen}
 use Rattle.pipe_run.specs.Finish.{IsFinishCause}
 use Rattle.pipe_run.specs.Setting.{run_over}
-use Rattle.pipe_run.proofs.Endings.{answered-shut, few-shut, groups-cause, groups-left, round-cause, round-left, runnable-shut}
+use Rattle.pipe_run.proofs.Endings.{answered-shut, few-shut, groups-cause, groups-left, round-cause, round-left, runnable-shut, unfailed-shut}
 use Rattle.pipe_run.proofs.finish.finish_with.Goals as goal
 
 pub returns-in-Err-clause-cause : goal.returns-in-Err-clause-cause
@@ -101,3 +101,16 @@ round-requires-clause-generic g c = λ κs lives. c.requires.fed.generic
 
 pub round-requires-clause-fed : goal.round-requires-clause-fed
 round-requires-clause-fed g c = λ κs lives. c.requires.fed.fed
+
+pub returns-clause-unfailed : goal.returns-clause-unfailed
+returns-clause-unfailed g c =
+    let x = c.args.begun.now in
+    let taken : List DataChunk = map (λ m. m.value) c.args.chunks.now in
+    let journals = map (λ (p : PartitionSeen). p.journal) c.args.closed.items in
+    let seen = map (λ (p : PartitionSeen). p.store) c.args.closed.items in
+    let s : FedSeen = record { setting = x; chunks = taken; journals = journals; stores = seen } in
+    let after = c.answer_of_run-groups.result.1.items in
+    let calm : CountOn c.in-Ok.ended.closed.items after =
+    subst (λ (r : Result FrameData BatchError). OnOk r (CountOn c.in-Ok.ended.closed.items after)) c.in-Ok-groups.is c.answer_of_run-groups.ensures.calm in
+    unfailed-shut x taken journals seen s refl (map (λ s. record { held = g.S.SpillStore.held s; told = g.S.SpillStore.told s; faults = g.S.SpillStore.faults s; sure = g.S.SpillStore.sure s; path = g.S.SpillStore.path s }) c.parts_of-journals.result.stores.items)
+    c.args.closed.items c.args.rested.items (total_height taken) c.requires.fed c.in-Ok.ended.closed.items after c.in-Ok.ensures.whole c.answer_of_run-groups.ensures.kept c.parts_of-journals.ensures.stores refl c.in-Ok.ensures.counted calm

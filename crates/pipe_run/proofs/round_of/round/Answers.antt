@@ -24,3 +24,9 @@ pub returns-in-Ok-clause-counted : goal.returns-in-Ok-clause-counted
 returns-in-Ok-clause-counted g c =
     let r = run_over c.args.begun.now c.args.is_open (map (λ s. s.value) c.args.taken.now ++ c.args.chunks.now) in
     counted-on r c.args.closed.items c.in-Ok.ended.closed.items (c.requires.fed.partitions.count ∙ sym c.requires.fed.run.stores) (c.in-Ok.ensures.whole.count ∙ sym c.requires.fed.partitions.count) c.in-Ok.ensures.counted
+
+pub returns-in-Err-clause-memory : goal.returns-in-Err-clause-memory
+returns-in-Err-clause-memory g c =
+    λ is.
+    let r = run_over c.args.begun.now c.args.is_open (map (λ s. s.value) c.args.taken.now ++ c.args.chunks.now) in
+    counted-on r c.args.closed.items c.in-Err.refusal.1.items (c.requires.fed.partitions.count ∙ sym c.requires.fed.run.stores) (c.in-Err.ensures.back.count ∙ sym c.requires.fed.partitions.count) (c.in-Err.ensures.memory is)

@@ -9,10 +9,10 @@ use Rattle.pipe_workers.specs.declared.paused.PausedWorker.{PausedWorker}
 use Rattle.pipe_workers.specs.Rounds.{IsRoundOf, RoundSeen}
 use Rattle.pipe_workers.specs.Workers.{TakesTurns}
 use Rattle.pipe_aggs.specs.CheckedQuery.{IsSound}
-use Rattle.pipe_run.specs.Fed.{AllStand}
+use Rattle.pipe_run.specs.Fed.{AllStand, AreCounted}
 use Rattle.pipe_run.specs.Setting.{Setting}
 use Rattle.pipe_run.specs.Rounds.{StandReady}
-use Rattle.pipe_run.proofs.Taking.{take-over, take-ready, take-round, take-runnable, take-stand, take-turns}
+use Rattle.pipe_run.proofs.Taking.{take-counted, take-over, take-ready, take-round, take-runnable, take-stand, take-turns}
 use Rattle.pipe_run.proofs.round_of.round_named.Goals as goal
 
 pub returns-in_default-clause-back : goal.returns-in_default-clause-back
@@ -91,3 +91,11 @@ drive-requires-clause-shares g c = λ κs lives. c.in-Ok-resume.ensures.len
 
 pub drive-requires-clause-rested : goal.drive-requires-clause-rested
 drive-requires-clause-rested g c = λ κs lives. omega (arith, c.args.rested.ok.0, c.requires.fed.workers.count, ap (λ (r : Run). r.limits.workers) c.requires.run)
+
+pub returns-in_default-clause-memory : goal.returns-in_default-clause-memory
+returns-in_default-clause-memory g c = λ _.
+    subst (λ (r : Run). AreCounted r c.args.closed.items) (sym c.requires.run) (take-counted c.args.begun.now c.args.is_open (map (λ s. s.value) c.args.taken.now) c.args.chunks.now c.args.closed.items c.args.rested.items c.requires.fed)
+
+pub returns-in-Err-clause-memory : goal.returns-in-Err-clause-memory
+returns-in-Err-clause-memory g c = λ _.
+    subst (λ (l : List PartitionSeen). AreCounted g.R.Naming.run l) (sym c.in-Err.ensures.back) (subst (λ (r : Run). AreCounted r c.args.closed.items) (sym c.requires.run) (take-counted c.args.begun.now c.args.is_open (map (λ s. s.value) c.args.taken.now) c.args.chunks.now c.args.closed.items c.args.rested.items c.requires.fed))

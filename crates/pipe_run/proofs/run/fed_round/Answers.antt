@@ -10,7 +10,7 @@ use Rattle.pipe_run.specs.Feeding.{chunks_reached, IsBadChunks, IsFeedCause}
 use Rattle.pipe_run.specs.Refusals.{AllHaveFields, AreMany, IsFirstMisfit}
 use Rattle.pipe_run.specs.declared.error.PipeError.TheVariants as error
 use Rattle.pipe_run.specs.Setting.{run_over, Setting}
-use Rattle.pipe_run.proofs.FeedEnds.{bad-back, bad-cause, none-fell, stop-back, stop-cause-of, stop-fits}
+use Rattle.pipe_run.proofs.FeedEnds.{bad-back, bad-cause, none-failed, stop-back, stop-cause-of, stop-fits}
 use Rattle.pipe_run.proofs.Feeding.{fed-more}
 use Rattle.pipe_run.proofs.run.fed_round.Goals as goal
 
@@ -43,7 +43,7 @@ returns-clause-counted g c =
     let seen = map (λ (p : PartitionSeen). p.store) c.args.closed.items in
     let s : FedSeen = record { setting = x; chunks = taken; journals = journals; stores = seen } in
     let after = c.in-Ok-round.ended.closed.items in
-    none-fell x taken journals seen s refl (map (λ (p : PartitionSeen). p.store) after) c.args.closed.items c.args.rested.items c.args.rows c.requires after refl refl (c.in-Ok-round.ensures.whole.count ∙ sym c.requires.fed.partitions.count) c.in-Ok-round.ensures.counted
+    none-failed x taken journals seen s refl (map (λ (p : PartitionSeen). p.store) after) c.args.closed.items c.args.rested.items c.args.rows c.requires after refl refl (c.in-Ok-round.ensures.whole.count ∙ sym c.requires.fed.partitions.count) c.in-Ok-round.ensures.counted
 
 pub returns-in-Err-round-clause-cause : goal.returns-in-Err-round-clause-cause
 returns-in-Err-round-clause-cause g c =
@@ -56,7 +56,7 @@ returns-in-Err-round-clause-cause g c =
     let stores = map (λ (p : PartitionSeen). p.store) c.in-Err-round.closed.items in
     let are = subst (λ (y : Setting). AreChunksOf (query_tree y.query) (taken ++ chunks)) c.begun.view_is c.in-Ok.ensures.chunks in
     subst (IsFeedCause s chunks stores) (sym c.error.ensures)
-    (stop-cause-of x taken journals seen s refl stores c.args.closed.items c.args.rested.items c.args.rows c.requires chunks c.in-Err-round.closed.items c.in-Err-round.stop are refl refl c.in-Err-round.ensures.back c.in-Err-round.ensures.store)
+    (stop-cause-of x taken journals seen s refl stores c.args.closed.items c.args.rested.items c.args.rows c.requires chunks c.in-Err-round.closed.items c.in-Err-round.stop are refl refl c.in-Err-round.ensures.back c.in-Err-round.ensures.store c.in-Err-round.ensures.memory)
 
 pub returns-in-Err-round-clause-back : goal.returns-in-Err-round-clause-back
 returns-in-Err-round-clause-back g c =

@@ -1,7 +1,9 @@
 use Rattle.std.proofs.Common.{◌≡◌, ◌∙◌, IfOk, List, None, ap, arith, length, subst, sym}
+use Rattle.std.specs.Prelude.{OnOk}
 use Rattle.pipe_aggs.specs.QueryTrees.{query_tree}
 use Rattle.pipe_columns.specs.Row.{Row}
 use Rattle.pipe_model.specs.Answer.{answer_of}
+use Rattle.pipe_run.specs.Fed.{CountOn}
 use Rattle.pipe_run.specs.Given.{HasRows}
 use Rattle.pipe_run.specs.Sources.{ArePlacedParts, unasked}
 use Rattle.pipe_run.proofs.side_by_side.answer_side_by_side.Goals as goal
@@ -17,3 +19,7 @@ returns-in-Ok-frame_of_parts-clause-frame g c =
     λ rs rows.
     c.in-Ok-frame_of_parts.ensures rs (omega (arith, count, c.requires.some)) c.requires.slice rows.apart rows.typed (subst (λ k. ArePlacedParts q rs k gs) (sym count) (placed rs rows))
     ∙ ap (answer_of rs q) count
+
+pub returns-in-Ok-frame_of_parts-clause-calm : goal.returns-in-Ok-frame_of_parts-clause-calm
+returns-in-Ok-frame_of_parts-clause-calm g c =
+    subst (λ r. OnOk r (CountOn c.args.closed.items c.finish_all-given.result.1.items)) c.in-Ok.is c.finish_all-given.ensures.calm

@@ -1,15 +1,15 @@
 use Rattle.std.proofs.Common.{rules, ◌≡◌, ◌∙◌, ◌<◌, All, List, None, Ok, Err, ℕ, ap, length, map, refl, slice_index_or, subst}
-use Rattle.std.specs.List.{Contains}
 use Rattle.std.proofs.lemmas.List.{with_items_is, places}
 use Rattle.std.proofs.lemmas.Result.{IfErr-weaker, IfOk-weaker}
 use Rattle.pipe_aggs.specs.QueryTrees.{query_tree}
 use Rattle.pipe_columns.specs.Row.{Row}
 use Rattle.pipe_keyed.specs.Tables.{Table}
 use Rattle.pipe_run.specs.declared.tasks.FinishTask.{FinishTask}
+use Rattle.pipe_run.specs.Fed.{CountOn}
 use Rattle.pipe_run.specs.Given.{HasRows}
 use Rattle.pipe_run.specs.Sources.{ArePlacedParts, IsGiveCause, IsPlacedFrame, unasked}
 use Rattle.pipe_run.specs.Tasks.{IsFirstRefusal, IsPartOf}
-use Rattle.pipe_run.proofs.SideBySide.{first-given, source-shape, tasks-cause, tasks-count, tasks-finish, tasks-frames, tasks-kept, tasks-placed}
+use Rattle.pipe_run.proofs.SideBySide.{source-shape, tasks-calm, tasks-cause, tasks-count, tasks-finish, tasks-frames, tasks-kept, tasks-placed}
 use Rattle.pipe_run.proofs.side_by_side.finish_all.Goals as goal
 
 pub cut_by_partition-requires-clause-shape : goal.cut_by_partition-requires-clause-shape
@@ -55,6 +55,21 @@ returns-clause-frames g c =
     IfOk-weaker c.taken_apart.result.0 (λ v. map Ok v.items ≡ map (λ t. t.given) _) (λ v. All (IsPlacedFrame (query_tree c.args.query.now)) v.items)
     (λ v all. tasks-frames (λ t. t.partition) (λ t. t.local) (λ t. t.given) s c.requires.source refl c.in-Ok.locals.items old new partitions locals cut c.finish_each.ensures.count c.finish_each.ensures.each c.taken_apart.result.1.items after v.items (all ∙ ap (λ l. map (λ t. t.given) l) back)) c.taken_apart.ensures.placed
 
+pub returns-clause-calm : goal.returns-clause-calm
+returns-clause-calm g c =
+    let s = unasked c.args.query.now c.args.closed.items c.args.local None in
+    let count : c.len-count.result ≡ length c.args.closed.items = search rules in
+    let cut = subst (λ n. (p : ℕ) (d : Table) → p < n → IsPartOf n p c.args.local (slice_index_or c.in-Ok.locals.items p d)) count c.in-Ok.ensures.parts in
+    let old : List (FinishTask g.row.S.Denot) = c.as_mut_slice.result.now in
+    let new : List (FinishTask g.row.S.Denot) = c.finish_each.new.tasks in
+    let lent : old ≡ c.tasks_of-tasks.result.items = c.as_mut_slice.ensures.value in
+    let back = with_items_is c.tasks_of-tasks.result new (search (rules, places)) in
+    let partitions = ap (λ l. map (λ t. t.partition) l) lent ∙ c.tasks_of-tasks.ensures.partitions in
+    let locals = ap (λ l. map (λ t. t.local) l) lent ∙ c.tasks_of-tasks.ensures.locals in
+    let after = c.taken_apart.ensures.partitions ∙ ap (λ l. map (λ t. t.partition) l) back in
+    IfOk-weaker c.taken_apart.result.0 (λ v. map Ok v.items ≡ map (λ t. t.given) _) (λ v. CountOn c.args.closed.items c.taken_apart.result.1.items)
+    (λ v all. tasks-calm (λ t. t.partition) (λ t. t.local) (λ t. t.given) s c.requires.source refl c.in-Ok.locals.items old new partitions locals cut c.finish_each.ensures.count c.finish_each.ensures.each c.taken_apart.result.1.items after v.items (all ∙ ap (λ l. map (λ t. t.given) l) back)) c.taken_apart.ensures.placed
+
 pub returns-clause-placed : goal.returns-clause-placed
 returns-clause-placed g c =
     let s = unasked c.args.query.now c.args.closed.items c.args.local None in
@@ -97,4 +112,4 @@ returns-clause-cause g c =
     let locals = ap (λ l. map (λ t. t.local) l) lent ∙ c.tasks_of-tasks.ensures.locals in
     let after = c.taken_apart.ensures.partitions ∙ ap (λ l. map (λ t. t.partition) l) back in
     IfErr-weaker c.taken_apart.result.0 (λ e. IsFirstRefusal (map (λ t. t.given) _) e) (λ e. IsGiveCause s (record s { partitions = c.taken_apart.result.1.items }) e)
-    (λ e there. tasks-cause (λ t. t.partition) (λ t. t.local) (λ t. t.given) s c.requires.source refl c.in-Ok.locals.items old new partitions locals cut c.finish_each.ensures.count c.finish_each.ensures.each c.taken_apart.result.1.items after e (subst (λ l. Contains (map (λ t. t.given) l) (Err e)) back (first-given (map (λ t. t.given) _) e there))) c.taken_apart.ensures.refused
+    (λ e there. tasks-cause (λ t. t.partition) (λ t. t.local) (λ t. t.given) s c.requires.source refl c.in-Ok.locals.items old new partitions locals cut c.finish_each.ensures.count c.finish_each.ensures.each c.taken_apart.result.1.items after e (subst (λ l. IsFirstRefusal (map (λ t. t.given) l) e) back there)) c.taken_apart.ensures.refused

@@ -7,13 +7,14 @@ use Rattle.pipe_aggs.specs.QueryTrees.{query_tree}
 use Rattle.pipe_model.specs.Rows.{AreChunksOf}
 use Rattle.pipe_plan.specs.Run.{StoreSeen}
 use Rattle.pipe_run.specs.declared.error.PipeError.TheVariants as error
-use Rattle.pipe_run.specs.Feeding.{NoneFell}
+use Rattle.pipe_run.specs.Failing.{NoneFailed}
 use Rattle.pipe_run.specs.Refusals.{AllHaveFields, AreMany, IsBeginCause, IsFirstMisfit}
 use Rattle.pipe_run.specs.Setting.{Setting}
 use Rattle.pipe_run.specs.WholeRun.{CanBegin, CanRunOver, setting_suits}
 use Rattle.pipe_run.proofs.FeedEnds.{can-feed}
 use Rattle.pipe_run.proofs.LimitFacts.{fit-count, fit-few, fit-former, fit-limits, fit-same}
-use Rattle.pipe_run.proofs.RunEnds.{begin-ends, chunks-ends, feed-ends, fell-twice, finish-ends, fits-setting, memory-ends}
+use Rattle.pipe_run.proofs.Counted.{calm-twice}
+use Rattle.pipe_run.proofs.RunEnds.{begin-ends, chunks-ends, feed-ends, finish-ends, fits-setting, memory-ends}
 use Rattle.pipe_run.proofs.whole_run.run_generic.Goals as goal
 
 pub returns-in-Err : goal.returns-in-Err
@@ -88,8 +89,8 @@ returns-in-Err-feed g c =
     let first = c.in-Ok-before_chunks.run' in
     let setting : first.setting ≡ x = c.in-Ok-before_chunks.ensures.setting
     ∙ ap {B = Setting} (λ (q : Query). record { query = q; limits = c.args.limits.now; actions = map (λ v. v.items) c.args.actions.items; rules = c.args.rules.items; stores = map seen c.args.stores.items }) c.in-Ok.ensures.query in
-    let fell : NoneFell x.stores first.stores = c.in-Ok-before_chunks.ensures.counted in
-    feed-ends x chunks first (map seen c.in-Err-feed.stores.items) c.in-Err-feed.error can setting c.in-Ok-before_chunks.ensures.chunks fell c.in-Err-feed.ensures.cause c.in-Err-feed.ensures.back
+    let calm : NoneFailed x.stores first.stores = c.in-Ok-before_chunks.ensures.counted in
+    feed-ends x chunks first (map seen c.in-Err-feed.stores.items) c.in-Err-feed.error can setting c.in-Ok-before_chunks.ensures.chunks calm c.in-Err-feed.ensures.cause c.in-Err-feed.ensures.back
 
 pub returns : goal.returns
 returns g c =
@@ -105,7 +106,7 @@ returns g c =
     let first = c.in-Ok-before_chunks.run' in
     let setting : first.setting ≡ x = c.in-Ok-before_chunks.ensures.setting
     ∙ ap {B = Setting} (λ (q : Query). record { query = q; limits = c.args.limits.now; actions = map (λ v. v.items) c.args.actions.items; rules = c.args.rules.items; stores = map seen c.args.stores.items }) c.in-Ok.ensures.query in
-    let fell : NoneFell x.stores first.stores = c.in-Ok-before_chunks.ensures.counted in
+    let calm : NoneFailed x.stores first.stores = c.in-Ok-before_chunks.ensures.counted in
     let last = c.in-Ok-feed.run' in
     let fed : last.chunks ≡ chunks = c.in-Ok-feed.ensures.chunks ∙ ap (λ (l : List DataChunk). l ++ chunks) c.in-Ok-before_chunks.ensures.chunks in
-    finish-ends x chunks last c.finish.result.0 (map seen c.finish.result.1.items) (c.in-Ok-feed.ensures.setting ∙ setting) fed can (fell-twice x.stores first.stores last.stores fell c.in-Ok-feed.ensures.counted) c.finish.ensures.answered c.finish.ensures.cause c.finish.ensures.back
+    finish-ends x chunks last c.finish.result.0 (map seen c.finish.result.1.items) (c.in-Ok-feed.ensures.setting ∙ setting) fed can (calm-twice x.stores first.stores last.stores calm c.in-Ok-feed.ensures.counted) c.finish.ensures.answered c.finish.ensures.unfailed c.finish.ensures.cause c.finish.ensures.back

@@ -10,6 +10,7 @@ use Rattle.pipe_spill.specs.KeyTypes.{AreOfTypes}
 use Rattle.pipe_spill.specs.SpillRow.{IsRow, spilled}
 use Rattle.pipe_spill.proofs.SpilledRows.{spilled_is_row}
 use Rattle.pipe_groups.specs.Shape.{Shape, shape_of}
+use Rattle.pipe_waiting.specs.Waiting.{AreWaiting, payload_read}
 use Rattle.pipe_tables.proofs.AfterFacts.{after-room}
 use Rattle.pipe_global.specs.Shares.{SharesSeen}
 use Rattle.pipe_workers.specs.declared.stop.WorkerStop.TheVariants as stop
@@ -17,7 +18,7 @@ use Rattle.pipe_workers.specs.Steps.{taken_with}
 use Rattle.pipe_workers.specs.Turns.{AreSharesAtStop}
 use Rattle.pipe_workers.proofs.AtRows.{all-taken, arrival-next, leaves, piece-next, row-typed, taken-few}
 use Rattle.pipe_workers.proofs.InTurns.{at-row, row-few, turn-stopped}
-use Rattle.pipe_workers.proofs.RowEnds.{gone-is, row-ends, row-leaves}
+use Rattle.pipe_workers.proofs.RowEnds.{gone-read, row-ends, row-leaves}
 use Rattle.pipe_workers.proofs.rows.take_row.Goals as goal
 
 pub encode_row-requires-clause-typed : goal.encode_row-requires-clause-typed
@@ -64,8 +65,8 @@ insert_lent-requires-clause-few g c =
     (taken-few r w i (taken_with r w i rows n) (row_at rows n) c.args.table.now c.args.shares.now c.query.ensures.takes_turns at c.requires.within)
     c.requires.within.table
 
-pub spill-requires-clause-exists : goal.spill-requires-clause-exists
-spill-requires-clause-exists g c =
+pub spill_waiting-requires-clause-exists : goal.spill_waiting-requires-clause-exists
+spill_waiting-requires-clause-exists g c =
     let r = g.R.Naming.run in
     let w = c.args.shares.now.worker in
     let i = c.args.turn.now.position in
@@ -73,11 +74,11 @@ spill-requires-clause-exists g c =
     let n = c.args.row in
     let at = at-row r w i rows n c.requires.there c.requires.turn in
     let gone = (rw c.in-Payload.is at c.insert_lent.ensures.payload) refl in
-    let left = gone-is r w i rows n c.args.table.now c.args.shares.now c.query.ensures.takes_turns c.requires.turn c.requires.there c.requires.within _ gone in
+    let left = gone-read r w i rows n c.args.table.now c.args.shares.now c.query.ensures.takes_turns c.requires.turn c.requires.there c.requires.within c.in-Payload.partition c.in-Payload.payload gone in
     (leaves r w i (taken_with r w i rows n) (row_at rows n) c.args.table.now c.args.shares.now c.query.ensures.takes_turns at c.requires.within _ _ left).there
 
-pub spill-requires-clause-next : goal.spill-requires-clause-next
-spill-requires-clause-next g c =
+pub spill_waiting-requires-clause-next : goal.spill_waiting-requires-clause-next
+spill_waiting-requires-clause-next g c =
     let r = g.R.Naming.run in
     let w = c.args.shares.now.worker in
     let i = c.args.turn.now.position in
@@ -85,11 +86,11 @@ spill-requires-clause-next g c =
     let n = c.args.row in
     let at = at-row r w i rows n c.requires.there c.requires.turn in
     let gone = (rw c.in-Payload.is at c.insert_lent.ensures.payload) refl in
-    let left = gone-is r w i rows n c.args.table.now c.args.shares.now c.query.ensures.takes_turns c.requires.turn c.requires.there c.requires.within _ gone in
-    arrival-next r w i (taken_with r w i rows n) (row_at rows n) c.args.table.now c.args.shares.now c.query.ensures.takes_turns at c.requires.within _ c.in-Payload.payload left
+    let left = gone-read r w i rows n c.args.table.now c.args.shares.now c.query.ensures.takes_turns c.requires.turn c.requires.there c.requires.within c.in-Payload.partition c.in-Payload.payload gone in
+    arrival-next r w i (taken_with r w i rows n) (row_at rows n) c.args.table.now c.args.shares.now c.query.ensures.takes_turns at c.requires.within c.in-Payload.partition (payload_read (input_types r.query) c.in-Payload.payload) left
 
-pub spill-requires-clause-piece : goal.spill-requires-clause-piece
-spill-requires-clause-piece g c =
+pub spill_waiting-requires-clause-piece : goal.spill_waiting-requires-clause-piece
+spill_waiting-requires-clause-piece g c =
     let r = g.R.Naming.run in
     let w = c.args.shares.now.worker in
     let i = c.args.turn.now.position in
@@ -97,8 +98,13 @@ spill-requires-clause-piece g c =
     let n = c.args.row in
     let at = at-row r w i rows n c.requires.there c.requires.turn in
     let gone = (rw c.in-Payload.is at c.insert_lent.ensures.payload) refl in
-    let left = gone-is r w i rows n c.args.table.now c.args.shares.now c.query.ensures.takes_turns c.requires.turn c.requires.there c.requires.within _ gone in
-    piece-next r w i (taken_with r w i rows n) (row_at rows n) c.args.table.now c.args.shares.now c.query.ensures.takes_turns at c.requires.within _ c.in-Payload.payload left
+    let left = gone-read r w i rows n c.args.table.now c.args.shares.now c.query.ensures.takes_turns c.requires.turn c.requires.there c.requires.within c.in-Payload.partition c.in-Payload.payload gone in
+    piece-next r w i (taken_with r w i rows n) (row_at rows n) c.args.table.now c.args.shares.now c.query.ensures.takes_turns at c.requires.within c.in-Payload.partition (payload_read (input_types r.query) c.in-Payload.payload) left
+
+pub spill_waiting-requires-clause-typed : goal.spill_waiting-requires-clause-typed
+spill_waiting-requires-clause-typed g c =
+    let packed = rw c.in-Payload.is at c.insert_lent.ensures.packed in
+    subst (λ (h : Shape). AreWaiting h.input_types c.in-Payload.payload) c.requires.within.table.shape packed.typed
 
 pub returns-in-Done-clause-ok : goal.returns-in-Done-clause-ok
 returns-in-Done-clause-ok g c =
@@ -112,7 +118,7 @@ returns-in-Memory-clause-err g c =
 pub returns-in-Ok-clause-ok : goal.returns-in-Ok-clause-ok
 returns-in-Ok-clause-ok g c =
     row-leaves g.R.Naming.run c.args.shares.now.worker c.args.turn.now.position c.args.turn.now.rows c.args.row c.args.table.now c.args.shares.now c.query.ensures.takes_turns c.requires.turn c.requires.there c.requires.within
-    c.insert_lent.new.self c.spill.new.shares _ c.in-Payload.payload
+    c.insert_lent.new.self c.spill_waiting.new.shares _ (payload_read c.args.table.now.table.shape.input_types c.in-Payload.payload)
     ((rw c.in-Payload.is at c.insert_lent.ensures.payload) refl) ((rw c.in-Payload.is at c.insert_lent.ensures.taken) refl) c.in-Ok.ensures.ok c.worker-worker.ensures.shares
 
 pub returns-in_default-clause-err : goal.returns-in_default-clause-err

@@ -90,7 +90,7 @@ returns-clause-cause g c =
     let began = began-narrow store.held store.told store.faults store.sure store.path (plan_seen c.args.question.plan) q n.query n.wanted.items c.args.stores.items c.in-Ok-begin_run.run' c.requires.made c.requires.count c.requires.paths c.in-Ok.ensures.query c.in-Ok-begin_run.ensures.setting in
     let reader = reader-is (plan_seen c.args.question.plan) q n.wanted.items c.in-Ok-reader_of.reader n.schema c.in-Ok.ensures.schema c.in-Ok-reader_of.ensures.options c.in-Ok-reader_of.ensures.left in
     let never = never-seen store.held store.told store.faults store.sure store.path store.never_failed c.run_files-ended.result.1.items in
-    rw c.file_fault.ensures (run-caused (plan_seen c.args.question.plan) q n.wanted.items covered (stores_seen store.held store.told store.faults store.sure store.path c.args.stores.items) (stores_seen store.held store.told store.faults store.sure store.path c.run_files-ended.result.1.items) c.in-Ok-begin_run.run' began (g.I.InputFiles.told c.args.input.now) (left-read (plan_seen c.args.question.plan) q n.wanted.items (stores_seen store.held store.told store.faults store.sure store.path c.args.stores.items) (stores_seen store.held store.told store.faults store.sure store.path c.run_files-ended.result.1.items) c.in-Ok-begin_run.run' (g.I.InputFiles.told c.args.input.now) c.in-Ok-reader_of.reader began reader (err-at c.run_files-ended.result.0 c.in-Err-ended.error _ c.in-Err-ended.is c.run_files-ended.ensures.back)) c.in-Ok-reader_of.reader never reader c.in-Err-ended.error (err-at c.run_files-ended.result.0 c.in-Err-ended.error _ c.in-Err-ended.is c.run_files-ended.ensures.cause))
+    rw c.file_fault.ensures (run-caused (plan_seen c.args.question.plan) q n.wanted.items covered (stores_seen store.held store.told store.faults store.sure store.path c.args.stores.items) (stores_seen store.held store.told store.faults store.sure store.path c.run_files-ended.result.1.items) c.in-Ok-begin_run.run' began (g.I.InputFiles.told c.args.input.now) (left-read (plan_seen c.args.question.plan) q n.wanted.items (stores_seen store.held store.told store.faults store.sure store.path c.args.stores.items) (stores_seen store.held store.told store.faults store.sure store.path c.run_files-ended.result.1.items) c.in-Ok-begin_run.run' (g.I.InputFiles.told c.args.input.now) c.in-Ok-reader_of.reader began reader (err-at c.run_files-ended.result.0 c.in-Err-ended.error _ c.in-Err-ended.is c.run_files-ended.ensures.back)) c.in-Ok-begin_run.ensures.counted c.in-Ok-reader_of.reader never reader c.in-Err-ended.error (err-at c.run_files-ended.result.0 c.in-Err-ended.error _ c.in-Err-ended.is c.run_files-ended.ensures.cause))
 
 pub returns-clause-of_run : goal.returns-clause-of_run
 returns-clause-of_run g c =

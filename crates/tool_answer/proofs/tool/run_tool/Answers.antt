@@ -1,19 +1,20 @@
 use Rattle.std.proofs.Common.{◌≡◌, ◌∙◌, ◌++◌, ℕ, Some, sym, ap, subst, arith, inl, inr}
 use Rattle.std.specs.Prelude.{◌⊎◌, IsTrue}
 use Rattle.std.specs.List.{All}
+use Rattle.std.proofs.lemmas.Bool.{false≢true}
 use Rattle.std.proofs.lemmas.Option.{none-some}
 use Rattle.pipe_io.specs.Output.{WroteFront}
 use Rattle.tool_words.specs.Asked.{asked}
 use Rattle.tool_answer.specs.Asking.{due_paths}
-use Rattle.tool_answer.specs.Ended.{IsSoundStore}
+use Rattle.tool_answer.specs.Ended.{IsSoundStore, NeverFailed}
 use Rattle.tool_answer.specs.Inside.{RanSeen}
 use Rattle.tool_answer.specs.Faults.{fault_line, IsCaused}
 use Rattle.tool_answer.specs.Inside.{EndsMade, EndsRefused, IsLeft}
 use Rattle.tool_answer.specs.Headline.{HasNoRun, HasRun, HasStopped}
-use Rattle.tool_answer.specs.Status.{FrameDamaged, is_answer, Reports, StoreFailed}
+use Rattle.tool_answer.specs.Status.{FrameDamaged, is_answer, is_read_end, Reports, StoreFailed}
 use Rattle.tool_answer.specs.declared.fault.ToolFault.TheVariants as fault
 use Rattle.tool_answer.proofs.RunFacts.{some-at}
-use Rattle.tool_answer.proofs.ToolFacts.{done-refusal, done-unread, left-any, left-paths, told-complete, told-damaged, told-due, told-not-done, told-otherwise, told-ran, told-refusal, told-store, told-unread, written-answered, written-due, written-run}
+use Rattle.tool_answer.proofs.ToolFacts.{done-refusal, done-unread, left-any, left-paths, told-complete, told-damaged, told-due, told-not-done, told-otherwise, told-ran, told-refusal, told-store, told-unfailed, told-unread, written-answered, written-due, written-run}
 use Rattle.tool_answer.proofs.tool.run_tool.Goals as goal
 use Rattle.tool_answer.proofs.tool.run_tool.Goals.{in-None, in-Some}
 
@@ -74,6 +75,16 @@ returns-clause-damaged g c = elim c.match-fault.branch [
       (told-damaged w.in-Some.fault (asked c.args.words.now) (g.I.InputFiles.told c.args.input.now) c.run.result.stores w.report-status.result
       (some-at c.run.result.fault w.in-Some.fault (λ f. IsCaused f (asked c.args.words.now) (g.I.InputFiles.told c.args.input.now) c.run.result.stores) (sym (ap (λ (r : RanSeen). r.fault) c.fault.view_is) ∙ w.in-Some.is) c.run.ensures.cause)
       w.report-status.ensures.either (sym w.status-is ∙ is))
+]
+
+pub returns-clause-unfailed : goal.returns-clause-unfailed
+returns-clause-unfailed g c = elim c.match-fault.branch [
+  | in-None w ↦ λ is. absurd (false≢true (subst (λ (n : ℕ). IsTrue (is_read_end n)) w.status-is is))
+  | in-Some w ↦ λ is.
+      subst (λ (r : RanSeen). NeverFailed r.stores) (sym c.fault.view_is)
+      (told-unfailed w.in-Some.fault (asked c.args.words.now) (g.I.InputFiles.told c.args.input.now) c.run.result.stores w.report-status.result
+      (some-at c.run.result.fault w.in-Some.fault (λ f. IsCaused f (asked c.args.words.now) (g.I.InputFiles.told c.args.input.now) c.run.result.stores) (sym (ap (λ (r : RanSeen). r.fault) c.fault.view_is) ∙ w.in-Some.is) c.run.ensures.cause)
+      w.report-status.ensures.either (subst (λ (n : ℕ). IsTrue (is_read_end n)) w.status-is is))
 ]
 
 pub returns-clause-complete : goal.returns-clause-complete

@@ -7,6 +7,7 @@ use Rattle.pipe_io.specs.Files.{Files}
 use Rattle.pipe_io.specs.Tried.{AreTried}
 use Rattle.pipe_io.proofs.TriedFacts.{front-then, tried-none, tried-then}
 use Rattle.pipe_model.specs.Rows.{total_height}
+use Rattle.pipe_run.specs.Failing.{NoneFailed}
 use Rattle.pipe_run.specs.Feeding.{chunks_reached}
 use Rattle.pipe_run.specs.Refusals.{AllHaveFields}
 use Rattle.pipe_run.specs.Setting.{Setting}
@@ -14,7 +15,8 @@ use Rattle.pipe_source.specs.Reader.{given_fields, ReaderState}
 use Rattle.tool_run.specs.Answering.{AreFedOf}
 use Rattle.tool_run.specs.Reading.{ComeFirst}
 use Rattle.tool_run.specs.Rounds.{WereTaken, EndsBehind, HasNoneLeft}
-use Rattle.tool_run.proofs.FeedFacts.{chunks-more, ends-behind, feed-cause, fell-none, fell-then, fit-more, fit-none, front-of, reached-has, rows-more, taken-all, taken-first, taken-none, taken-then}
+use Rattle.pipe_run.proofs.Counted.{calm-same, calm-twice}
+use Rattle.tool_run.proofs.FeedFacts.{chunks-more, ends-behind, feed-cause, fit-more, fit-none, front-of, reached-has, rows-more, taken-all, taken-first, taken-none, taken-then}
 use Rattle.tool_run.proofs.feed_files.feed_files.Goals as goal
 
 pub loop-init : goal.loop-init
@@ -32,15 +34,18 @@ loop-init g c =
       few_rows = omega arith;
       rounds = omega arith;
       fit = fit-none c.args.run.setting.query.schema c.args.run.chunks none;
-      counted = fell-none c.args.run.stores;
+      counted = calm-same c.args.run.stores c.args.run.stores refl;
       taken = taken-none (g.I.InputFiles.told c.args.input.now) c.args.reader.now c.args.run.chunks none;
     }
 
 pub returns-in-Err-clause-cause : goal.returns-in-Err-clause-cause
 returns-in-Err-clause-cause g c =
     let inv = c.loop.invariant in
-    ends-behind c.loop.before (g.I.InputFiles.told c.args.input.now) c.args.reader.now c.loop.reader c.loop.run.chunks c.in-Err.error inv.chunks inv.rows inv.taken
-    (subst (λ (t : Option Files). EndsBehind c.loop.before t c.loop.reader c.in-Err.error) inv.told c.in-Err.ensures.ends)
+    let calm : NoneFailed c.args.run.stores _ = calm-twice c.args.run.stores c.loop.run.stores _ inv.counted (calm-same c.loop.run.stores _ c.into_stores.ensures.as_before) in (
+      ends-behind c.loop.before (g.I.InputFiles.told c.args.input.now) c.args.reader.now c.loop.reader c.loop.run.chunks c.in-Err.error inv.chunks inv.rows inv.taken
+          (subst (λ (t : Option Files). EndsBehind c.loop.before t c.loop.reader c.in-Err.error) inv.told c.in-Err.ensures.ends),
+      calm,
+    )
 
 pub returns-in-Err-clause-tried : goal.returns-in-Err-clause-tried
 returns-in-Err-clause-tried g c = front-then _ _ _ c.args.reader.now.names c.loop.reader.names c.loop.invariant.tried c.read_round.ensures.tried
@@ -108,7 +113,7 @@ returns-then-is_last-clause-fit g c =
     subst (AllHaveFields fields) (sym c.in-Ok-feed_lent.ensures.chunks) (fit-more fields (given_fields c.loop.reader) c.loop.run.chunks more inv.fields inv.fit c.in-Ok.ensures.fit)
 
 pub returns-then-is_last-clause-counted : goal.returns-then-is_last-clause-counted
-returns-then-is_last-clause-counted g c = fell-then c.args.run.stores c.loop.run.stores c.in-Ok-feed_lent.fed.0.stores c.loop.invariant.counted c.in-Ok-feed_lent.ensures.counted
+returns-then-is_last-clause-counted g c = calm-twice c.args.run.stores c.loop.run.stores c.in-Ok-feed_lent.fed.0.stores c.loop.invariant.counted c.in-Ok-feed_lent.ensures.counted
 
 pub loop-preserved : goal.loop-preserved
 loop-preserved g c =
@@ -136,6 +141,6 @@ loop-preserved g c =
       few_rows = c.in-Ok.ensures.few.1;
       rounds = omega (arith, inv.rounds, c.in-Ok.ensures.chunks, full, c.requires.most);
       fit = subst (All (λ (x : DataChunk). FitsSchema c.args.run.setting.query.schema x.frame)) (sym is) fit;
-      counted = fell-then c.args.run.stores c.loop.run.stores c.in-Ok-feed_lent.fed.0.stores inv.counted c.in-Ok-feed_lent.ensures.counted;
+      counted = calm-twice c.args.run.stores c.loop.run.stores c.in-Ok-feed_lent.fed.0.stores inv.counted c.in-Ok-feed_lent.ensures.counted;
       taken = subst (WereTaken told c.args.reader.now now) (sym c.take_back.ensures) (taken-then told c.args.reader.now c.loop.reader c.read_round.new.reader c.loop.run.chunks more now is inv.taken step);
     }

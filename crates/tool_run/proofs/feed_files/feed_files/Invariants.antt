@@ -3,7 +3,7 @@ use Rattle.std.specs.List.{All}
 use Rattle.pipe_columns.specs.Frame.{FitsSchema}
 use Rattle.pipe_io.specs.Tried.{AreTried}
 use Rattle.pipe_model.specs.Rows.{total_height}
-use Rattle.pipe_run.specs.Feeding.{NoneFell}
+use Rattle.pipe_run.specs.Failing.{NoneFailed}
 use Rattle.pipe_source.specs.Reader.{given_fields}
 use Rattle.tool_run.specs.Rounds.{WereTaken}
 use Rattle.tool_run.proofs.feed_files.feed_files.Given as goal
@@ -24,6 +24,6 @@ invariant-loop g l =
       few_rows : l.before.rows < 2 ^ 32;
       rounds : l.counter ≤ l.before.chunks;
       fit : All (λ c. FitsSchema l.fn.run.setting.query.schema c.frame) l.run.chunks;
-      counted : NoneFell l.fn.run.stores l.run.stores;
+      counted : NoneFailed l.fn.run.stores l.run.stores;
       taken : WereTaken (input.told l.fn.input) l.fn.reader l.run.chunks l.reader;
     }

@@ -4,7 +4,8 @@ use Rattle.pipe_run.specs.Setting.{Setting}
 use Rattle.tool_made.specs.Made.{chunk_count}
 use Rattle.tool_made.specs.MadeQuery.{made_schema}
 use Rattle.tool_run.specs.Answering.{AreFedMade}
-use Rattle.tool_run.proofs.FeedFacts.{fell-then, front-of}
+use Rattle.pipe_run.proofs.Counted.{calm-twice}
+use Rattle.tool_run.proofs.FeedFacts.{front-of}
 use Rattle.tool_run.proofs.MadeFacts.{fed-then, made-cause, made-first, made-fit, made-reached, reached-first}
 use Rattle.tool_run.proofs.feed_made.feed_made.Goals as goal
 
@@ -39,5 +40,5 @@ loop-first-preserved g c =
       setting = search rules;
       within = search rules;
       chunks = fed-then c.args.rows.now c.loop-first.first c.min-count.result c.loop-first.run.chunks _ c.in-Ok-feed.run'.chunks inv.chunks (search rules) c.in-Ok-feed.ensures.chunks;
-      counted = fell-then c.args.run.stores c.loop-first.run.stores c.in-Ok-feed.run'.stores inv.counted c.in-Ok-feed.ensures.counted;
+      counted = calm-twice c.args.run.stores c.loop-first.run.stores c.in-Ok-feed.run'.stores inv.counted c.in-Ok-feed.ensures.counted;
     }

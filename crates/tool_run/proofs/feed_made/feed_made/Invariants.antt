@@ -1,5 +1,5 @@
 use Rattle.std.proofs.Common.{◌≡◌, ◌≤◌, ◌-◌}
-use Rattle.pipe_run.specs.Feeding.{NoneFell}
+use Rattle.pipe_run.specs.Failing.{NoneFailed}
 use Rattle.tool_made.specs.Made.{made_from}
 use Rattle.tool_run.proofs.feed_made.feed_made.Given as goal
 
@@ -9,7 +9,7 @@ invariant-loop-first g l = record {
   setting : l.run.setting ≡ l.fn.run.setting;
   within : l.first ≤ l.total;
   chunks : l.run.chunks ≡ made_from l.fn.rows 0 l.first;
-  counted : NoneFell l.fn.run.stores l.run.stores;
+  counted : NoneFailed l.fn.run.stores l.run.stores;
 }
 
 abbrev pub decreases-loop-first : goal.decreases-loop-first

@@ -4,7 +4,7 @@ use Rattle.pipe_global.specs.declared.dump_error.DumpError.TheVariants as dump_e
 use Rattle.pipe_global.specs.Partition.{IsReplayed, PartitionSeen}
 use Rattle.pipe_global.specs.Steps.{IsDumped}
 use Rattle.pipe_global.specs.Refused.{IsKeptBut}
-use Rattle.pipe_global.proofs.Keeping.{book-few, can-write, counted-refused, counted-same, dump-next, share-few, waiting-few}
+use Rattle.pipe_global.proofs.Keeping.{book-few, counted-refused, counted-same, dump-next, share-few, waiting-few}
 use Rattle.pipe_global.proofs.ReplayFacts.{replayed-kept}
 use Rattle.pipe_global.proofs.partition.Partition.dump.Goals as goal
 
@@ -15,9 +15,6 @@ pub dump-requires-clause-room : goal.dump-requires-clause-room
 dump-requires-clause-room g c =
     book-few g.R.Naming.run c.self.inside.contents.number c.self.inside.contents c.self.invariant.0 c.self.invariant.1
     c.worker-worker.result c.events-events.result c.worker-worker.ensures.in_run c.events-events.ensures.is c.events-events.ensures.small
-
-pub dump-requires-clause-inputs : goal.dump-requires-clause-inputs
-dump-requires-clause-inputs g c = can-write g.R.Naming.run c.self.inside.contents.number c.self.inside.contents c.self.invariant.0 c.self.invariant.1
 
 pub dump-requires-clause-few : goal.dump-requires-clause-few
 dump-requires-clause-few g c = waiting-few g.R.Naming.run c.self.inside.contents.number c.self.inside.contents c.self.invariant.0 c.self.invariant.1

@@ -38,7 +38,7 @@ invariant_of-self-2 g c =
     let long : length new.journal ≡ length s.journal + 1 = ap (λ (x : PartitionSeen). length x.journal) ok.others ∙ length-append s.journal (event.Merge w ∷ []) in (
       c.self.invariant.0,
       subst (λ n. IsReplayed r n new) (sym number) replayed,
-      counted-same r c.self.inside.fault_part.amount s new number (ap (λ (x : PartitionSeen). x.failed) ok.others) (omega (arith, faults)) c.self.invariant.2,
+      counted-same r c.self.inside.fault_part.amount s new number (ap (λ (x : PartitionSeen). x.failed) ok.others) faults c.self.invariant.2,
       c.self.invariant.3,
       c.raise.ensures.part.0,
       omega (arith, c.raise.ensures.part.1, c.self.invariant.5, long),
@@ -55,7 +55,7 @@ invariant_of-self g c =
     let number : new.number ≡ s.number = ap (λ (x : PartitionSeen). x.number) kept.others in (
       c.self.invariant.0,
       subst (λ n. IsReplayed r n new) (sym number) (replayed-kept r s.number s new s.failed c.self.invariant.1 kept),
-      counted-same r c.self.inside.fault_part.amount s new number (ap (λ (x : PartitionSeen). x.failed) kept.others) kept.store.faults c.self.invariant.2,
+      counted-same r c.self.inside.fault_part.amount s new number (ap (λ (x : PartitionSeen). x.failed) kept.others) c.in_err-merge.ensures.err_faults c.self.invariant.2,
       c.self.invariant.3,
       c.self.invariant.4,
       c.self.invariant.5 ∙ ap (λ (x : PartitionSeen). length x.journal) (sym kept.others),

@@ -4,11 +4,12 @@ use Rattle.pipe_aggs.specs.QueryTrees.{query_tree}
 use Rattle.pipe_columns.specs.Frame.{FitsSchema}
 use Rattle.pipe_model.specs.Output.{output_schema}
 use Rattle.pipe_spill.specs.declared.spill_row.SpillRow.{SpillRow}
-use Rattle.pipe_global.specs.Finishing.{GivesGroups, GivesOwn, IsCause, IsLeftOf, IsRestOf, KeepsRest, own_rows, StandFor, StandTogether}
+use Rattle.pipe_global.specs.Finishing.{GivesGroups, GivesOwn, HasNoFault, IsCause, IsLeftOf, IsRestOf, KeepsRest, own_rows, StandFor, StandTogether}
 use Rattle.pipe_global.specs.Partition.{PartitionSeen}
+use Rattle.pipe_run.specs.Fed.{CountOn}
 use Rattle.pipe_run.specs.Given.{HasGivenNext, HasRows, KeepsSource, SourceSeen}
 use Rattle.pipe_run.proofs.ChunkFacts.{given-chunk, own-fields}
-use Rattle.pipe_run.proofs.SourceFacts.{asked, given-rows, given-source, keeps-asked, refused-cause, refused-rows, refused-source}
+use Rattle.pipe_run.proofs.SourceFacts.{asked, calm-asked, given-rows, given-source, keeps-asked, refused-cause, refused-rows, refused-source}
 use Rattle.pipe_run.proofs.asked.AskedPartitions.next_chunk.Goals as goal
 
 pub invariant_of-self : goal.invariant_of-self
@@ -97,3 +98,12 @@ returns-clause-fields g c =
     subst (λ (v : SourceSeen). FitsSchema (output_schema (query_tree v.query)) c.in-Ok.frame) c.self.view_is
     (own-fields (query_tree s.query) (slice_index_or s.partitions s.given y) s.slice c.finish.new.slice c.in-Ok.frame shape.shape
     (subst (λ (x : PartitionSeen). GivesOwn x s.slice c.finish.new.slice c.in-Ok.frame) at c.in-Ok.ensures.partition))
+
+pub returns-clause-calm : goal.returns-clause-calm
+returns-clause-calm g c =
+    let s : SourceSeen = record { query = c.self.inside.query.now; partitions = c.self.inside.partitions.items; local = c.self.inside.local; slice = c.self.inside.slice; given = c.self.inside.given } in
+    let y = c.finish.new.self in
+    let lt = subst (λ (v : SourceSeen). v.given < length v.partitions) (sym c.self.view_is) c.requires.left in
+    let at = c.index_mut-partition.ensures.value ∙ get_or_default s.partitions s.given c.index_mut-partition.result.now y lt in
+    let calm = subst (λ (x : PartitionSeen). HasNoFault x y) at c.in-Ok.ensures.calm in
+    subst (λ (v : SourceSeen). CountOn v.partitions (slice_set s.partitions s.given y)) c.self.view_is (calm-asked s y lt calm)

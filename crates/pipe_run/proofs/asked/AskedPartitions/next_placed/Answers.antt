@@ -4,12 +4,13 @@ use Rattle.pipe_aggs.specs.QueryTrees.{query_tree}
 use Rattle.pipe_model.specs.Partitions.{groups_in}
 use Rattle.pipe_groups.specs.QueryRows.{ArePlacedRows}
 use Rattle.pipe_spill.specs.declared.spill_row.SpillRow.{SpillRow}
-use Rattle.pipe_global.specs.Finishing.{CanFinish, GivesOwnPlaced, GivesPlaced, IsCause, IsLeftOf, IsRestOf, KeepsRest, own_rows, StandFor, StandTogether}
+use Rattle.pipe_global.specs.Finishing.{CanFinish, GivesOwnPlaced, GivesPlaced, HasNoFault, IsCause, IsLeftOf, IsRestOf, KeepsRest, own_rows, StandFor, StandTogether}
 use Rattle.pipe_global.specs.Partition.{PartitionSeen}
+use Rattle.pipe_run.specs.Fed.{CountOn}
 use Rattle.pipe_run.specs.Given.{HasRows, KeepsSource, SourceSeen}
 use Rattle.pipe_run.specs.Sources.{IsPlacedFrame}
 use Rattle.pipe_run.proofs.ChunkFacts.{given-placed, own-placed}
-use Rattle.pipe_run.proofs.SourceFacts.{asked, given-rows, given-source, keeps-asked, refused-cause, refused-rows, refused-source}
+use Rattle.pipe_run.proofs.SourceFacts.{asked, calm-asked, given-rows, given-source, keeps-asked, refused-cause, refused-rows, refused-source}
 use Rattle.pipe_run.proofs.asked.AskedPartitions.next_placed.Goals as goal
 
 pub invariant_of-self : goal.invariant_of-self
@@ -111,3 +112,12 @@ finish_placed-requires g c =
     let y = c.index_mut-partition.result.now in
     let at = c.index_mut-partition.ensures.value ∙ get_or_default s.partitions s.given y y lt in
     subst (λ (x : PartitionSeen). CanFinish x s.local) (sym at) ((c.self.invariant.each s.given y lt).can (omega arith))
+
+pub returns-clause-calm : goal.returns-clause-calm
+returns-clause-calm g c =
+    let s : SourceSeen = record { query = c.self.inside.query.now; partitions = c.self.inside.partitions.items; local = c.self.inside.local; slice = c.self.inside.slice; given = c.self.inside.given } in
+    let y = c.finish_placed.new.self in
+    let lt = subst (λ (v : SourceSeen). v.given < length v.partitions) (sym c.self.view_is) c.requires.left in
+    let at = c.index_mut-partition.ensures.value ∙ get_or_default s.partitions s.given c.index_mut-partition.result.now y lt in
+    let calm = subst (λ (x : PartitionSeen). HasNoFault x y) at c.in-Ok.ensures.calm in
+    subst (λ (v : SourceSeen). CountOn v.partitions (slice_set s.partitions s.given y)) c.self.view_is (calm-asked s y lt calm)

@@ -18,7 +18,7 @@ returns-in-Err-clause-cause g c =
     let order = subst (λ (v : GroupSourceSeen). (source_query v).keeps_order ≡ false) (sym c.self.view_is) c.requires.order in
     let source = subst (λ (v : GroupSourceSeen). IsSource v.asked) (sym c.self.view_is) c.requires.source in
     subst (λ (v : GroupSourceSeen). IsGiveCause v.asked c.next_chunk.new.self c.in-Err.error) c.self.view_is
-    (cause-one s.asked c.next_chunk.new.self c.in-Err.error source (one-left s left order source.given) c.in-Err.ensures.cause)
+    (cause-one s.asked c.next_chunk.new.self c.in-Err.error source (one-left s left order source.given) c.in-Err.ensures.refused c.in-Err.ensures.cause)
 
 pub returns-clause-chunk : goal.returns-clause-chunk
 returns-clause-chunk g c =

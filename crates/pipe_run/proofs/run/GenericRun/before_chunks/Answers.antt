@@ -7,7 +7,7 @@ use Rattle.pipe_model.specs.Groupable.{IsGroupable}
 use Rattle.pipe_plan.specs.Run.{StoreSeen}
 use Rattle.pipe_run.specs.Fed.{AreCounted, AreWholePartitions, IsFedRun}
 use Rattle.pipe_run.specs.Setting.{run_over, Setting}
-use Rattle.pipe_run.proofs.Openings.{begun-fed, none-fallen}
+use Rattle.pipe_run.proofs.Openings.{begun-fed, none-before}
 use Rattle.pipe_run.proofs.run.GenericRun.before_chunks.Goals as goal
 
 pub opened-requires-clause-former : goal.opened-requires-clause-former
@@ -55,4 +55,4 @@ returns-in-Ok-opened-clause-counted g c =
     let many : length c.args.stores.items ≡ c.args.limits.now.partitions = search rules in
     let whole = subst (λ (y : Setting). AreWholePartitions (run_over y true []) closed) is c.in-Ok-opened.ensures.whole in
     let counted = subst (λ (y : Setting). AreCounted (run_over y true []) closed) is c.in-Ok-opened.ensures.counted in
-    none-fallen x closed (whole.count ∙ sym many ∙ sym (length-map c.args.stores.items seen)) counted
+    none-before x closed (whole.count ∙ sym many ∙ sym (length-map c.args.stores.items seen)) counted

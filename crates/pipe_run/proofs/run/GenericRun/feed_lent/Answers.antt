@@ -1,13 +1,14 @@
-use Rattle.std.proofs.Common.{◌≡◌, ◌∙◌, ◌++◌, ◌≤◌, List, ap, arith, length, map, subst, sym, true, vec_capacity, vec_len}
+use Rattle.std.proofs.Common.{◌≡◌, ◌∙◌, ◌++◌, ◌≤◌, List, ap, arith, length, map, refl, subst, sym, true, vec_capacity, vec_len}
 use Rattle.pipe_columns.specs.declared.data_chunk.DataChunk.{DataChunk}
 use Rattle.pipe_plan.specs.declared.event.PartitionEvent.{PartitionEvent}
 use Rattle.pipe_global.specs.Partition.{PartitionSeen}
 use Rattle.pipe_plan.specs.Run.{StoreSeen}
 use Rattle.pipe_run.specs.Answered.{HaveWholeFrames}
 use Rattle.pipe_run.specs.Fed.{FedSeen, IsFedRun}
-use Rattle.pipe_run.specs.Feeding.{chunks_reached, IsFeedCause, NoneFell}
+use Rattle.pipe_run.specs.Failing.{NoneFailed}
+use Rattle.pipe_run.specs.Feeding.{chunks_reached, IsFeedCause}
 use Rattle.pipe_run.specs.Setting.{run_over, Setting}
-use Rattle.pipe_run.proofs.FeedEnds.{early-back, fed-all}
+use Rattle.pipe_run.proofs.FeedEnds.{early-back, early-cause, fed-all}
 use Rattle.pipe_run.proofs.run.GenericRun.feed_lent.Goals as goal
 
 -- what is seen of a run
@@ -75,7 +76,13 @@ invariant_of-run g c =
     (subst (λ l. IsFedRun x l closed rested c.in-Ok-fed_round.fed.rows) (sym all) fed, c.self.invariant.1, room)
 
 pub returns-in-Err-clause-cause : goal.returns-in-Err-clause-cause
-returns-in-Err-clause-cause g c = tt
+returns-in-Err-clause-cause g c =
+    let x = c.self.inside.begun in
+    let taken : List DataChunk = map (λ m. m.value) c.self.inside.chunks.items in
+    let journals = map (λ (p : PartitionSeen). p.journal) c.self.inside.closed.items in
+    let seen = map (λ (p : PartitionSeen). p.store) c.self.inside.closed.items in
+    early-cause x taken journals seen c.args.self c.self.view_is (map (λ s. record { held = g.S.SpillStore.held s; told = g.S.SpillStore.told s; faults = g.S.SpillStore.faults s; sure = g.S.SpillStore.sure s; path = g.S.SpillStore.path s }) c.stores_of.result.items)
+    c.self.inside.closed.items c.self.inside.rested.items c.self.inside.rows c.self.invariant.0 c.args.chunks.items c.stores_of.ensures refl
 
 pub returns-in-Err-clause-untouched : goal.returns-in-Err-clause-untouched
 returns-in-Err-clause-untouched g c = λ bad. absurd bad
@@ -102,4 +109,4 @@ returns-clause-fed g c =
     fed-all x taken journals seen c.args.self c.self.view_is seen c.self.inside.closed.items c.self.inside.rested.items c.self.inside.rows c.self.invariant.0 c.args.chunks.items fed.chunks_are
 
 pub returns-clause-counted : goal.returns-clause-counted
-returns-clause-counted g c = subst (λ (s : FedSeen). NoneFell s.stores (map (λ (p : PartitionSeen). p.store) c.in-Ok-fed_round.fed.closed.items)) c.self.view_is c.in-Ok-fed_round.ensures.counted
+returns-clause-counted g c = subst (λ (s : FedSeen). NoneFailed s.stores (map (λ (p : PartitionSeen). p.store) c.in-Ok-fed_round.fed.closed.items)) c.self.view_is c.in-Ok-fed_round.ensures.counted

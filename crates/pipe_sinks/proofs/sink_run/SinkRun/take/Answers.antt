@@ -1,11 +1,11 @@
-use Rattle.std.proofs.Common.{◌≡◌, ◌∙◌, ◌+◌, ◌<◌, ◌^◌, ◌∷◌, ◌++◌, [], List, false, is_some, ap, sym, subst, arith}
+use Rattle.std.proofs.Common.{◌≡◌, ◌∙◌, ◌+◌, ◌<◌, ◌^◌, ◌∷◌, ◌++◌, [], List, ap, sym, subst, arith}
 use Rattle.pipe_columns.specs.declared.data_chunk.DataChunk.{DataChunk}
 use Rattle.pipe_aggs.specs.QueryTrees.{query_tree}
 use Rattle.pipe_model.specs.Rows.{total_height}
 use Rattle.pipe_sinks.specs.SoleKeys.{AreGivenKeys}
 use Rattle.pipe_sinks.specs.Runs.{Run}
 use Rattle.pipe_sinks.proofs.MarkFacts.{marked, marked-push}
-use Rattle.pipe_sinks.proofs.RunFacts.{kept-shape, later-apart, on-err, room-once, run-alike, run-once, single-height, single-taken}
+use Rattle.pipe_sinks.proofs.RunFacts.{later-apart, on-err, room-once, run-alike, run-once, single-height, single-taken}
 use Rattle.pipe_sinks.proofs.sink_run.SinkRun.take.Goals as goal
 
 pub add_at_once-requires-clause-height : goal.add_at_once-requires-clause-height
@@ -16,13 +16,12 @@ add_at_once-requires-clause-height c =
     let asked = ap (λ (r : Run). r.query) c.self.view_is in
     let below : total_height taken + chunk.frame.height < 2 ^ 32 = rw same c.requires.takes.few in
     let few : total_height taken + total_height (chunk ∷ []) < 2 ^ 32 = omega (arith, below, single-height chunk) in
-    let none : is_some c.self.inside.given ≡ false = sym c.is_some.ensures ∙ c.if-is_some.false in
     let small : chunk.frame.height < 2 ^ 32 = omega (arith, below) in
     small
 
 pub add_at_once-requires-clause-shape : goal.add_at_once-requires-clause-shape
 add_at_once-requires-clause-shape c =
-    kept-shape _ _ _ _ c.self.invariant.kept
+    c.self.invariant.kept.shape
 
 pub add_at_once-requires-clause-sole : goal.add_at_once-requires-clause-sole
 add_at_once-requires-clause-sole c =
@@ -44,9 +43,8 @@ add_at_once-requires-clause-few c =
     let asked = ap (λ (r : Run). r.query) c.self.view_is in
     let below : total_height taken + chunk.frame.height < 2 ^ 32 = rw same c.requires.takes.few in
     let few : total_height taken + total_height (chunk ∷ []) < 2 ^ 32 = omega (arith, below, single-height chunk) in
-    let none : is_some c.self.inside.given ≡ false = sym c.is_some.ensures ∙ c.if-is_some.false in
     let small : chunk.frame.height < 2 ^ 32 = omega (arith, below) in
-    room-once _ _ taken c.self.inside.table c.self.inside.given c.self.invariant none chunk few
+    room-once _ _ taken c.self.inside.table c.self.invariant chunk few
 
 pub invariant_of-self-in_err-add_at_once : goal.invariant_of-self-in_err-add_at_once
 invariant_of-self-in_err-add_at_once c =
@@ -56,9 +54,8 @@ invariant_of-self-in_err-add_at_once c =
     let asked = ap (λ (r : Run). r.query) c.self.view_is in
     let below : total_height taken + chunk.frame.height < 2 ^ 32 = rw same c.requires.takes.few in
     let few : total_height taken + total_height (chunk ∷ []) < 2 ^ 32 = omega (arith, below, single-height chunk) in
-    let none : is_some c.self.inside.given ≡ false = sym c.is_some.ensures ∙ c.if-is_some.false in
     let small : chunk.frame.height < 2 ^ 32 = omega (arith, below) in
-    run-alike _ _ taken c.self.inside.table c.self.inside.given c.self.invariant none c.add_at_once.new.table _ c.in_err-add_at_once.ensures.alike (ap marked c.in_ok-reserve.ensures.items)
+    run-alike _ _ taken c.self.inside.table c.self.invariant c.add_at_once.new.table _ c.in_err-add_at_once.ensures.alike (ap marked c.in_ok-reserve.ensures.items)
 
 pub returns-in_err-add_at_once-clause-err : goal.returns-in_err-add_at_once-clause-err
 returns-in_err-add_at_once-clause-err c =
@@ -73,8 +70,7 @@ invariant_of-self-2 c =
     let asked = ap (λ (r : Run). r.query) c.self.view_is in
     let below : total_height taken + chunk.frame.height < 2 ^ 32 = rw same c.requires.takes.few in
     let few : total_height taken + total_height (chunk ∷ []) < 2 ^ 32 = omega (arith, below, single-height chunk) in
-    let none : is_some c.self.inside.given ≡ false = sym c.is_some.ensures ∙ c.if-is_some.false in
     let small : chunk.frame.height < 2 ^ 32 = omega (arith, below) in
-    run-once _ _ taken c.self.inside.table c.self.inside.given c.self.invariant none chunk few (single-taken (query_tree c.self.inside.query.now) chunk (rw asked c.requires.takes.fits) c.add_at_once.ensures.types small)
+    run-once _ _ taken c.self.inside.table c.self.invariant chunk few (single-taken (query_tree c.self.inside.query.now) chunk (rw asked c.requires.takes.fits) c.add_at_once.ensures.types small)
     c.add_at_once.new.table _ (rw same (later-apart c.args.self.now.taken chunk c.requires.takes.later)) c.in_ok-add_at_once.ensures.took
     (marked-push c.reserve.new.self.items c.push_reserved.new.self.items c.of.result chunk c.push_reserved.ensures.items c.of.ensures ∙ ap (λ (l : List DataChunk). l ++ chunk ∷ []) (ap marked c.in_ok-reserve.ensures.items))

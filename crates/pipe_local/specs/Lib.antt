@@ -1,0 +1,4 @@
+pub mod WaitingBuffers
+pub mod WorkerEnds
+pub mod OneBuffer
+pub mod BufferEnds
