@@ -5,6 +5,8 @@ pub use Rattle.pipe_source.specs.CsvChunks
 pub use Rattle.pipe_source.specs.Reader
 pub use Rattle.pipe_source.specs.Rounds
 pub use Rattle.pipe_source.specs.Source
+pub use Rattle.pipe_lines.specs.Rows
+pub use Rattle.pipe_lines.specs.Lines
 pub use Rattle.pipe_writers.specs.JsonText
 pub use Rattle.pipe_writers.specs.Kept
 pub use Rattle.pipe_writers.specs.WriteOrder

@@ -8,7 +8,7 @@ use Rattle.pipe_columns.specs.declared.data_chunk.DataChunk.{DataChunk}
 use Rattle.pipe_columns.specs.Frame.{FrameData}
 use Rattle.pipe_plan.proofs.Cutting.{full-append, full-filled, full-short, full-unfilled, last_piece, pieces-full_rest, rest-filled, rest-lt, rest-short, rest-unfilled}
 use Rattle.pipe_plan.specs.Payloads.{full_pieces, rest_of}
-use Rattle.pipe_writers.specs.Rows.{Row}
+use Rattle.pipe_lines.specs.Rows.{Row}
 use Rattle.pipe_writers.specs.WriteOrder.{chunk_has_rows, rows_of_chunks, chunks_with_rows, write_order, written_piece}
 use Rattle.pipe_writers.specs.WriterLaws.{told_alike}
 use Rattle.pipe_writers.specs.Writers.{TellsFront}

@@ -7,7 +7,7 @@ use Rattle.pipe_columns.specs.declared.schema.Field.{Field}
 use Rattle.pipe_columns.specs.Frame.{FitsSchema, FrameData}
 use Rattle.pipe_writers.proofs.KeptFacts.{fields-stacked}
 use Rattle.pipe_writers.specs.Kept.{with_frame_below}
-use Rattle.pipe_writers.specs.Rows.{Row, frame_rows}
+use Rattle.pipe_lines.specs.Rows.{Row, frame_rows}
 use Rattle.pipe_writers.specs.Vstacker.{VstackerData, completed, left_waiting}
 use Rattle.pipe_writers.specs.Waiting.{waiting_rows}
 use Rattle.pipe_writers.specs.WriteOrder.{rows_of_chunks}

@@ -4,7 +4,7 @@ use Rattle.pipe_columns.specs.declared.data_chunk.DataChunk.{DataChunk}
 use Rattle.pipe_columns.specs.Frame.{FrameData}
 use Rattle.pipe_plan.specs.Payloads.{full_pieces, rest_of}
 use Rattle.pipe_writers.specs.declared.sink_writer.WriterCalls.{WriterCalls}
-use Rattle.pipe_writers.specs.Rows.{Row}
+use Rattle.pipe_lines.specs.Rows.{Row}
 use Rattle.pipe_writers.specs.WriteOrder.{rows_of_chunks, chunks_with_rows, written_piece}
 use Rattle.pipe_files_sink.specs.Joined.{HasPut, waits_after}
 

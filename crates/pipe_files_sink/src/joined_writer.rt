@@ -5,7 +5,7 @@ ghost use Rattle.std.specs.List.{All};
 ghost use Rattle.pipe_columns.specs.Causes.{HasCause};
 ghost use Rattle.pipe_files_sink.specs.Joined.{HasPut, IsWritable, then_waits, waits_after};
 ghost use Rattle.pipe_files_sink.specs.JoinedState.{HasPutFront};
-ghost use Rattle.pipe_writers.specs.Rows.{Row, frame_rows};
+ghost use Rattle.pipe_lines.specs.Rows.{Row, frame_rows};
 ghost use Rattle.pipe_writers.specs.WriteOrder.{rows_of_chunks};
 ghost use Rattle.pipe_writers.specs.Writers.{IsOpen};
 ghost use Rattle.pipe_writers.specs.declared.write_error.WriteError.TheVariants as write_error;

@@ -7,7 +7,7 @@ ghost use Rattle.pipe_columns.specs.declared.data_chunk.DataChunk.{DataChunk};
 ghost use Rattle.pipe_files_sink.specs.Core.{CoreSeen, HasTaken};
 ghost use Rattle.pipe_files_sink.specs.Joined.{HasPut, IsWritable, waits_after};
 ghost use Rattle.pipe_files_sink.specs.JoinedState.{HasPutFront};
-ghost use Rattle.pipe_writers.specs.Rows.{Row};
+ghost use Rattle.pipe_lines.specs.Rows.{Row};
 ghost use Rattle.pipe_writers.specs.WriteOrder.{rows_of_chunks, write_order, written_piece};
 ghost use Rattle.pipe_writers.specs.Writers.{IsFresh, IsOpen, TellsAfter, TellsFront, after_batch, after_finish, no_writer_calls};
 ghost use Rattle.pipe_writers.specs.declared.write_error.WriteError.TheVariants as write_error;

@@ -1,7 +1,6 @@
 -- What waits as bytes: its rows one after another, and the same in another table of the shape.
-use Rattle.std.proofs.Common.{◌≡◌, ◌∙◌, ◌+◌, ◌<◌, ◌≤◌, ℕ, zero, suc, true, false, List, [], ◌∷◌, ◌++◌, length, map, refl, sym, ap, subst, arith, append_assoc, length-append, take, drop, get_or}
+use Rattle.std.proofs.Common.{◌≡◌, ◌∙◌, ◌+◌, ◌<◌, ◌≤◌, ℕ, suc, true, false, List, [], ◌∷◌, ◌++◌, length, refl, sym, ap, subst, arith, length-append, take, drop, get_or}
 use Rattle.std.specs.Int.{bytes_high_first}
-use Rattle.std.specs.List.{All, flat_map, sum_by}
 use Rattle.std.proofs.Math.Seq.{drop-cons}
 use Rattle.std.proofs.lemmas.Grind.{flat_map-append}
 use Rattle.std.proofs.lemmas.Bool.Decides.{nat_tests}
@@ -10,39 +9,16 @@ use Rattle.std.proofs.lemmas.List.Elements.{All-append, All-cons, All-head, All-
 use Rattle.std.proofs.lemmas.List.Sums.{sum_by-cons}
 use Rattle.pipe_columns.specs.declared.data_type.DataType.{DataType}
 use Rattle.pipe_spill.specs.FrameBytes.{frame_bytes, rows_bytes}
-use Rattle.pipe_spill.specs.SpillRow.{joined_rows, Payload}
-use Rattle.pipe_spill.specs.declared.spill_row.SpillRow.{SpillRow}
 use Rattle.pipe_spill.proofs.RowBytes.{rows_bytes-append}
 use Rattle.pipe_groups.specs.Shape.{Shape}
 use Rattle.pipe_keyed.specs.Tables.{KeepsShape, Table}
 use Rattle.pipe_waiting.specs.ReadRows.{read_rows}
 use Rattle.pipe_waiting.specs.Waiting.{AreWaiting, Left, left_rows, payload_read, Waiting, waiting_rows}
 use Rattle.pipe_waiting.proofs.ReadBack.{count_read}
-use Rattle.pipe_global.specs.Moving.{AreCovered, CanMerge, CanTake, TookRows}
-use Rattle.pipe_global.specs.Refused.{HoldsSame}
 use Rattle.pipe_global.specs.Steps.{puts}
 use Rattle.pipe_global.specs.Waits.{AllWait, bytes_waiting, count_waiting, payloads_read, rows_read}
-use Rattle.pipe_global.proofs.Moved.{can-take, took-after}
 
 -- ---- one after another
-
--- rows of payloads behind those of others
-pub rows-append : (types : List DataType) (xs ys : List Waiting) → rows_read types (xs ++ ys) ≡ rows_read types xs ++ rows_read types ys
-rows-append types xs ys = ap joined_rows (map-append (payload_read types) xs ys) ∙ flat_map-append (λ (p : Payload). p.rows) (payloads_read types xs) (payloads_read types ys)
-
--- the rows so far, and those of one more
-pub rows-more : (types : List DataType) (ws : List Waiting) (i : ℕ) (w : Waiting) → i < length ws → w ≡ get_or ws i w → rows_read types (take (i + 1) ws) ≡ rows_read types (take i ws) ++ waiting_rows types w
-rows-more types ws i w lt is =
-    ap (rows_read types) (take_more ws i w lt ∙ ap (λ (x : Waiting). take i ws ++ x ∷ []) (sym is))
-    ∙ rows-append types (take i ws) (w ∷ [])
-    ∙ ap (λ (l : List SpillRow). rows_read types (take i ws) ++ l) (append-nil (waiting_rows types w))
-
--- the rows that are left, the first of them one's own
-pub rows-next : (types : List DataType) (ws : List Waiting) (i : ℕ) (w : Waiting) → i < length ws → w ≡ get_or ws i w → rows_read types (drop i ws) ≡ waiting_rows types w ++ rows_read types (drop (i + 1) ws)
-rows-next types ws i w lt is =
-    let one : suc i ≡ i + 1 = omega arith in
-    let next : drop i ws ≡ w ∷ drop (i + 1) ws = drop-cons ws i w lt ∙ ap (λ (x : Waiting). x ∷ drop (suc i) ws) (sym is) ∙ ap (λ n. w ∷ drop n ws) one in
-    ap (rows_read types) next
 
 -- one that waits is as all are
 pub one-waits : (types : List DataType) (ws : List Waiting) (i : ℕ) (w : Waiting) → i < length ws → w ≡ get_or ws i w → AllWait types ws → AreWaiting types w
@@ -61,27 +37,6 @@ same-read t new ws keeps = ap (λ (s : Shape). payloads_read s.input_types ws) k
 -- and has its types
 pub same-wait : (t new : Table) (ws : List Waiting) → KeepsShape t new → AllWait t.shape.input_types ws → AllWait new.shape.input_types ws
 same-wait t new ws keeps all = subst (λ (s : Shape). AllWait s.input_types ws) (sym keeps.0) all
-
--- rows that can be taken behind room for them, in the types of the table that has it
-pub can-read-take : (t now : Table) (ws : List Waiting) → CanMerge t (rows_read t.shape.input_types ws) → HoldsSame t now → AreCovered now.groups (rows_read t.shape.input_types ws)
-    → CanTake now (rows_read now.shape.input_types ws)
-can-read-take t now ws can same covered =
-    subst (CanTake now) (ap (λ (s : Shape). rows_read s.input_types ws) (sym same.shape.0)) (can-take t now (rows_read t.shape.input_types ws) can same covered)
-
--- what waited was taken behind room for it
-pub took-read : (t now new : Table) (ws : List Waiting) → HoldsSame t now → TookRows now new (rows_read now.shape.input_types ws) → TookRows t new (rows_read t.shape.input_types ws)
-took-read t now new ws same took =
-    took-after t now new (rows_read t.shape.input_types ws) same (subst (TookRows now new) (ap (λ (s : Shape). rows_read s.input_types ws) same.shape.0) took)
-
--- the same of rows that are lent
-pub can-lent-take : (t now : Table) (a : Left) → CanMerge t (left_rows t.shape.input_types a) → HoldsSame t now → AreCovered now.groups (left_rows t.shape.input_types a)
-    → CanTake now (left_rows now.shape.input_types a)
-can-lent-take t now a can same covered =
-    subst (CanTake now) (ap (λ (s : Shape). left_rows s.input_types a) (sym same.shape.0)) (can-take t now (left_rows t.shape.input_types a) can same covered)
-
-pub took-lent : (t now new : Table) (a : Left) → HoldsSame t now → TookRows now new (left_rows now.shape.input_types a) → TookRows t new (left_rows t.shape.input_types a)
-took-lent t now new a same took =
-    took-after t now new (left_rows t.shape.input_types a) same (subst (TookRows now new) (ap (λ (s : Shape). left_rows s.input_types a) same.shape.0) took)
 
 -- ---- as a frame
 

@@ -9,7 +9,6 @@ mod closed;
 mod closed_laws;
 mod contents;
 mod dump_error;
-mod feed;
 mod finish;
 mod gate;
 mod gather;

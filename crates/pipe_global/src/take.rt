@@ -7,7 +7,6 @@ ghost use Rattle.pipe_global.specs.Moving.{CanMerge, TookRows};
 ghost use Rattle.pipe_global.specs.Refused.{HoldsSame};
 ghost use Rattle.pipe_global.specs.Waits.{AllWait, rows_read};
 
-use crate::feed::{put_lent, put_waiting_rows, reserve_lent, reserve_waiting};
 use crate::merge::{own_waiting, put_payloads, put_rows, reserve_payloads, reserve_rows};
 use pipe_columns::{AnyValue, DataType};
 use pipe_tables::AggHashTable;
@@ -46,9 +45,7 @@ fn feed_waiting(
     ensures err { OnErr result (HoldsSame table.old table.new) }
 {
     let mut values = values_for(alloc, table.input_types().len())?;
-    reserve_waiting(table, waiting, &mut values)?;
-    put_waiting_rows(table, waiting, &mut values);
-    Ok(())
+    table.take_waiting(waiting, &mut values)
 }
 
 /// Feeds what waits row by row, once all rows are owned.
@@ -118,9 +115,7 @@ fn feed_lent(alloc: Global, table: &mut AggHashTable, rows: LentRows<'_>) -> Res
     ensures err { OnErr result (HoldsSame table.old table.new) }
 {
     let mut values = values_for(alloc, table.input_types().len())?;
-    reserve_lent(table, rows.again(), &mut values)?;
-    put_lent(table, rows, &mut values);
-    Ok(())
+    table.take_lent(rows, &mut values)
 }
 
 /// Feeds rows that are lent row by row, once all are owned.

@@ -5,6 +5,7 @@ pub mod Rounds
 pub mod Sending
 pub mod Combining
 pub mod Untouched
+pub mod Texts
 pub mod Taking
 pub mod Begun
 pub mod AtOnce

@@ -19,6 +19,7 @@ mod whole_run;
 
 pub use group_by_run::GroupByRun;
 pub use pipe_run::{
-    GenericRun, GroupByOutput, GroupBySource, PipeError, run_generic, what_a_group_source_gives,
+    GenericRun, GroupByOutput, GroupBySource, GroupsText, PipeError, TextOutput, run_generic,
+    what_a_group_source_gives,
 };
 pub use whole_run::{run_group_by, run_group_by_rules};

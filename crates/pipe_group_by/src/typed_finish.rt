@@ -2,22 +2,27 @@
 
 ghost use Rattle.std.specs.Prelude.{◌≡◌, ◌<◌, IfErr, IfOk, OnOk, false, map, vec_len};
 ghost use Rattle.pipe_aggs.specs.QueryTrees.{query_tree};
+ghost use Rattle.pipe_columns.specs.Frame.{FitsSchema};
 ghost use Rattle.pipe_model.specs.Answer.{answer};
+ghost use Rattle.pipe_model.specs.Output.{output_schema};
 ghost use Rattle.pipe_model.specs.Rows.{AreChunksOf};
 ghost use Rattle.pipe_plan.specs.Stores.{stores_seen};
 ghost use Rattle.pipe_run.specs.Answered.{HaveWholeFrames, IsAnswered};
+ghost use Rattle.pipe_run.specs.AnsweredText.{IsAnsweredText};
 ghost use Rattle.pipe_run.specs.Failing.{NoneFailed};
 ghost use Rattle.pipe_run.specs.Finish.{IsFinishCause};
 ghost use Rattle.pipe_run.specs.Setting.{run_over};
 ghost use Rattle.pipe_group_by.specs.Taken.{HaveTaken};
-ghost use Rattle.pipe_group_by.specs.Typed.{no_journals};
+ghost use Rattle.pipe_group_by.specs.Typed.{IsTextOf, no_journals};
 
 use crate::combined::groups_of;
 use crate::typed_run::TypedRun;
 use pipe_aggs::CheckedQuery;
+use pipe_asked::{AsText, Form};
 use pipe_columns::DataChunk;
 use pipe_global::{Journal, Journals};
-use pipe_run::{GroupByOutput, PipeError};
+use pipe_lines::Lines;
+use pipe_run::{GroupByOutput, PipeError, TextOutput};
 use pipe_sinks::PausedSink;
 use pipe_spill::SpillStore;
 use std::alloc::{AllocError, Global};
@@ -60,6 +65,28 @@ fn output_of(
     })
 }
 
+/// What a run gives, with the lines of its groups in place of their frame.
+fn text_of<L: Lines>(
+    alloc: Global,
+    lines: &L,
+    output: GroupByOutput,
+) -> Result<TextOutput, AllocError>
+    requires { FitsSchema (L.shape lines.now).fields output.frame }
+    ensures { IfOk result (λ out. IsTextOf (L.shape lines.now) output out) }
+{
+    let GroupByOutput {
+        frame,
+        journals,
+        overflow,
+    } = output;
+    let text = AsText { lines }.of_frame(alloc, frame)?;
+    Ok(TextOutput {
+        text,
+        journals,
+        overflow,
+    })
+}
+
 impl<'a, S: SpillStore + Drop> TypedRun<'a, S> {
     /// Ends the run: the sinks are combined into one, which gives the groups. The stores come back in
     /// order.
@@ -67,15 +94,17 @@ impl<'a, S: SpillStore + Drop> TypedRun<'a, S> {
         ensures answered { IfOk result.0 (λ out. IsAnswered
             (run_over self.entry.setting false self.entry.chunks) out
             (stores_seen S.held S.told S.faults S.sure S.path result.1.items)) }
+        ensures fits { IfOk result.0 (λ out. FitsSchema
+            (output_schema (query_tree self.entry.setting.query)) out.frame) }
         ensures same { stores_seen S.held S.told S.faults S.sure S.path result.1.items
             ≡ self.entry.stores }
-        ensures unfailed { OnOk result.0 (NoneFailed self.entry.stores
-            (stores_seen S.held S.told S.faults S.sure S.path result.1.items)) }
+        ensures unfailed { NoneFailed self.entry.stores
+            (stores_seen S.held S.told S.faults S.sure S.path result.1.items) }
         ensures cause { IfErr result.0 (λ e. IsFinishCause self.entry
             (stores_seen S.held S.told S.faults S.sure S.path result.1.items) e) }
-        ensures back { IfErr result.0 (λ _. HaveWholeFrames
+        ensures back { HaveWholeFrames
             (run_over self.entry.setting false self.entry.chunks)
-            (stores_seen S.held S.told S.faults S.sure S.path result.1.items)) }
+            (stores_seen S.held S.told S.faults S.sure S.path result.1.items) }
     {
         let TypedRun {
             query,
@@ -87,6 +116,35 @@ impl<'a, S: SpillStore + Drop> TypedRun<'a, S> {
         } = self;
         match output_of(alloc, &query, limits.partitions, &chunks, sinks) {
             Ok(output) => (Ok(output), stores),
+            Err(AllocError) => (Err(PipeError::Memory), stores),
+        }
+    }
+
+    /// Ends the run as `finish` does, and gives the lines of its groups in place of their frame.
+    pub(crate) fn finish_text<L: Lines>(
+        self,
+        alloc: Global,
+        lines: &L,
+    ) -> (Result<TextOutput, PipeError>, Vec<S>)
+        requires { (L.shape lines.now).fields ≡ output_schema (query_tree self.setting.query) }
+        ensures answered { IfOk result.0 (λ out. IsAnsweredText (L.shape lines.now)
+            (run_over self.entry.setting false self.entry.chunks) out
+            (stores_seen S.held S.told S.faults S.sure S.path result.1.items)) }
+        ensures unfailed { NoneFailed self.entry.stores
+            (stores_seen S.held S.told S.faults S.sure S.path result.1.items) }
+        ensures cause { IfErr result.0 (λ e. IsFinishCause self.entry
+            (stores_seen S.held S.told S.faults S.sure S.path result.1.items) e) }
+        ensures back { HaveWholeFrames
+            (run_over self.entry.setting false self.entry.chunks)
+            (stores_seen S.held S.told S.faults S.sure S.path result.1.items) }
+    {
+        let (given, stores) = self.finish(alloc);
+        let output = match given {
+            Ok(output) => output,
+            Err(error) => return (Err(error), stores),
+        };
+        match text_of(alloc, lines, output) {
+            Ok(text) => (Ok(text), stores),
             Err(AllocError) => (Err(PipeError::Memory), stores),
         }
     }

@@ -19,10 +19,10 @@ use Rattle.std.specs.Prelude.{count_by}
 use Rattle.pipe_global.specs.Partition.{IsRunnable, no_store, PartitionSeen, store_of}
 use Rattle.pipe_run.specs.Answered.{HasFrames, HasWholeFrames, HaveReplayedFrames, HaveWholeFrames, IsAnswered}
 use Rattle.pipe_global.specs.Finishing.{KeepsRest}
-use Rattle.pipe_run.specs.Ending.{AreSamePartitions}
+use Rattle.pipe_asked.specs.Left.{AreSamePartitions}
 use Rattle.pipe_run.specs.Fed.{AllStand, AreWholePartitions, IsWholePartition}
 use Rattle.pipe_run.proofs.Feeding.{stands-frames, whole-stand}
-use Rattle.pipe_run.proofs.Lists.{front-all}
+use Rattle.pipe_asked.proofs.Lists.{front-all}
 use Rattle.pipe_run.proofs.Whole.{journals_of, sum_by-positions}
 
 -- the stores of partitions

@@ -8,7 +8,7 @@ use Rattle.pipe_columns.specs.Causes.{Rose}
 use Rattle.pipe_plan.specs.Run.{StoreSeen}
 use Rattle.pipe_global.specs.Partition.{no_store, PartitionSeen}
 use Rattle.pipe_run.specs.Failing.{IsFirstFailed, NoneFailed}
-use Rattle.pipe_run.specs.Fed.{CountOn, RoseFrom}
+use Rattle.pipe_asked.specs.Left.{CountOn, RoseFrom}
 
 -- the stores of partitions
 abbrev pub stores_of : List PartitionSeen → List StoreSeen

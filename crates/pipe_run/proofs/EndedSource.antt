@@ -29,10 +29,10 @@ use Rattle.pipe_keyed.specs.Tables.{Table}
 use Rattle.pipe_global.specs.Partition.{IsReplayed, IsRunnable, no_store, PartitionSeen, spilled_all, store_of, with_frames}
 use Rattle.pipe_global.proofs.ClosedFacts.{finish-replayed, stands-replayed}
 use Rattle.pipe_run.specs.Fed.{AreWholePartitions, IsWholePartition}
-use Rattle.pipe_run.specs.Given.{HasRows, IsSource, StandsForPart}
-use Rattle.pipe_run.specs.Sources.{unasked}
+use Rattle.pipe_asked.specs.Given.{HasRows, IsSource, StandsForPart}
+use Rattle.pipe_asked.specs.Sources.{unasked}
 use Rattle.pipe_run.proofs.KeptTables.{kept-typed}
-use Rattle.pipe_run.proofs.Lists.{front-all}
+use Rattle.pipe_asked.proofs.Lists.{front-all}
 use Rattle.pipe_run.proofs.PartRows.{part-rows}
 use Rattle.pipe_run.proofs.Whole.{journal-at, journals_of}
 

@@ -17,10 +17,11 @@ use Rattle.pipe_workers.specs.declared.paused.PausedWorker.{PausedWorker}
 use Rattle.pipe_run.specs.declared.round.RoundStop.{RoundStop}
 use Rattle.pipe_run.specs.declared.round.RoundStop.TheVariants as stop
 use Rattle.pipe_run.specs.Answered.{HaveReplayedFrames, HaveWholeFrames, IsAnswered}
-use Rattle.pipe_run.specs.Ending.{AreSamePartitions, IsAnswerCause}
+use Rattle.pipe_asked.specs.Left.{AreSamePartitions, CountOn, RoseFrom}
+use Rattle.pipe_run.specs.Ending.{IsAnswerCause}
 use Rattle.pipe_run.specs.Failing.{IsFirstFailed, NoneFailed}
 use Rattle.pipe_run.specs.Finish.{HasPutUntold, IsFinishCause}
-use Rattle.pipe_run.specs.Fed.{AllStand, AreWholePartitions, CountOn, FedSeen, HaveEnded, HaveKept, IsFedRun, RoseFrom}
+use Rattle.pipe_run.specs.Fed.{AllStand, AreWholePartitions, FedSeen, HaveEnded, HaveKept, IsFedRun}
 use Rattle.pipe_run.specs.Setting.{run_over, Setting}
 use Rattle.pipe_run.specs.Stops.{error_of, error_of_groups}
 use Rattle.pipe_run.proofs.Answering.{few-arrived, kept-same, replayed-frames, run-answered, some-partition, stores_of, whole-frames}

@@ -16,7 +16,8 @@ use Rattle.pipe_run.specs.declared.round.RoundStop.{RoundStop}
 use Rattle.pipe_run.specs.declared.round.RoundStop.TheVariants as stop
 use Rattle.pipe_run.specs.Answered.{HaveWholeFrames}
 use Rattle.pipe_run.specs.Failing.{IsFirstFailed, NoneFailed}
-use Rattle.pipe_run.specs.Fed.{AllStand, CountOn, FedSeen, IsFed, IsFedRun, RoseFrom}
+use Rattle.pipe_asked.specs.Left.{CountOn, RoseFrom}
+use Rattle.pipe_run.specs.Fed.{AllStand, FedSeen, IsFed, IsFedRun}
 use Rattle.pipe_run.specs.Feeding.{all_chunks, chunks_reached, IsBadChunks, IsFeedCause}
 use Rattle.pipe_run.specs.Refusals.{AllHaveFields, AreMany, CanFeed, IsFirstMisfit}
 use Rattle.pipe_run.specs.Setting.{run_over, Setting}

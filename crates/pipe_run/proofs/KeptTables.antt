@@ -93,11 +93,6 @@ pub record HoldsFirst (r : Run) (rests waiting : List PausedWorker) (t : Table) 
   pub shape : t.shape ≡ shape_of r.query
   pub holds : Holds (shape_of r.query).prototypes t.groups (spilled_all r.query (kept_by r (length front)))
 
--- no worker is left of a list without length
-pub none-left : {A : Type 0} (xs : List A) → length xs ≡ 0 → xs ≡ []
-none-left [] e = refl
-none-left (x ∷ xs) e = absurd (omega (arith, e))
-
 -- the worker behind some
 at-front : (front back : List PausedWorker) (x d : PausedWorker) → slice_index_or (front ++ x ∷ back) (length front) d ≡ x
 at-front [] back x d = refl

@@ -7,7 +7,8 @@ use Rattle.pipe_plan.specs.Replay.{replay}
 use Rattle.pipe_plan.specs.Run.{Run}
 use Rattle.pipe_global.specs.Partition.{frame_bytes_of, IsReplayed, marks_from, PartitionSeen, with_frames}
 use Rattle.pipe_workers.specs.declared.paused.PausedWorker.{PausedWorker}
-use Rattle.pipe_run.specs.Fed.{AllStand, AreCounted, AreWholePartitions, CountOn, HaveEnded, RoseAt, RoseFrom}
+use Rattle.pipe_asked.specs.Left.{CountOn, RoseFrom}
+use Rattle.pipe_run.specs.Fed.{AllStand, AreCounted, AreWholePartitions, HaveEnded, RoseAt}
 use Rattle.pipe_run.specs.Setting.{counted_from}
 use Rattle.pipe_run.proofs.Carrying.{counted-at, faults-at}
 

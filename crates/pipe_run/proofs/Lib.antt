@@ -1,16 +1,6 @@
-pub mod Lists
-pub mod Slicing
 pub mod Carrying
 pub mod Whole
-pub mod SourceFacts
 pub mod PartRows
-pub mod ChunkFacts
-pub mod Joining
-pub mod Asking
-pub mod Apart
-pub mod ByPlace
-pub mod SideBySide
-pub mod Sourcing
 pub mod KeptTables
 pub mod EndedSource
 pub mod AnswerOfRun
@@ -27,3 +17,4 @@ pub mod FeedEnds
 pub mod Answering
 pub mod Endings
 pub mod RunEnds
+pub mod Forms

@@ -13,8 +13,8 @@ use Rattle.pipe_spill.specs.Store.{HasHeld}
 use Rattle.pipe_keyed.specs.Tables.{Table}
 use Rattle.pipe_global.specs.Partition.{IsRunnable, PartitionSeen, spilled_all}
 use Rattle.pipe_run.specs.Fed.{AreWholePartitions}
-use Rattle.pipe_run.specs.Given.{IsSource}
-use Rattle.pipe_run.specs.Sources.{HasAllRows, unasked}
+use Rattle.pipe_asked.specs.Given.{IsSource}
+use Rattle.pipe_asked.specs.Sources.{HasAllRows, unasked}
 
 -- a run of a query over all its chunks has ended: its partitions hold all plans whole, and a local
 -- table has what its workers kept

@@ -3,16 +3,8 @@ use Rattle.std.specs.Prelude.{◌≡◌, ◌<◌, ◌≤◌, ℕ, None, List, le
 use Rattle.pipe_plan.specs.Run.{Run}
 use Rattle.pipe_global.specs.declared.batch_error.BatchError.{BatchError}
 use Rattle.pipe_global.specs.declared.batch_error.BatchError.TheVariants as batch_error
-use Rattle.pipe_global.specs.Finishing.{KeepsRest}
 use Rattle.pipe_global.specs.Partition.{PartitionSeen, store_of}
-use Rattle.pipe_run.specs.Fed.{RoseFrom}
-
--- partitions that were asked for their groups: as many, in order, each with its number, journal and
--- book and the frames of its store as before
-pub record AreSamePartitions (before after : List PartitionSeen) : Type 0 where
-  pub count : length after ≡ length before
-  pub each : (p : ℕ) (d : PartitionSeen) → p < length before
-      → KeepsRest (slice_index_or before p d) (slice_index_or after p d)
+use Rattle.pipe_asked.specs.Left.{RoseFrom}
 
 -- why a run that has ended has no answer: the store that is named is the first whose faults rose
 -- meanwhile; or a store doesn't tell, and the frame that is named is one that the run put there; or

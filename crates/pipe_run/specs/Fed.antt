@@ -106,15 +106,6 @@ pub record RoseAt (r : Run) (p : ℕ) (closed : List PartitionSeen) : Type 0 whe
   pub least : (k : ℕ) (d : PartitionSeen) → k < p
       → (slice_index_or closed k d).store.faults ≡ (store_of r k).faults
 
--- since these partitions the count of faults of a store rose, and of no one in front of it
-pub record RoseFrom (before : List PartitionSeen) (p : ℕ) (closed : List PartitionSeen)
-    : Type 0 where
-  pub exists : p < length before
-  pub rose : (d : PartitionSeen)
-      → Rose (slice_index_or before p d).store.faults (slice_index_or closed p d).store.faults
-  pub least : (k : ℕ) (d : PartitionSeen) → k < p
-      → (slice_index_or closed k d).store.faults ≡ (slice_index_or before k d).store.faults
-
 -- ---- counts of faults
 
 -- each store's count of faults is as the run found it
@@ -122,9 +113,3 @@ abbrev pub AreCounted : Run → List PartitionSeen → Type 0
 AreCounted r closed =
     (p : ℕ) (d : PartitionSeen) → p < length closed
     → (slice_index_or closed p d).store.faults ≡ (store_of r p).faults
-
--- each is as it was before
-abbrev pub CountOn : List PartitionSeen → List PartitionSeen → Type 0
-CountOn before closed =
-    (p : ℕ) (d : PartitionSeen) → p < length before
-    → (slice_index_or closed p d).store.faults ≡ (slice_index_or before p d).store.faults

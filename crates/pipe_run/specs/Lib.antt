@@ -3,14 +3,12 @@ pub mod Refusals
 pub mod Fed
 pub mod Failing
 pub mod Answered
-pub mod Given
+pub mod AnsweredText
+pub mod Wholes
 pub mod Ending
 pub mod EndedRun
-pub mod Sources
-pub mod Stacking
 pub mod Feeding
 pub mod Rounds
 pub mod Stops
 pub mod Finish
 pub mod WholeRun
-pub mod Tasks

@@ -4,7 +4,8 @@ ghost use Rattle.std.specs.Prelude.{◌≡◌, ◌++◌, ℕ, IfErr, IfOk, map, 
 ghost use Rattle.pipe_aggs.specs.QueryTrees.{query_tree};
 ghost use Rattle.pipe_model.specs.Rows.{AreChunksOf};
 ghost use Rattle.pipe_plan.specs.Run.{is_generic};
-ghost use Rattle.pipe_run.specs.Fed.{AllStand, AreCounted, AreWholePartitions, CountOn, HaveEnded, IsFed, RoseAt, RoseFrom};
+ghost use Rattle.pipe_asked.specs.Left.{CountOn, RoseFrom};
+ghost use Rattle.pipe_run.specs.Fed.{AllStand, AreCounted, AreWholePartitions, HaveEnded, IsFed, RoseAt};
 ghost use Rattle.pipe_run.specs.Setting.{counted_from, run_over};
 ghost use Rattle.pipe_run.specs.declared.round.RoundStop.TheVariants as stop;
 

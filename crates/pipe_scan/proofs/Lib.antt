@@ -9,6 +9,7 @@ pub mod Lines
 pub mod ScanFacts
 pub mod PieceEnds
 pub mod ModeFacts
+pub mod WholeRecords
 pub mod NumberBits
 pub mod MarkFacts
 pub mod StopFacts

@@ -17,13 +17,13 @@ use Rattle.pipe_scan.proofs.RecordList.{all-none, between-leaves, step-ends}
 use Rattle.pipe_scan.proofs.ScanFacts.{other_above, Closes, records_next, rest_at}
 
 -- a byte that doesn't end the record
-goes_on : (s : State) (a : Action) (fs : List (List ℕ)) (p : List ℕ) (c : ℕ) (rest : List ℕ) → a ≡ (step default_config s c).1 → is_end a ≡ false
+pub goes_on : (s : State) (a : Action) (fs : List (List ℕ)) (p : List ℕ) (c : ℕ) (rest : List ℕ) → a ≡ (step default_config s c).1 → is_end a ≡ false
     → next_record default_config s fs p (c ∷ rest) ≡ next_record default_config (step default_config s c).0 (fields_after a fs p) (field_after a c p) rest
 unfolding next_record
 goes_on s a fs p c rest e n = rw (← e, n) refl
 
 -- a byte that ends it
-stops : (s : State) (fs : List (List ℕ)) (p : List ℕ) (c : ℕ) (rest : List ℕ) → act.EndRecord ≡ (step default_config s c).1
+pub stops : (s : State) (fs : List (List ℕ)) (p : List ℕ) (c : ℕ) (rest : List ℕ) → act.EndRecord ≡ (step default_config s c).1
     → next_record default_config s fs p (c ∷ rest) ≡ Some (fs ++ (p ∷ []), (step default_config s c).0, rest)
 unfolding next_record
 stops s fs p c rest e = rw (← e) refl
@@ -57,12 +57,12 @@ reads-stop text at i s fs p l r e =
     ended text at (i + 1) (fs ++ (p ∷ [])) ((step default_config s (get_or text i 0)).0, b, r ∙ rw (rest_at text i (get_or text i 0) l refl) (stops s fs p (get_or text i 0) (drop (i + 1) text) e))
 
 -- the end of the text before a record
-last_none : (s : State) (fs : List (List ℕ)) (p : List ℕ) → ends_at_end s ≡ false → next_record default_config s fs p [] ≡ None
+pub last_none : (s : State) (fs : List (List ℕ)) (p : List ℕ) → ends_at_end s ≡ false → next_record default_config s fs p [] ≡ None
 unfolding next_record
 last_none s fs p e = rw e refl
 
 -- the end of the text within a record
-last_some : (s : State) (fs : List (List ℕ)) (p : List ℕ) → ends_at_end s ≡ true → next_record default_config s fs p [] ≡ Some (fs ++ (p ∷ []), st.StartRecord, [])
+pub last_some : (s : State) (fs : List (List ℕ)) (p : List ℕ) → ends_at_end s ≡ true → next_record default_config s fs p [] ≡ Some (fs ++ (p ∷ []), st.StartRecord, [])
 unfolding next_record
 last_some s fs p e = rw e refl
 

@@ -165,7 +165,7 @@ pub record Ends (text : List ℕ) (at start : ℕ) (ends : List ℕ) (next : ℕ
   pub order : InOrder (length text) start ends
 
 -- between records all states give the same
-all-alike : (s : State) (xs : List ℕ) → IsBetween s → all_from default_config s xs ≡ records default_config xs
+pub all-alike : (s : State) (xs : List ℕ) → IsBetween s → all_from default_config s xs ≡ records default_config xs
 all-alike s xs b = all-one_pass s xs b ∙ one_pass-alike s xs b ∙ sym (all-one_pass st.StartRecord xs tt)
 
 -- the next record, and those behind it

@@ -13,7 +13,7 @@ use std::alloc::AllocError;
 
 /// Where a reader of a record stands.
 #[derive(Clone, Copy, Drop)]
-enum Mode {
+pub(crate) enum Mode {
     /// Before a record.
     BeforeRecord,
     /// Behind a CR that ended a line.
@@ -30,7 +30,7 @@ enum Mode {
 
 /// What a byte does.
 #[derive(Clone, Copy, Drop)]
-enum Effect {
+pub(crate) enum Effect {
     Skip,
     Copy,
     EndField,
@@ -69,7 +69,7 @@ fn before_record(byte: u8) -> (Mode, Effect)
 
 /// What a byte does at a mode.
 #[inline(always)]
-fn next_step(mode: Mode, byte: u8) -> (Mode, Effect)
+pub(crate) fn next_step(mode: Mode, byte: u8) -> (Mode, Effect)
     ensures mode { state_of result.0 ≡ (step default_config (state_of mode) byte).0 }
     ensures effect { action_of result.1 ≡ (step default_config (state_of mode) byte).1 }
 {
@@ -109,7 +109,7 @@ fn next_step(mode: Mode, byte: u8) -> (Mode, Effect)
 
 /// Whether each byte above the comma is one of the field's.
 #[inline(always)]
-fn joins(mode: Mode) -> bool
+pub(crate) fn joins(mode: Mode) -> bool
     ensures { result ≡ joins mode }
 {
     match mode {

@@ -17,3 +17,4 @@ pub mod ChunksFit
 pub mod PieceRows
 pub mod PlainReads
 pub mod CheckedRows
+pub mod QuotedFacts

@@ -2,6 +2,7 @@ pub mod CsvChunks
 pub mod Reader
 pub mod Worked
 pub mod Rows
+pub mod Quoted
 pub mod Starts
 pub mod Kept
 pub mod Known

@@ -15,6 +15,7 @@ mod looks;
 mod piece_check;
 mod piece_rows;
 mod piece_starts;
+mod quoted_rows;
 mod read_options;
 mod reading;
 mod room;

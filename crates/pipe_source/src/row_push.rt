@@ -1,6 +1,6 @@
 //! Rows that were looked over, whose values go to the ends of columns.
 
-ghost use Rattle.std.specs.Prelude.{◌≡◌, ◌≤◌, ◌<◌, [], IfErr, IfOk, List, Ok, length, replicate, slice_index_or, vec_len};
+ghost use Rattle.std.specs.Prelude.{◌≡◌, ◌≤◌, ◌<◌, [], IfErr, IfOk, List, Ok, OnOk, length, replicate, slice_index_or, vec_len};
 ghost use Rattle.std.specs.List.{range_with_len};
 ghost use Rattle.csv.specs.Records.{fields_of};
 ghost use Rattle.pipe_columns.specs.declared.any_value.AnyValue.{AnyValue};
@@ -11,16 +11,18 @@ ghost use Rattle.pipe_csv.specs.Columns.{DoHold, values_from, with_row};
 ghost use Rattle.pipe_csv.specs.declared.csv_error.CsvError.TheVariants as csv_error;
 ghost use Rattle.pipe_scan.specs.Records.{InOrder, between, cut, records_at};
 ghost use Rattle.pipe_scan.specs.Stops.{AreMarked};
+ghost use Rattle.pipe_source.specs.Quoted.{AreAhead};
 ghost use Rattle.pipe_source.specs.Rows.{AreRowsAt, FirstReads, PushesRow, StopsFirst};
 
 use crate::column_fill::ColumnFill;
 use crate::field_at::{push_field, push_field_at};
+use crate::quoted_rows::{QuotedRows, next_row};
 use crate::wanted_places::wanted_places;
 use csv::ByteRecord;
 use narrow_columns::is_wanted;
 use pipe_columns::Field;
 use pipe_csv::CsvError;
-use pipe_scan::{Row, Stops, next_row};
+use pipe_scan::{Row, Stops};
 use std::alloc::Global;
 
 /// Where the field at a place begins and ends in the text.
@@ -116,8 +118,9 @@ fn push_row(
     text: &[u8],
     stops: &mut Stops,
     ends: &mut [usize],
+    quoted: &mut QuotedRows,
+    most: usize,
     entry: &mut ByteRecord,
-    bytes: &mut Vec<u8>,
     fields: &[Field],
     wanted: &[bool],
     places: &[usize],
@@ -128,6 +131,7 @@ fn push_row(
     requires marked { AreMarked text.now stops.old }
     requires width { length ends.old ≡ length fields.now }
     requires reads { FirstReads 1 row fields.now (records_at text.now stops.old.cursor) }
+    requires ahead { AreAhead text.now quoted.old }
     ensures pushed { IfOk result (λ found.
         PushesRow 1 row fields.now wanted.now text.now stops.old.cursor stops.new.cursor
         columns.old.items columns.new.items found) }
@@ -136,8 +140,9 @@ fn push_row(
     ensures columns { vec_len columns.new ≡ length (chosen wanted.now fields.now) }
     ensures marked { AreMarked text.now stops.new }
     ensures width { length ends.new ≡ length fields.now }
+    ensures ahead { OnOk result (AreAhead text.now quoted.new) }
 {
-    match next_row(text, stops, ends, entry, bytes)? {
+    match next_row(alloc, text, stops, ends, quoted, most, entry)? {
         Row::End => Ok(false),
         Row::Plain { start, count } => {
             if count != fields.len() {
@@ -181,7 +186,7 @@ pub(crate) fn push_rows(
     let places = wanted_places(alloc, wanted, fields.len())?;
     let mut ends = vec![in alloc; 0; fields.len()]?;
     let mut entry = ByteRecord::new(alloc);
-    let mut bytes = Vec::new(alloc);
+    let mut quoted = QuotedRows::new(alloc);
     let mut stops = Stops::new(at);
     for row in 0..count {
         let found = push_row(
@@ -190,8 +195,9 @@ pub(crate) fn push_rows(
             text,
             &mut stops,
             &mut ends,
+            &mut quoted,
+            count - row,
             &mut entry,
-            &mut bytes,
             fields,
             wanted,
             &places,

@@ -21,7 +21,7 @@ pub record CoversRows (rows : List SpillRow) (old now : Seen) (i : ℕ) : Type 0
   pub room : Covers now (length (drop i rows)) (bytes_of (drop i rows))
 
 -- one row more
-cover-push : (ps : List AggregateFunction) (rows : List SpillRow) (r : SpillRow) (gs : List Group) → cover_rows ps (rows ++ r ∷ []) gs ≡ cover ps r.key (cover_rows ps rows gs)
+pub cover-push : (ps : List AggregateFunction) (rows : List SpillRow) (r : SpillRow) (gs : List Group) → cover_rows ps (rows ++ r ∷ []) gs ≡ cover ps r.key (cover_rows ps rows gs)
 cover-push ps [] r gs = refl
 cover-push ps (x ∷ xs) r gs = cover-push ps xs r (cover ps x.key gs)
 

@@ -10,3 +10,4 @@ pub mod Hashes
 pub mod Spots
 pub mod TableLayout
 pub mod Parts
+pub mod Waits

@@ -1,16 +1,18 @@
-//! A look at what the next rows of a chunk need.
+//! A look at what the next rows need.
 
-ghost use Rattle.std.specs.Prelude.{◌≡◌, All};
+ghost use Rattle.std.specs.Prelude.{◌≡◌, All, length};
 ghost use Rattle.pipe_spill.specs.KeyTypes.{AreOfTypes};
+ghost use Rattle.pipe_waiting.specs.Waiting.{HaveNoTexts, HoldRows};
 
 use crate::by_hash::ByHash;
 use crate::hash_table::AggHashTable;
 use crate::hints::Hints;
 use pipe_chains::hash_bytes;
-use pipe_columns::DataType;
+use pipe_columns::{AnyValue, DataType};
 use pipe_groups::encode_row;
 use pipe_inputs::ChunkRows;
 use pipe_keyed::KeyedGroups;
+use pipe_waiting::LentRows;
 
 /// How many rows are looked at together.
 const TOGETHER: usize = 16;
@@ -49,6 +51,79 @@ fn look(
     seen
 }
 
+/// Reads the keys of the groups that hints say are those of these hashes.
+#[inline(always)]
+fn look_at_keys(keyed: &KeyedGroups<ByHash>, hints: &Hints, mut spots: [usize; TOGETHER]) -> usize {
+    for place in 0..TOGETHER {
+        spots[place] = hints.get(spots[place] as u64);
+    }
+    let mut seen = 0usize;
+    for place in 0..TOGETHER {
+        let spot = spots[place];
+        if spot < keyed.len() {
+            if let Some(byte) = keyed.key(spot).first() {
+                seen = seen.wrapping_add(*byte as usize);
+            }
+        }
+    }
+    seen
+}
+
+/// Reads what the keys of the next rows that are lent need. The list is for their inputs.
+#[inline(never)]
+fn look_lent(
+    keyed: &KeyedGroups<ByHash>,
+    hints: &Hints,
+    rows: LentRows<'_>,
+    values: &mut [AnyValue],
+) -> usize
+    requires held { HoldRows keyed.now.shape.input_types rows.count rows.bytes }
+    requires plain { HaveNoTexts keyed.now.shape.input_types }
+    requires fit { length values.old ≡ length keyed.now.shape.input_types }
+    ensures { length values.new ≡ length values.old }
+{
+    let mut rows = rows;
+    let mut spots = [0usize; TOGETHER];
+    for place in 0..TOGETHER {
+        if let Some(row) = rows.next_plain(keyed.groups().input_types(), values) {
+            spots[place] = hash_bytes(row.key) as usize;
+        }
+    }
+    look_at_keys(keyed, hints, spots)
+}
+
+/// Reads what the keys of the next rows that are lent need, once for several of them.
+#[inline(always)]
+pub(crate) fn look_at_lent(
+    keyed: &KeyedGroups<ByHash>,
+    hints: &mut Hints,
+    rows: &LentRows<'_>,
+    values: &mut [AnyValue],
+)
+    requires held { HoldRows keyed.now.shape.input_types rows.now.count rows.now.bytes }
+    requires plain { HaveNoTexts keyed.now.shape.input_types }
+    requires fit { length values.old ≡ length keyed.now.shape.input_types }
+    ensures { length values.new ≡ length values.old }
+{
+    if rows.len() % TOGETHER != 0 || keyed.len() < FEWEST {
+        return;
+    }
+    // What was read is used, or a compiler would leave the reading out.
+    if look_lent(keyed, hints, rows.again(), values) == usize::MAX {
+        hints.widen(0);
+    }
+}
+
+/// Reads the first of the groups at these places.
+#[inline(never)]
+fn look_there(keyed: &KeyedGroups<ByHash>, spots: &[u32]) -> usize {
+    let mut seen = 0usize;
+    for place in 0..spots.len().min(TOGETHER) {
+        seen = seen.wrapping_add(keyed.groups().look(spots[place] as usize));
+    }
+    seen
+}
+
 impl AggHashTable {
     /// Reads what the next rows of a chunk need, from a row on, once for several of them: where the groups
     /// are many, most of an insert is waiting for their memory. Nothing changes.
@@ -62,6 +137,21 @@ impl AggHashTable {
         }
         // What was read is used, or a compiler would leave the reading out.
         if look(&self.keyed, &self.hints, types, rows, row) == usize::MAX {
+            self.hints.widen(0);
+        }
+    }
+
+    /// Reads what the next rows need, whose groups are at these places, once for several of them. Nothing
+    /// changes.
+    #[inline(always)]
+    pub(crate) fn look_at_spots(&mut self, spots: &[u32])
+        ensures { self.new ≡ self.old }
+    {
+        if spots.len() % TOGETHER != 0 || self.keyed.len() < FEWEST {
+            return;
+        }
+        // What was read is used, or a compiler would leave the reading out.
+        if look_there(&self.keyed, spots) == usize::MAX {
             self.hints.widen(0);
         }
     }

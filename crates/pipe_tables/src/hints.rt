@@ -1,6 +1,8 @@
 //! Where groups may be. It is only a hint: a wrong one costs a comparison.
 
-use std::alloc::Global;
+ghost use Rattle.std.specs.Prelude.{◌≡◌, [], IfOk};
+
+use std::alloc::{AllocError, Global};
 
 /// How many hints there are at first.
 const LEAST: usize = 1024;
@@ -26,6 +28,13 @@ impl Hints {
     /// Bytes, of which there are none, with memory from where that of these is.
     pub(crate) fn room(&self) -> Vec<u8> {
         Vec::new(*self.indices.allocator())
+    }
+
+    /// Room for so many indices, with memory from where that of these is.
+    pub(crate) fn spots(&self, count: usize) -> Result<Vec<u32>, AllocError>
+        ensures { IfOk result (λ spots. spots.items ≡ []) }
+    {
+        Vec::with_capacity(*self.indices.allocator(), count)
     }
 
     /// Where among the hints that of a hash stands.

@@ -6,8 +6,8 @@ use Rattle.pipe_columns.specs.Frame.{FrameData, row_at}
 use Rattle.pipe_csv.specs.Written.{HasWritten, TextWriter}
 use Rattle.pipe_writers.specs.CsvLines.{csv_line}
 use Rattle.pipe_writers.specs.CsvWritten.{WroteLines}
-use Rattle.pipe_writers.specs.Rows.{frame_rows}
-use Rattle.pipe_writers.proofs.LineFacts.{goes_on}
+use Rattle.pipe_lines.specs.Rows.{frame_rows}
+use Rattle.pipe_lines.proofs.LineFacts.{goes_on}
 
 -- a writer as it begins behind a text
 pub begun : (writer : TextWriter) (text : List ℕ) → (writer_under writer).items ≡ text → writer_pending writer ≡ []

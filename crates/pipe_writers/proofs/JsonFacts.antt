@@ -10,7 +10,7 @@ use Rattle.json.specs.Token.{string}
 use Rattle.pipe_columns.specs.declared.any_value.AnyValue.{AnyValue}
 use Rattle.pipe_columns.specs.declared.schema.Field.{Field}
 use Rattle.pipe_columns.specs.Frame.{ColumnData, all_have_height, field_of, fields_of, row_at, value_at}
-use Rattle.pipe_writers.specs.Rows.{names_of}
+use Rattle.pipe_lines.specs.Rows.{names_of}
 use Rattle.pipe_csv.proofs.RowsLemmas.{length-column}
 use Rattle.pipe_writers.specs.JsonHeads.{AreHeads, head_at, heads_to}
 use Rattle.pipe_writers.specs.JsonText.{json_members, json_string, json_value, member_head}

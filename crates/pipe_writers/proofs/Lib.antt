@@ -2,6 +2,7 @@ pub mod SortFacts
 pub mod KeptFacts
 pub mod RoomFacts
 pub mod LineFacts
+pub mod SentTexts
 pub mod WriterFacts
 pub mod CsvFacts
 pub mod JsonFacts

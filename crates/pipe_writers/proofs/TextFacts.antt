@@ -7,7 +7,7 @@ use Rattle.pipe_columns.specs.Frame.{ColumnData, FrameData, FitsSchema, fields_o
 use Rattle.pipe_csv.specs.Texts.{csv_text, line_of}
 use Rattle.pipe_writers.specs.CsvLines.{csv_line, csv_lines}
 use Rattle.pipe_writers.specs.JsonText.{json_lines, json_text}
-use Rattle.pipe_writers.specs.Rows.{names_of, frame_rows}
+use Rattle.pipe_lines.specs.Rows.{names_of, frame_rows}
 
 names_same : (columns : List ColumnData) → names_of (fields_of columns) ≡ map (λ c. c.name) columns
 names_same [] = refl

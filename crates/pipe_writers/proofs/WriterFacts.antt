@@ -4,9 +4,10 @@ use Rattle.std.proofs.Math.Seq.{take-append_seam}
 use Rattle.std.specs.Io.KnownBytes.{Appends}
 use Rattle.pipe_io.specs.Output.{WroteFront}
 use Rattle.pipe_writers.specs.declared.sink_writer.WriterCalls.{WriterCalls}
-use Rattle.pipe_writers.specs.Rows.{Row}
+use Rattle.pipe_lines.specs.Rows.{Row}
 use Rattle.pipe_writers.specs.WriterLaws.{text_more, told_alike}
-use Rattle.pipe_writers.specs.Writers.{HasPutOut, LineText, PutOutBy, TellsAfter, head_due, text_of_lines}
+use Rattle.pipe_lines.specs.Lines.{LineText, text_of_lines}
+use Rattle.pipe_writers.specs.Writers.{HasPutOut, PutOutBy, TellsAfter, head_due}
 
 -- some more bytes are told
 told_more : (a b : Option (List ℕ)) (since xs ys : List ℕ) → is_some b ≡ is_some a → TellsAfter a since xs → Appends a b ys → TellsAfter b since (xs ++ ys)

@@ -6,7 +6,9 @@ use Rattle.serde_json.specs.Written.{compact_text}
 use Rattle.pipe_columns.specs.declared.any_value.AnyValue.{AnyValue}
 use Rattle.pipe_columns.specs.declared.any_value.AnyValue.TheVariants as av
 use Rattle.pipe_columns.specs.Frame.{FrameData}
-use Rattle.pipe_writers.specs.Rows.{Row, frame_rows}
+use Rattle.pipe_columns.specs.declared.schema.Field.{Field}
+use Rattle.pipe_lines.specs.Lines.{LineText}
+use Rattle.pipe_lines.specs.Rows.{Row, frame_rows, names_of}
 
 -- a text as a JSON string, with the escapes of `serde_json`
 abbrev pub json_string : List ℕ → List ℕ
@@ -41,3 +43,7 @@ json_lines names rows = flat_map (json_line names) rows
 -- a line for each row of a frame
 abbrev pub json_text : FrameData → List ℕ
 json_text frame = json_lines (map (λ c. c.name) frame.columns) (frame_rows frame)
+
+-- how rows of some fields become lines of JSON
+abbrev pub json_shape : List Field → LineText
+json_shape fields = record { fields = fields; head = []; line = json_line (names_of fields) }

@@ -1,6 +1,6 @@
-pub mod Rows
 pub mod JsonText
 pub mod CsvLines
+pub mod TextLines
 pub mod WriteOrder
 pub mod Kept
 pub mod Worked
@@ -8,7 +8,6 @@ pub mod KeptFields
 pub mod Room
 pub mod Vstacker
 pub mod Writers
-pub mod LinesAdded
 pub mod WriterLaws
 pub mod CsvWritten
 pub mod JsonHeads

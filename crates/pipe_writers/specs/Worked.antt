@@ -6,7 +6,7 @@ use Rattle.pipe_columns.specs.declared.any_value.AnyValue.TheVariants as av
 use Rattle.pipe_columns.specs.declared.data_chunk.DataChunk.{DataChunk}
 use Rattle.pipe_columns.specs.declared.schema.Field.{Field}
 use Rattle.pipe_columns.specs.Frame.{frame_of}
-use Rattle.pipe_writers.specs.Rows.{Row}
+use Rattle.pipe_lines.specs.Rows.{Row}
 
 -- one column of texts
 abbrev pub one_text : List Field

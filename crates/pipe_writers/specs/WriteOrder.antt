@@ -2,7 +2,7 @@
 use Rattle.std.specs.Prelude.{◌==◌, ℕ, List, [], ◌∷◌, Bool, not, filter, flat_map, nat_le, if◌then◌else◌}
 use Rattle.pipe_columns.specs.declared.data_chunk.DataChunk.{DataChunk}
 use Rattle.pipe_columns.specs.Pieces.{pieces}
-use Rattle.pipe_writers.specs.Rows.{Row, frame_rows}
+use Rattle.pipe_lines.specs.Rows.{Row, frame_rows}
 
 -- whether a chunk has a row
 abbrev pub chunk_has_rows : DataChunk → Bool

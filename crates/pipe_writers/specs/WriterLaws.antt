@@ -4,8 +4,9 @@ use Rattle.std.proofs.Common.{◌∙◌, sym, ap, append_assoc, append-nil}
 use Rattle.std.proofs.Math.Seq.{take-append_seam, take-length}
 use Rattle.std.proofs.lemmas.Grind.{flat_map-append}
 use Rattle.pipe_writers.specs.declared.sink_writer.WriterCalls.{WriterCalls}
-use Rattle.pipe_writers.specs.Rows.{Row}
-use Rattle.pipe_writers.specs.Writers.{HasPutOut, LineText, PutOutBy, TellsAfter, TellsFront, has_begun, text_of_lines}
+use Rattle.pipe_lines.specs.Rows.{Row}
+use Rattle.pipe_lines.specs.Lines.{LineText, text_of_lines}
+use Rattle.pipe_writers.specs.Writers.{HasPutOut, PutOutBy, TellsAfter, TellsFront, has_begun}
 
 -- bytes that are the same are told alike
 pub told_alike : (told : Option (List ℕ)) (since xs ys : List ℕ) → xs ≡ ys → TellsAfter told since xs → TellsAfter told since ys

@@ -1,8 +1,8 @@
 -- What writers of rows have written.
-use Rattle.std.specs.Prelude.{◌≡◌, ℕ, List, [], ◌++◌, ◌||◌, Bool, true, false, Option, IfSome, flat_map, take, if◌then◌else◌}
-use Rattle.pipe_columns.specs.declared.schema.Field.{Field}
+use Rattle.std.specs.Prelude.{◌≡◌, ℕ, List, [], ◌++◌, ◌||◌, Bool, true, false, Option, IfSome, take, if◌then◌else◌}
 use Rattle.pipe_writers.specs.declared.sink_writer.WriterCalls.{WriterCalls}
-use Rattle.pipe_writers.specs.Rows.{Row}
+use Rattle.pipe_lines.specs.Lines.{LineText, text_of_lines}
+use Rattle.pipe_lines.specs.Rows.{Row}
 
 -- before any call
 abbrev pub no_writer_calls : WriterCalls
@@ -34,16 +34,6 @@ TellsAfter told since bytes = IfSome told (λ all. all ≡ since ++ bytes)
 -- where the output tells, it tells some bytes and then a front of these
 abbrev pub TellsFront : Option (List ℕ) → List ℕ → List ℕ → Type 0
 TellsFront told since bytes = (n : ℕ) × TellsAfter told since (take n bytes)
-
--- how a writer writes rows: a text in front, and a line for each row
-pub record LineText : Type 0 where
-  pub fields : List Field
-  pub head : List ℕ
-  pub line : Row → List ℕ
-
--- the text of rows
-abbrev pub text_of_lines : LineText → List Row → List ℕ
-text_of_lines t rows = t.head ++ flat_map t.line rows
 
 -- whether a writer has put out its text so far: after its first call
 abbrev pub has_begun : WriterCalls → Bool

@@ -4,16 +4,16 @@ ghost use Rattle.std.specs.Prelude.{◌≡◌, ◌++◌, ◌+◌, ◌<◌, ◌�
 ghost use Rattle.pipe_columns.specs.Frame.{FitsSchema, row_at};
 ghost use Rattle.pipe_csv.specs.Texts.{field_of};
 ghost use Rattle.pipe_csv.specs.Written.{AddsRecord, HasWritten};
-ghost use Rattle.pipe_writers.specs.CsvLines.{csv_head, csv_line};
+ghost use Rattle.pipe_writers.specs.CsvLines.{csv_head, csv_line, csv_shape};
 ghost use Rattle.pipe_writers.specs.CsvWritten.{WroteLines};
-ghost use Rattle.pipe_writers.specs.LinesAdded.{GoesOn};
-ghost use Rattle.pipe_writers.specs.Rows.{names_of, frame_rows};
+ghost use Rattle.pipe_lines.specs.Lines.{GoesOn};
+ghost use Rattle.pipe_lines.specs.Rows.{names_of, frame_rows};
 
 use crate::csv_record::{end_record, write_field, write_value};
-use crate::lines::{Lines, Piece};
 use csv::{Writer, WriterBuilder};
 use itoa::Buffer;
 use pipe_columns::{DataFrame, Field, Schema};
+use pipe_lines::{Lines, Piece};
 use std::alloc::AllocError;
 
 /// Lines of CSV, behind a line of the names where it is wanted.
@@ -21,6 +21,19 @@ use std::alloc::AllocError;
 pub struct CsvLines {
     pub(crate) schema: Schema,
     pub(crate) include_header: bool,
+}
+
+impl CsvLines {
+    /// The lines of rows of a schema; there is no line of the names without `include_header`.
+    pub fn new(schema: Schema, include_header: bool) -> CsvLines
+        ensures schema { result.schema ≡ schema }
+        ensures header { result.include_header ≡ include_header }
+    {
+        CsvLines {
+            schema,
+            include_header,
+        }
+    }
 }
 
 /// A CSV writer behind a text.
@@ -94,11 +107,7 @@ fn write_rows(
 }
 
 impl Lines for CsvLines {
-    ghost shape = { λ l. record {
-      fields = l.schema;
-      head = csv_head l.include_header (names_of l.schema);
-      line = csv_line;
-    } };
+    ghost shape = { λ l. csv_shape l.include_header l.schema };
 
     fn schema(&self) -> &Schema {
         &self.schema

@@ -2,7 +2,7 @@
 
 ghost use Rattle.std.specs.Prelude.{◌≡◌, ◌++◌, List, ℕ};
 ghost use Rattle.pipe_writers.specs.CsvLines.{csv_head, csv_line};
-ghost use Rattle.pipe_writers.specs.Rows.{names_of};
+ghost use Rattle.pipe_lines.specs.Rows.{names_of};
 ghost use Rattle.pipe_writers.specs.Writers.{no_writer_calls};
 
 use crate::csv_lines::CsvLines;

@@ -7,17 +7,17 @@ ghost use Rattle.pipe_columns.specs.Frame.{FitsSchema};
 ghost use Rattle.pipe_csv.specs.Texts.{csv_text};
 ghost use Rattle.pipe_io.specs.Output.{WroteFront};
 ghost use Rattle.pipe_writers.specs.JsonText.{json_text};
-ghost use Rattle.pipe_writers.specs.Rows.{frame_rows};
-ghost use Rattle.pipe_writers.specs.Writers.{text_of_lines};
+ghost use Rattle.pipe_lines.specs.Rows.{frame_rows};
+ghost use Rattle.pipe_lines.specs.Lines.{text_of_lines};
 ghost use Rattle.pipe_writers.specs.declared.write_error.WriteError.TheVariants as write_error;
 
 use crate::csv_lines::CsvLines;
 use crate::json_lines::JsonLines;
 use crate::line_writer::{MOST_HELD, head_text, put_out};
-use crate::lines::Lines;
 use crate::write_error::WriteError;
 use pipe_columns::{DataFrame, Field, Schema};
 use pipe_io::Output;
+use pipe_lines::Lines;
 use std::alloc::{AllocError, Global};
 
 /// The schema of a frame.

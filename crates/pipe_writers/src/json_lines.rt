@@ -3,13 +3,13 @@
 ghost use Rattle.std.specs.Prelude.{◌≡◌, ◌++◌, ◌+◌, ◌<◌, ◌≤◌, ℕ, List, [], IfOk, OnOk, false, length};
 ghost use Rattle.pipe_columns.specs.Frame.{FitsSchema, row_at};
 ghost use Rattle.pipe_writers.specs.JsonHeads.{AreHeads};
-ghost use Rattle.pipe_writers.specs.JsonText.{json_line, json_members, member_head};
-ghost use Rattle.pipe_writers.specs.LinesAdded.{GoesOn};
-ghost use Rattle.pipe_writers.specs.Rows.{names_of, frame_rows};
+ghost use Rattle.pipe_writers.specs.JsonText.{json_line, json_members, json_shape, member_head};
+ghost use Rattle.pipe_lines.specs.Lines.{GoesOn};
+ghost use Rattle.pipe_lines.specs.Rows.{names_of, frame_rows};
 
 use crate::json_value::{Scratch, append_string, append_value, empty_scratch};
-use crate::lines::{Lines, Piece};
 use pipe_columns::{DataFrame, Schema};
+use pipe_lines::{Lines, Piece};
 use std::alloc::{AllocError, Global};
 
 /// Lines of JSON: an object for each row.
@@ -17,6 +17,15 @@ use std::alloc::{AllocError, Global};
 pub struct JsonLines {
     pub(crate) alloc: Global,
     pub(crate) schema: Schema,
+}
+
+impl JsonLines {
+    /// The lines of rows of a schema.
+    pub fn new(alloc: Global, schema: Schema) -> JsonLines
+        ensures { result.schema ≡ schema }
+    {
+        JsonLines { alloc, schema }
+    }
 }
 
 /// The head of a member: what stands before its value.
@@ -113,11 +122,7 @@ fn append_lines(
 }
 
 impl Lines for JsonLines {
-    ghost shape = { λ l. record {
-      fields = l.schema;
-      head = [];
-      line = json_line (names_of l.schema);
-    } };
+    ghost shape = { λ l. json_shape l.schema };
 
     fn schema(&self) -> &Schema {
         &self.schema

@@ -5,16 +5,17 @@ ghost use Rattle.std.specs.Io.KnownBytes.{Appends};
 ghost use Rattle.pipe_columns.specs.Causes.{HasCause};
 ghost use Rattle.pipe_columns.specs.Frame.{FitsSchema};
 ghost use Rattle.pipe_io.specs.Output.{WroteFront};
-ghost use Rattle.pipe_writers.specs.Rows.{Row, frame_rows};
+ghost use Rattle.pipe_lines.specs.Rows.{Row, frame_rows};
 ghost use Rattle.pipe_writers.specs.WriterLaws.{front_lines, grows_lines, starts_lines, whole_lines};
-ghost use Rattle.pipe_writers.specs.Writers.{HasPutOut, IsOpen, LineText, after_batch, after_finish, head_due, no_writer_calls, text_of_lines};
+ghost use Rattle.pipe_lines.specs.Lines.{LineText, text_of_lines};
+ghost use Rattle.pipe_writers.specs.Writers.{HasPutOut, IsOpen, after_batch, after_finish, head_due, no_writer_calls};
 ghost use Rattle.pipe_writers.specs.declared.write_error.WriteError.TheVariants as write_error;
 
-use crate::lines::Lines;
 use crate::sink_writer::{SinkWriter, WriterCalls};
 use crate::write_error::{WriteError, send};
 use pipe_columns::{DataFrame, Schema};
 use pipe_io::Output;
+use pipe_lines::Lines;
 use std::alloc::{AllocError, Global};
 
 /// How many bytes are sent together: a text is sent once it is so long.

@@ -4,7 +4,7 @@ ghost use Rattle.std.specs.Prelude.{◌≡◌, ◌++◌, ℕ, List, Option, Some
 ghost use Rattle.pipe_columns.specs.Causes.{HasCause};
 ghost use Rattle.pipe_columns.specs.Frame.{FitsSchema};
 ghost use Rattle.pipe_columns.specs.declared.schema.Field.{Field};
-ghost use Rattle.pipe_writers.specs.Rows.{Row, frame_rows};
+ghost use Rattle.pipe_lines.specs.Rows.{Row, frame_rows};
 ghost use Rattle.pipe_writers.specs.Writers.{IsOpen, TellsAfter, TellsFront, after_batch, after_finish};
 ghost use Rattle.pipe_writers.specs.declared.sink_writer.WriterCalls.{WriterCalls};
 ghost use Rattle.pipe_writers.specs.declared.write_error.WriteError.TheVariants as write_error;

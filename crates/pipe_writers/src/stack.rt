@@ -4,7 +4,7 @@ ghost use Rattle.std.specs.Prelude.{◌≡◌, ◌++◌, true, OnErr, OnOk};
 ghost use Rattle.pipe_columns.specs.Frame.{all_have_height};
 ghost use Rattle.pipe_writers.specs.Waiting.{waiting_rows};
 ghost use Rattle.pipe_writers.specs.Kept.{StacksOn, with_frame_below};
-ghost use Rattle.pipe_writers.specs.Rows.{frame_rows};
+ghost use Rattle.pipe_lines.specs.Rows.{frame_rows};
 
 use pipe_columns::DataFrame;
 use std::alloc::AllocError;

@@ -3,7 +3,7 @@
 ghost use Rattle.std.specs.Prelude.{◌≡◌, ◌++◌, IfOk, OnErr, OnOk, None};
 ghost use Rattle.pipe_writers.specs.Waiting.{waiting_rows};
 ghost use Rattle.pipe_writers.specs.Kept.{StacksOn, with_frame_below};
-ghost use Rattle.pipe_writers.specs.Rows.{frame_rows};
+ghost use Rattle.pipe_lines.specs.Rows.{frame_rows};
 ghost use Rattle.pipe_writers.specs.Vstacker.{completed, if_rows, left_waiting};
 
 use crate::stack::put_below;

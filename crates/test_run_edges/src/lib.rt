@@ -11,6 +11,8 @@ mod damage_tests;
 #[cfg(test)]
 mod edge_tests;
 #[cfg(test)]
+mod memory_tests;
+#[cfg(test)]
 mod refusal_tests;
 #[cfg(test)]
 mod runs;
@@ -18,3 +20,7 @@ mod runs;
 mod size_tests;
 #[cfg(test)]
 mod store_tests;
+#[cfg(test)]
+mod text_tests;
+#[cfg(test)]
+mod texts;

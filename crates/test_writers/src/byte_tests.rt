@@ -13,7 +13,7 @@ const CSV: &[u8] = b"t\na\nc\nb\n";
 const JSON: &[u8] = b"{\"t\":\"a\"}\n{\"t\":\"c\"}\n{\"t\":\"b\"}\n";
 
 /// Whether a text was written up to the byte that fails, and all of it where none does.
-fn is_front(
+pub(crate) fn is_front(
     written: Result<(), WriteError>,
     told: &MemoryOutput,
     text: &[u8],

@@ -22,6 +22,8 @@ mod piece_tests;
 #[cfg(test)]
 mod sink_tests;
 #[cfg(test)]
+mod text_tests;
+#[cfg(test)]
 mod thread_tests;
 #[cfg(test)]
 mod writer_tests;

@@ -1,5 +1,5 @@
 -- What holds of the stores of a run, and why it ends early.
-use Rattle.std.proofs.Common.{◌≡◌, ◌∙◌, ◌<◌, ◌≤◌, ◌^◌, ◌==◌, ℕ, Bool, true, false, List, [], ◌∷◌, length, map, refl, sym, ap, subst, arith, suc, zero, inl, inr, rules, Option, None, Some, Result, Ok, Err}
+use Rattle.std.proofs.Common.{◌≡◌, ◌∙◌, ◌<◌, ◌≤◌, ◌^◌, ◌==◌, ℕ, Bool, true, false, List, [], ◌∷◌, ◌++◌, length, map, refl, sym, ap, subst, arith, suc, zero, inl, inr, rules, Option, None, Some, Result, Ok, Err}
 use Rattle.std.specs.Prelude.{◌⊎◌, ◌&&◌, IfErr, IfOk, IfSome, IsTrue, is_some, nat_lt}
 use Rattle.std.specs.Cmp.Derive.{both_true}
 use Rattle.std.specs.List.{All, list_all, slice_index_or}
@@ -11,14 +11,17 @@ use Rattle.pipe_columns.specs.declared.data_chunk.DataChunk.{DataChunk}
 use Rattle.pipe_aggs.specs.declared.query.Query.{Query}
 use Rattle.pipe_aggs.specs.QueryTrees.{query_tree}
 use Rattle.pipe_columns.specs.declared.schema.Field.{Field}
-use Rattle.pipe_columns.specs.Frame.{FitsSchema}
+use Rattle.pipe_columns.specs.Frame.{FitsSchema, FrameData}
 use Rattle.pipe_columns.specs.Row.{Row}
 use Rattle.pipe_global.specs.Partition.{no_store, store_of, with_frames}
 use Rattle.pipe_csv.specs.CsvRows.{field, header, missing, width}
 use Rattle.pipe_csv.specs.declared.csv_error.CsvError.TheVariants as csv_error
 use Rattle.pipe_io.specs.Files.{Files}
+use Rattle.pipe_lines.specs.Lines.{joined_texts, lines_of, LineText}
+use Rattle.pipe_model.specs.Output.{output_schema}
 use Rattle.pipe_model.specs.Query.{QueryTree}
 use Rattle.pipe_columns.specs.declared.data_type.DataType.{DataType}
+use Rattle.pipe_plan.specs.declared.event.PartitionEvent.{PartitionEvent}
 use Rattle.pipe_plan.specs.declared.limits.SinkKind.{SinkKind}
 use Rattle.pipe_plan.specs.declared.limits.SinkKind.TheVariants as sink_kind
 use Rattle.pipe_plan.specs.Run.{Run, StoreSeen, tells}
@@ -28,6 +31,7 @@ use Rattle.pipe_run.specs.Failing.{NoneFailed}
 use Rattle.pipe_run.specs.Fed.{FedSeen}
 use Rattle.pipe_run.specs.declared.error.PipeError.TheVariants as pipe_error
 use Rattle.pipe_run.specs.declared.output.GroupByOutput.{GroupByOutput}
+use Rattle.pipe_run.specs.declared.output.TextOutput.{TextOutput}
 use Rattle.pipe_source.specs.CsvChunks.{misfit, Stop, too_large}
 use Rattle.pipe_source.specs.Reader.{chunks_left, ReaderState}
 use Rattle.tool_run.specs.Answering.{AreFedOf, IsAnsweredFrom, IsRunEnd}
@@ -41,13 +45,17 @@ use Rattle.pipe_run.specs.Setting.{run_over, Setting}
 use Rattle.pipe_run.specs.WholeRun.{setting_fits}
 use Rattle.pipe_run.proofs.RunEnds.{untouched-in}
 use Rattle.pipe_words.specs.Plans.{CanRun, PlanSeen}
+use Rattle.pipe_words.specs.declared.plan.Format.{Format}
+use Rattle.pipe_words.specs.declared.plan.Format.TheVariants as format
+use Rattle.pipe_writers.proofs.TextFacts.{csv-of-frame, json-of-frame}
 use Rattle.tool_answer.specs.declared.fault.ToolFault.TheVariants as fault
 use Rattle.tool_answer.specs.Asking.{asked_run, has_folder, input_chunks}
 use Rattle.pipe_plan.specs.Stores.{stores_seen}
 use Rattle.tool_answer.specs.Ended.{HasFailed, HasUntold, IsMade, IsSoundStore, NeverFailed}
 use Rattle.tool_answer.specs.Faults.{EndsFor, IsCaused}
 use Rattle.tool_answer.specs.Inside.{CanCome, file_fault, IsOfRun}
-use Rattle.tool_answer.specs.Headline.{AreFedInput, HasRunTo, HaveFront}
+use Rattle.tool_answer.specs.Formats.{shape_in, text_in}
+use Rattle.tool_answer.specs.Headline.{AreFedInput, HasAnswer, HasRunTo, HaveFront}
 use Rattle.narrow_query.specs.Names.{covers}
 use Rattle.narrow_query.specs.Narrowed.{narrowed_query}
 use Rattle.narrow_columns.specs.Wanted.{chosen}
@@ -379,14 +387,19 @@ pub input-fault : (e : FileRunError) → CanCome e → file_fault e ≡ fault.In
 input-fault (run_error.Read csv_error.Input) come is = refl
 input-fault e come is = search (rules)
 
+-- the frame of a run in place of its lines
+abbrev framed : FrameData → TextOutput → GroupByOutput
+framed frame out = record { frame = frame; journals = out.journals; overflow = out.overflow }
+
 -- the run over all chunks that the files of the plan give was answered
-pub has-run : (p : PlanSeen) (q : Query) (ws : List Bool) → covers ws (query_tree q) ≡ true → (made stores : List StoreSeen) (s : FedSeen) (told : Option Files) (first : ReaderState) (out : GroupByOutput)
+has-run : (p : PlanSeen) (q : Query) (ws : List Bool) → covers ws (query_tree q) ≡ true → (made stores : List StoreSeen) (s : FedSeen) (told : Option Files) (first : ReaderState) (t : LineText) (out : TextOutput)
     → Began p (narrowed_query ws q) made s → IsReader p (query_tree q) ws first
-    → IsAnsweredFrom s.setting told first out stores → HasRunTo p (query_tree q) told out stores
-has-run p q ws covered made stores s told first out began reader from =
+    → (from : IsAnsweredFrom t s.setting told first out stores) → HasRunTo p (query_tree q) told (framed from.answered.frame out) stores
+has-run p q ws covered made stores s told first t out began reader from =
     let fit : AllHaveFields (chosen ws q.schema) from.chunks = subst (λ (x : Setting). AllHaveFields x.query.schema from.chunks) began.setting from.fit in
     let whole : AreRead p (query_tree q) ws told from.chunks = whole-read p (query_tree q) ws told first from.chunks reader fit from.all in
-    let narrow : IsAnswered (asked_run p (query_tree (narrowed_query ws q)) false from.chunks made) out stores = subst (λ (x : Setting). IsAnswered (run_over x false from.chunks) out stores) began.setting from.answered in
+    let groups : GroupByOutput = framed from.answered.frame out in
+    let narrow : IsAnswered (asked_run p (query_tree (narrowed_query ws q)) false from.chunks made) groups stores = subst (λ (x : Setting). IsAnswered (run_over x false from.chunks) groups stores) began.setting from.answered.answered in
     record {
       made = made;
       are_made = began.new;
@@ -395,14 +408,47 @@ has-run p q ws covered made stores s told first out began reader from =
       chunks = whole.whole;
       are_input = whole.input;
       few = sym (few-same ws whole.whole) ∙ ap are_few whole.wanted ∙ from.few;
-      answered = whole-answered p q ws covered made stores out whole.whole whole.fit (subst (λ (cs : List DataChunk). IsAnswered (asked_run p (query_tree (narrowed_query ws q)) false cs made) out stores) (sym whole.wanted) narrow);
+      answered = whole-answered p q ws covered made stores groups whole.whole whole.fit (subst (λ (cs : List DataChunk). IsAnswered (asked_run p (query_tree (narrowed_query ws q)) false cs made) groups stores) (sym whole.wanted) narrow);
+    }
+
+-- ---- its text
+
+-- lines are of the fields that they are asked for
+pub shape-fields : (f : Format) (fields : List Field) → (shape_in f fields).fields ≡ fields
+shape-fields format.Csv fields = refl
+shape-fields format.Json fields = refl
+
+-- the head and the lines of a frame are its text
+text-is : (f : Format) (fields : List Field) (frame : FrameData) → FitsSchema (shape_in f fields).fields frame → (shape_in f fields).head ++ lines_of (shape_in f fields) frame ≡ text_in f frame
+text-is format.Csv fields frame fit = csv-of-frame fields frame fit
+text-is format.Json fields frame fit = json-of-frame fields frame fit
+
+-- the lines of a query suit a run of it that was begun
+pub lines-suit : (f : Format) (t : LineText) (q : Query) (x : Setting) → t ≡ shape_in f (output_schema (query_tree q)) → x.query ≡ q → t.fields ≡ output_schema (query_tree x.query)
+lines-suit f t q x is same =
+    ap (λ (l : LineText). l.fields) is ∙ shape-fields f (output_schema (query_tree q)) ∙ sym (ap (λ (k : Query). output_schema (query_tree k)) same)
+
+-- a head and the lines that a run gives are the text of its answer
+pub has-text : (p : PlanSeen) (q : Query) (ws : List Bool) → covers ws (query_tree q) ≡ true → (made stores : List StoreSeen) (s : FedSeen) (told : Option Files) (first : ReaderState) (fields : List Field) (t : LineText) (head : List ℕ) (out : TextOutput)
+    → Began p (narrowed_query ws q) made s → IsReader p (query_tree q) ws first → t ≡ shape_in p.format fields → head ≡ (shape_in p.format fields).head
+    → IsAnsweredFrom t s.setting told first out stores → HasAnswer p (query_tree q) told out.journals stores (head ++ joined_texts out.text.texts.items)
+has-text p q ws covered made stores s told first fields t head out began reader is same from =
+    let shape = shape_in p.format fields in
+    let now : IsAnsweredFrom shape s.setting told first out stores = subst (λ (l : LineText). IsAnsweredFrom l s.setting told first out stores) is from in
+    let frame : FrameData = now.answered.frame in
+    record {
+      out = framed frame out;
+      run = has-run p q ws covered made stores s told first shape out began reader now;
+      journals_are = refl;
+      text_is = (λ i. same i ++ now.answered.lines i) ∙ text-is p.format fields frame now.answered.fits;
     }
 
 -- without a folder its stores are sound
-pub has-run-sound : (p : PlanSeen) (q : QueryTree) (told : Option Files) (out : GroupByOutput) (stores : List StoreSeen) → HasRunTo p q told out stores
+pub has-text-sound : (p : PlanSeen) (q : QueryTree) (told : Option Files) (journals : List (List PartitionEvent)) (stores : List StoreSeen) (text : List ℕ) → HasAnswer p q told journals stores text
     → All (λ (x : StoreSeen). IsTrue x.sure → x.faults ≡ 0) stores → p.spill_dir ≡ None → All IsSoundStore stores
-has-run-sound p q told out stores run never =
-    all-sound p q false run.chunks run.made stores run.are_made run.count (replayed-are (asked_run p q false run.chunks run.made) out stores run.answered) never
+has-text-sound p q told journals stores text has never =
+    let run = has.run in
+    all-sound p q false run.chunks run.made stores run.are_made run.count (replayed-are (asked_run p q false run.chunks run.made) has.out stores run.answered) never
 
 -- ---- what a result is
 

@@ -40,10 +40,6 @@ use Rattle.tool_answer.proofs.RunFacts.{paths-kept, replayed-are, told-made, who
 
 -- ---- a run that was answered
 
-pub has-answer : (p : PlanSeen) (q : QueryTree) (told : Option Files) (out : GroupByOutput) (stores : List StoreSeen) → HasRunTo p q told out stores
-    → HasAnswer p q told out.journals stores (text_in p.format out.frame)
-has-answer p q told out stores run = record { out = out; run = run; journals_are = refl; text_is = refl }
-
 -- a fault of writing leaves it
 pub written-left : (o : Option ToolFault) (a : Asked) (told : Option Files) (journals : List (List PartitionEvent)) (stores : List StoreSeen)
     → IfSome o (λ f. (f ≡ fault.OutputFailed) ⊎ (f ≡ fault.Memory)) → HasRun a told journals stores → IfSome o (λ f. IsLeft f a told journals stores)

@@ -1,12 +1,14 @@
 //! The answer to one command: from its words to the bytes of its output, its line and its exit status.
 #![tactic(auto)]
 
+mod answer_text;
 mod ended;
 mod fault;
 mod line;
 mod made;
 mod made_run;
 mod read;
+mod ready;
 mod run;
 mod status;
 mod stores;

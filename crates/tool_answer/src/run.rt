@@ -1,10 +1,11 @@
 //! A run over the files that are asked for.
 
-ghost use Rattle.std.specs.Prelude.{◌≡◌, [], All, IfErr, IfOk, IsErrOf, None, length, map, true, vec_len};
+ghost use Rattle.std.specs.Prelude.{◌≡◌, ◌++◌, [], All, IfErr, IfOk, IsErrOf, None, length, map, true, vec_len};
 ghost use Rattle.pipe_aggs.specs.Faults.{first_fault};
 ghost use Rattle.pipe_aggs.specs.QueryTrees.{query_tree};
 ghost use Rattle.pipe_columns.specs.Causes.{Rose};
 ghost use Rattle.pipe_io.specs.Tried.{TriedFront};
+ghost use Rattle.pipe_lines.specs.Lines.{joined_texts};
 ghost use Rattle.pipe_model.specs.Output.{key_types};
 ghost use Rattle.pipe_run.specs.Failing.{NoneFailed};
 ghost use Rattle.pipe_run.specs.Refusals.{limits_fit};
@@ -16,18 +17,19 @@ ghost use Rattle.tool_answer.specs.Asking.{files_asked};
 ghost use Rattle.tool_answer.specs.Ended.{IsMade, IsSoundStore};
 ghost use Rattle.tool_answer.specs.Faults.{IsCaused};
 ghost use Rattle.tool_answer.specs.Inside.{IsOfRun};
-ghost use Rattle.tool_answer.specs.Headline.{AreFedInput, HasRunTo, HaveFront};
+ghost use Rattle.tool_answer.specs.Headline.{AreFedInput, HasAnswer, HaveFront};
 ghost use Rattle.tool_answer.specs.declared.fault.ToolFault.TheVariants as fault;
 
+use crate::answer_text::AnswerText;
 use crate::fault::{ToolFault, file_fault};
 use crate::read::reader_of;
-use narrow_query::{Narrowed, narrow};
+use crate::ready::{Ready, make_ready};
 use pipe_aggs::Query;
 use pipe_global::Gate;
 use pipe_group_by::GroupByRun;
 use pipe_io::InputFiles;
 use pipe_plan::{Limits, SpillAction};
-use pipe_run::{GroupByOutput, PipeError};
+use pipe_run::PipeError;
 use pipe_spill::SpillStore;
 use pipe_words::Plan;
 use std::alloc::Global;
@@ -75,7 +77,7 @@ pub fn begin_run<'a, S: SpillStore + Drop + Send, H: Wait>(
 }
 
 /// Runs a question over stores and over the files that it names, of which the columns that the query
-/// names are read and fed in rounds. The stores come back in order.
+/// names are read and fed in rounds. It gives the text of the groups. The stores come back in order.
 pub fn run_question<
     S: SpillStore + Drop + Send,
     I: InputFiles,
@@ -88,7 +90,7 @@ pub fn run_question<
     stores: Vec<S>,
     input: &mut I,
     gate: &G,
-) -> (Result<GroupByOutput, ToolFault>, Vec<S>)
+) -> (Result<AnswerText, ToolFault>, Vec<S>)
     requires runs { CanRun (plan_seen question.plan) }
     requires faultless { first_fault question.query ≡ None }
     requires suited { does_keep question.plan.limits.sink
@@ -98,9 +100,10 @@ pub fn run_question<
     requires count { length stores.items ≡ question.plan.limits.partitions }
     requires paths { map S.path stores.items
         ≡ store_paths question.plan.spill_dir question.plan.limits.partitions }
-    ensures answered { IfOk result.0 (λ out. HasRunTo (plan_seen question.plan)
-        (query_tree question.query) (I.told input.old) out
-        (stores_seen S.held S.told S.faults S.sure S.path result.1.items)) }
+    ensures answered { IfOk result.0 (λ a. HasAnswer (plan_seen question.plan)
+        (query_tree question.query) (I.told input.old) a.groups.journals
+        (stores_seen S.held S.told S.faults S.sure S.path result.1.items)
+        (a.head.items ++ joined_texts a.groups.text.texts.items)) }
     ensures cause { IfErr result.0 (λ f. IsCaused f
         (asks (plan_seen question.plan) (query_tree question.query)) (I.told input.old)
         (stores_seen S.held S.told S.faults S.sure S.path result.1.items)) }
@@ -125,17 +128,20 @@ pub fn run_question<
         rows,
         words,
         spill_dir,
+        format,
         ..
     } = plan;
     drop(spill_dir);
-    let Ok(narrowed) = narrow(alloc, query) else {
+    let Ok(ready) = make_ready(alloc, query, format) else {
         return (Err(ToolFault::Memory), stores);
     };
-    let Narrowed {
+    let Ready {
         schema,
         wanted,
         query,
-    } = narrowed;
+        lines,
+        head,
+    } = ready;
     let run = match begin_run(rt, alloc, &query, &limits, actions, rules, stores) {
         Ok(run) => run,
         Err(stores) => return (Err(ToolFault::Memory), stores),
@@ -145,9 +151,19 @@ pub fn run_question<
     };
     let most = CHUNKS_OF_WORKER * limits.workers;
     let threads = limits.workers;
-    let (ended, stores) = run_files(rt, alloc, gate, run, input, &mut reader, most, threads);
+    let (ended, stores) = run_files(
+        rt,
+        alloc,
+        gate,
+        run,
+        input,
+        &mut reader,
+        &lines,
+        most,
+        threads,
+    );
     match ended {
-        Ok(groups) => (Ok(groups), stores),
+        Ok(groups) => (Ok(AnswerText { head, groups }), stores),
         Err(error) => (Err(file_fault(error)), stores),
     }
 }

@@ -1,25 +1,25 @@
 //! One question, from the words of a command to the bytes of its output.
 
-ghost use Rattle.std.specs.Prelude.{◌≡◌, ◌≢◌, ◌⊎◌, ◌++◌, All, IfSome, IsErrOf, IsSome, IsTrue, None, OnErr, OnOk, Some, false, map, true};
+ghost use Rattle.std.specs.Prelude.{◌≡◌, ◌≢◌, ◌⊎◌, ◌++◌, All, IfSome, IsSome, IsTrue, None, Some, false, map, true};
 ghost use Rattle.std.specs.Io.KnownBytes.{Appends};
-ghost use Rattle.pipe_columns.specs.Causes.{HasCause, Rose};
+ghost use Rattle.pipe_columns.specs.Causes.{Rose};
 ghost use Rattle.pipe_io.specs.Output.{WroteFront};
 ghost use Rattle.pipe_io.specs.Tried.{TriedFront};
 ghost use Rattle.pipe_aggs.specs.Faults.{first_fault};
 ghost use Rattle.pipe_aggs.specs.QueryTrees.{query_tree};
+ghost use Rattle.pipe_lines.specs.Lines.{joined_texts};
 ghost use Rattle.pipe_model.specs.Output.{key_types};
 ghost use Rattle.pipe_words.specs.Plans.{CanRun, plan_seen};
 ghost use Rattle.tool_words.specs.Asked.{asked, asks, does_keep, is_refused, reads_none};
 ghost use Rattle.tool_answer.specs.Asking.{due_paths, files_asked, has_folder};
 ghost use Rattle.tool_answer.specs.Ended.{IsSoundStore, NeverFailed};
-ghost use Rattle.tool_answer.specs.Formats.{text_in};
 ghost use Rattle.tool_answer.specs.Faults.{IsCaused};
 ghost use Rattle.tool_answer.specs.Inside.{EndsMade, EndsRefused, IsBefore, IsLeft};
 ghost use Rattle.tool_answer.specs.Headline.{HasNoRun, HasRun, HasStopped, IsAnswerWritten, IsBegun, IsWritten};
 ghost use Rattle.tool_answer.specs.Status.{EndsAsDue, EndsUnread, FrameDamaged, IsDue, IsRefusal, ReportsFault, ReportsFront, StoreFailed, is_answer, is_read_end, is_refusal, is_status, is_stopped};
-ghost use Rattle.pipe_writers.specs.declared.write_error.WriteError.TheVariants as write_error;
 ghost use Rattle.tool_answer.specs.declared.fault.ToolFault.TheVariants as fault;
 
+use crate::answer_text::{AnswerText, journals_of};
 use crate::ended::{Ran, ToolEnd};
 use crate::fault::{ToolFault, ask_fault};
 use crate::line::report;
@@ -29,63 +29,39 @@ use crate::status::{
     DAMAGED, DONE, INPUT_FAILED, INPUT_REFUSED, NO_MEMORY, OUTPUT_FAILED, STORE_FAILED, TOO_LARGE,
 };
 use crate::stores::make_stores;
-use pipe_columns::{DataFrame, Text};
+use pipe_columns::Text;
 use pipe_global::{Gate, Journals};
 use pipe_io::{InputFiles, Output};
-use pipe_run::GroupByOutput;
-use pipe_words::Format;
-use pipe_writers::{WriteError, write_csv, write_json};
+use pipe_writers::{WriteError, write_texts};
 use std::alloc::Global;
 use std::sync::Wait;
 use std::thread::Threads;
 use tool_stores::StoreMaker;
 use tool_words::{Question, Request, read_request};
 
-/// Sends the text of a frame in a format, or where something refuses a front of it.
-fn send_frame<O: Output>(
-    alloc: Global,
-    format: Format,
-    frame: &DataFrame,
-    output: &mut O,
-) -> Result<(), WriteError>
-    ensures all { OnOk result
-        (Appends (O.told output.old) (O.told output.new) (text_in format frame.now)) }
-    ensures front { OnErr result
-        (WroteFront (O.told output.old) (O.told output.new) (text_in format frame.now)) }
-    ensures cause { HasCause (O.faults output.old) (O.faults output.new)
-        (IsErrOf result write_error.Output) }
-{
-    match format {
-        Format::Csv => write_csv(alloc, output, frame),
-        Format::Json => write_json(alloc, output, frame),
-    }
-}
-
-/// Writes the text of a frame in a format.
-fn write_frame<O: Output>(
-    alloc: Global,
-    format: Format,
-    frame: &DataFrame,
-    output: &mut O,
-) -> Option<ToolFault>
-    ensures done { result ≡ None
-        → Appends (O.told output.old) (O.told output.new) (text_in format frame.now) }
+/// Writes the text of an answer.
+fn write_answer<O: Output>(answer: &AnswerText, output: &mut O) -> Option<ToolFault>
+    ensures done { result ≡ None → Appends (O.told output.old) (O.told output.new)
+        (answer.now.head.items ++ joined_texts answer.now.groups.text.texts.items) }
     ensures output_failed { result ≡ Some fault.OutputFailed
         → Rose (O.faults output.old) (O.faults output.new) }
     ensures begun { result ≡ Some fault.OutputFailed
-        → WroteFront (O.told output.old) (O.told output.new) (text_in format frame.now) }
+        → WroteFront (O.told output.old) (O.told output.new)
+        (answer.now.head.items ++ joined_texts answer.now.groups.text.texts.items) }
     ensures memory { result ≡ Some fault.Memory → (output.new ≡ output.old)
-        ⊎ WroteFront (O.told output.old) (O.told output.new) (text_in format frame.now) }
+        ⊎ WroteFront (O.told output.old) (O.told output.new)
+        (answer.now.head.items ++ joined_texts answer.now.groups.text.texts.items) }
     ensures faults { IfSome result (λ f. (f ≡ fault.OutputFailed) ⊎ (f ≡ fault.Memory)) }
 {
-    match send_frame(alloc, format, frame, output) {
+    let texts = &answer.groups.text.texts;
+    match write_texts(output, &answer.head, texts) {
         Ok(()) => None,
         Err(WriteError::Output) => Some(ToolFault::OutputFailed),
         Err(WriteError::Memory) => Some(ToolFault::Memory),
     }
 }
 
-/// Answers a question: makes the stores, runs it over the files, and writes the frame of its groups.
+/// Answers a question: makes the stores, runs it over the files, and writes the text of its groups.
 fn answer_question<
     I: InputFiles,
     O: Output,
@@ -134,24 +110,17 @@ fn answer_question<
         ≡ M.made maker.old ++ due_paths (asks (plan_seen question.plan) (query_tree question.query))) }
 {
     let partitions = question.plan.limits.partitions;
-    let format = question.plan.format;
     let folder = question.plan.spill_dir.as_ref();
     let Ok(stores) = make_stores(alloc, maker, folder, partitions) else {
         return Ran::nothing(alloc, ToolFault::Memory);
     };
     let (ended, stores) = run_question(rt, alloc, question, stores, input, gate);
     match ended {
-        Ok(
-            GroupByOutput {
-                frame,
-                journals,
-                ..
-            },
-        ) => {
-            let fault = write_frame(alloc, format, &frame, output);
+        Ok(answer) => {
+            let fault = write_answer(&answer, output);
             Ran {
                 fault,
-                journals,
+                journals: journals_of(answer),
                 stores,
             }
         }

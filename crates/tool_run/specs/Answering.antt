@@ -4,8 +4,10 @@ use Rattle.pipe_columns.specs.declared.data_chunk.DataChunk.{DataChunk}
 use Rattle.pipe_io.specs.Files.{Files}
 use Rattle.pipe_plan.specs.Rounds.{IsFront}
 use Rattle.pipe_plan.specs.Run.{StoreSeen}
-use Rattle.pipe_run.specs.declared.output.GroupByOutput.{GroupByOutput}
-use Rattle.pipe_run.specs.Answered.{HaveWholeFrames, IsAnswered}
+use Rattle.pipe_lines.specs.Lines.{LineText}
+use Rattle.pipe_run.specs.declared.output.TextOutput.{TextOutput}
+use Rattle.pipe_run.specs.Answered.{HaveWholeFrames}
+use Rattle.pipe_run.specs.AnsweredText.{IsAnsweredText}
 use Rattle.pipe_run.specs.Failing.{NoneFailed}
 use Rattle.pipe_run.specs.Fed.{FedSeen}
 use Rattle.pipe_run.specs.Finish.{IsFinishCause}
@@ -18,15 +20,15 @@ use Rattle.tool_run.specs.declared.error.FileRunError.{FileRunError}
 use Rattle.tool_run.specs.declared.error.FileRunError.TheVariants as error
 use Rattle.tool_run.specs.Reading.{AreAll, are_few, ComeFirst, EndsBy}
 
--- the run over all chunks that a reader had left, which fit its query, was answered
+-- the run over all chunks that a reader had left, which fit its query, was answered by lines
 pub record IsAnsweredFrom
-    (x : Setting) (told : Option Files) (first : ReaderState) (out : GroupByOutput)
+    (t : LineText) (x : Setting) (told : Option Files) (first : ReaderState) (out : TextOutput)
     (stores : List StoreSeen) : Type 0 where
   pub chunks : List DataChunk
   pub all : AreAll told first chunks
   pub few : are_few chunks ≡ true
   pub fit : AllHaveFields x.query.schema chunks
-  pub answered : IsAnswered (run_over x false chunks) out stores
+  pub answered : IsAnsweredText t (run_over x false chunks) out stores
 
 -- why a run over files ends early: their reading does, and no store failed; or the store that is named
 -- is the first that did; or a store doesn't tell, and the frame that is named is one that the run put

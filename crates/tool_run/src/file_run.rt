@@ -4,7 +4,9 @@ ghost use Rattle.std.specs.Prelude.{◌≡◌, ◌<◌, [], IfErr, IfOk};
 ghost use Rattle.pipe_columns.specs.Causes.{Rose};
 ghost use Rattle.pipe_plan.specs.Stores.{stores_seen};
 ghost use Rattle.pipe_io.specs.Tried.{TriedFront};
+ghost use Rattle.pipe_aggs.specs.QueryTrees.{query_tree};
 ghost use Rattle.pipe_csv.specs.declared.csv_error.CsvError.TheVariants as csv_error;
+ghost use Rattle.pipe_model.specs.Output.{output_schema};
 ghost use Rattle.pipe_source.specs.Reader.{given_fields};
 ghost use Rattle.tool_run.specs.Answering.{AreFedOf, HaveFront, IsAnsweredFrom, IsRunEnd};
 ghost use Rattle.tool_run.specs.declared.error.FileRunError.TheVariants as error;
@@ -14,7 +16,8 @@ use crate::feed_files::feed_files;
 use pipe_global::Gate;
 use pipe_group_by::GroupByRun;
 use pipe_io::InputFiles;
-use pipe_run::GroupByOutput;
+use pipe_lines::Lines;
+use pipe_run::TextOutput;
 use pipe_source::ChunkReader;
 use pipe_spill::SpillStore;
 use std::alloc::Global;
@@ -22,12 +25,13 @@ use std::sync::Wait;
 use std::thread::Threads;
 
 /// Feeds all chunks that a reader has left into a run that was fed none, so many at a time, which are
-/// read in so many threads, and ends the run. Of their files each is begun once at most, in order. The
-/// stores come back in order.
+/// read in so many threads, and ends the run: it gives the lines of its groups. Of their files each is
+/// begun once at most, in order. The stores come back in order.
 pub fn run_files<
     'a,
     S: SpillStore + Drop + Send,
     I: InputFiles,
+    L: Lines + Sync,
     G: Gate + Sync,
     H: Threads + Wait + Sync,
 >(
@@ -37,14 +41,16 @@ pub fn run_files<
     run: GroupByRun<'a, S>,
     input: &mut I,
     reader: &mut ChunkReader,
+    lines: &L,
     most: usize,
     threads: usize,
-) -> (Result<GroupByOutput, FileRunError>, Vec<S>)
+) -> (Result<TextOutput, FileRunError>, Vec<S>)
     requires most { 0 < most }
     requires threads { 0 < threads }
     requires none { run.chunks ≡ [] }
     requires fits { given_fields reader.old ≡ run.setting.query.schema }
-    ensures answered { IfOk result.0 (λ out. IsAnsweredFrom run.entry.setting
+    requires lines { (L.shape lines.now).fields ≡ output_schema (query_tree run.setting.query) }
+    ensures answered { IfOk result.0 (λ out. IsAnsweredFrom (L.shape lines.now) run.entry.setting
         (I.told input.old) reader.old out
         (stores_seen S.held S.told S.faults S.sure S.path result.1.items)) }
     ensures cause { IfErr result.0 (λ e. IsRunEnd run.entry (I.told input.old) reader.old
@@ -60,7 +66,7 @@ pub fn run_files<
         Ok(run) => run,
         Err((error, stores)) => return (Err(error), stores),
     };
-    let (ended, stores) = run.finish(rt, alloc, gate);
+    let (ended, stores) = run.finish_text(rt, alloc, gate, lines);
     match ended {
         Ok(output) => (Ok(output), stores),
         Err(error) => (Err(FileRunError::Run(error)), stores),

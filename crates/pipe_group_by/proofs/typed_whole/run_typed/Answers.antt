@@ -10,6 +10,7 @@ use Rattle.pipe_run.specs.WholeRun.{CanBegin, CanRunOver}
 use Rattle.pipe_run.proofs.Counted.{calm-same}
 use Rattle.pipe_run.proofs.RunEnds.{begin-ends, finish-ends, fits-setting}
 use Rattle.pipe_group_by.proofs.AtOnce.{fed-can, typed-refused}
+use Rattle.pipe_group_by.proofs.Texts.{holds-if-err, holds-on-ok}
 use Rattle.pipe_group_by.proofs.typed_whole.run_typed.Goals as goal
 
 pub returns-in-Err : goal.returns-in-Err
@@ -44,4 +45,4 @@ returns g c =
     let fed : last.chunks ≡ chunks = c.in-Ok-feed.ensures.chunks ∙ ap (λ (l : List DataChunk). l ++ chunks) c.in-Ok.ensures.chunks in
     let can : CanRunOver x chunks = record { begin = begin; feed = fed-can x chunks first c.in-Ok.ensures.setting c.in-Ok.ensures.chunks c.in-Ok-feed.ensures.fed } in
     finish-ends x chunks last c.finish.result.0 (map seen c.finish.result.1.items) (c.in-Ok-feed.ensures.setting ∙ c.in-Ok.ensures.setting) fed can
-    (calm-same x.stores last.stores (c.in-Ok-feed.ensures.same ∙ c.in-Ok.ensures.same)) c.finish.ensures.answered c.finish.ensures.unfailed c.finish.ensures.cause c.finish.ensures.back
+    (calm-same x.stores last.stores (c.in-Ok-feed.ensures.same ∙ c.in-Ok.ensures.same)) c.finish.ensures.answered (holds-on-ok c.finish.result.0 _ c.finish.ensures.unfailed) c.finish.ensures.cause (holds-if-err c.finish.result.0 _ c.finish.ensures.back)

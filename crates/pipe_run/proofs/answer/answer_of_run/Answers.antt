@@ -4,17 +4,17 @@ use Rattle.pipe_aggs.specs.declared.query.Query.{Query}
 use Rattle.pipe_aggs.specs.CheckedQuery.{IsSound}
 use Rattle.pipe_aggs.specs.QueryTrees.{query_tree}
 use Rattle.pipe_columns.specs.declared.data_chunk.DataChunk.{DataChunk}
-use Rattle.pipe_columns.specs.Row.{Row}
-use Rattle.pipe_model.specs.Answer.{answer, answer_of}
-use Rattle.pipe_plan.specs.Run.{all_rows, Run, tells}
+use Rattle.pipe_model.specs.Output.{output_schema}
+use Rattle.pipe_plan.specs.Run.{Run}
 use Rattle.pipe_spill.specs.Store.{HasHeld}
 use Rattle.pipe_keyed.specs.Tables.{Table}
 use Rattle.pipe_global.specs.Partition.{PartitionSeen}
 use Rattle.pipe_run.specs.Ending.{IsAnswerCause}
-use Rattle.pipe_run.specs.Given.{HasRows}
 use Rattle.pipe_run.specs.Setting.{run_over, Setting}
-use Rattle.pipe_run.specs.Sources.{IsGiveCause, KeepsAsked, unasked}
-use Rattle.pipe_run.proofs.AnswerOfRun.{ended-answer, ended-cause}
+use Rattle.pipe_run.specs.Wholes.{IsRunWhole}
+use Rattle.pipe_asked.specs.Sources.{IsGiveCause, KeepsAsked, unasked}
+use Rattle.pipe_asked.specs.Wholes.{IsAnswerWhole}
+use Rattle.pipe_run.proofs.AnswerOfRun.{ended-cause, ended-whole}
 use Rattle.pipe_run.proofs.EndedSource.{ended-rows, ended-source}
 use Rattle.pipe_run.proofs.answer.answer_of_run.Goals as goal
 
@@ -44,12 +44,14 @@ returns-clause-answer g c =
     subst (λ (l : List PartitionSeen). (p : ℕ) (d : PartitionSeen) → p < length l → HasHeld (slice_index_or l p d).store.told (slice_index_or l p d).store.held) c.as_slice.ensures.value c.recall_told.ensures in
     let local : Table = c.in-Ok.local in
     let sound : IsSound q = c.query-query.ensures.sound in
-    IfOk-weaker c.answer_of_parts.result.0 (λ f. (rs : List Row) → HasRows rs (unasked q closed local (query_tree q).slice) → f ≡ answer_of rs (query_tree q) (length closed))
-    (λ f. All (λ s. tells s ≡ true) r.stores → f ≡ answer r.chunks r.query r.limits.partitions)
-    (λ f joined all_tell.
-    let rows = ended-rows r q closed local (query_tree q).slice c.requires.run of_query refl c.requires.whole c.in-Ok.ensures.shape c.in-Ok.ensures.holds told all_tell sound c.requires.chunks in
-    ended-answer r q (length closed) f of_query c.requires.whole.count (joined (all_rows r) rows))
-    c.answer_of_parts.ensures.frame
+    let is = g.F.Form.is c.args.form.now in
+    IfOk-weaker c.answer_of_parts.result.0 (IsAnswerWhole is (unasked q closed local (query_tree q).slice)) (IsRunWhole is r)
+    (λ w whole. ended-whole is r (unasked q closed local (query_tree q).slice) w of_query c.requires.whole.count
+    (λ all_tell. ended-rows r q closed local (query_tree q).slice c.requires.run of_query refl c.requires.whole c.in-Ok.ensures.shape c.in-Ok.ensures.holds told all_tell sound c.requires.chunks) whole)
+    c.answer_of_parts.ensures.whole
+
+pub answer_of_parts-requires-clause-takes : goal.answer_of_parts-requires-clause-takes
+answer_of_parts-requires-clause-takes g c κs within = subst (λ (x : Setting). g.F.Form.takes c.args.form.now (output_schema (query_tree x.query))) (sym c.begun.view_is) c.requires.takes
 
 pub returns-clause-cause : goal.returns-clause-cause
 returns-clause-cause g c =

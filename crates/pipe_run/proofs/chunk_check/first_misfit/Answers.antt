@@ -3,7 +3,7 @@ use Rattle.std.specs.List.{All}
 use Rattle.pipe_columns.specs.declared.data_chunk.DataChunk.{DataChunk}
 use Rattle.pipe_columns.specs.Frame.{FitsSchema, HoldsTypes}
 use Rattle.pipe_run.specs.Refusals.{AllHaveFields}
-use Rattle.pipe_run.proofs.Lists.{all-take-more, take-past}
+use Rattle.pipe_asked.proofs.Lists.{all-take-more, take-past}
 use Rattle.pipe_run.proofs.chunk_check.first_misfit.Goals as goal
 
 pub loop-position-preserved : goal.loop-position-preserved

@@ -1,18 +1,16 @@
 use Rattle.std.proofs.Common.{rules, ◌≡◌, [], false, List, map, refl, subst, sym, true}
 use Rattle.std.specs.Prelude.{IfErr, IfOk, OnOk, Result}
-use Rattle.std.specs.List.{All, sum_by}
+use Rattle.std.specs.List.{sum_by}
 use Rattle.pipe_columns.specs.declared.data_chunk.DataChunk.{DataChunk}
-use Rattle.pipe_columns.specs.Frame.{FrameData}
-use Rattle.pipe_aggs.specs.QueryTrees.{query_tree}
-use Rattle.pipe_model.specs.Answer.{answer}
 use Rattle.pipe_model.specs.Rows.{total_height}
-use Rattle.pipe_plan.specs.Run.{tells}
 use Rattle.pipe_global.specs.Partition.{PartitionSeen}
 use Rattle.pipe_global.specs.declared.batch_error.BatchError.{BatchError}
 use Rattle.pipe_run.specs.Ending.{IsAnswerCause}
-use Rattle.pipe_run.specs.Fed.{CountOn, FedSeen}
+use Rattle.pipe_asked.specs.Left.{CountOn}
+use Rattle.pipe_run.specs.Fed.{FedSeen}
 use Rattle.pipe_run.specs.Finish.{IsFinishCause}
 use Rattle.pipe_run.specs.Setting.{run_over}
+use Rattle.pipe_run.specs.Wholes.{IsRunWhole}
 use Rattle.pipe_run.proofs.Endings.{answered-shut, few-shut, groups-cause, groups-left, round-cause, round-left, runnable-shut, unfailed-shut}
 use Rattle.pipe_run.proofs.finish.finish_with.Goals as goal
 
@@ -56,7 +54,7 @@ returns-in-Err-groups-clause-cause g c =
     let s : FedSeen = record { setting = x; chunks = taken; journals = journals; stores = seen } in
     let after = c.answer_of_run-groups.result.1.items in
     let cause : IsAnswerCause (run_over x false taken) c.in-Ok.ended.closed.items after c.in-Err-groups.error =
-    subst (λ (r : Result FrameData BatchError). IfErr r (λ e. IsAnswerCause (run_over x false taken) c.in-Ok.ended.closed.items after e)) c.in-Err-groups.is c.answer_of_run-groups.ensures.cause in
+    subst (λ (r : Result _ BatchError). IfErr r (λ e. IsAnswerCause (run_over x false taken) c.in-Ok.ended.closed.items after e)) c.in-Err-groups.is c.answer_of_run-groups.ensures.cause in
     subst (IsFinishCause s (map (λ s. record { held = g.S.SpillStore.held s; told = g.S.SpillStore.told s; faults = g.S.SpillStore.faults s; sure = g.S.SpillStore.sure s; path = g.S.SpillStore.path s }) c.stores_of-in-Err-groups.result.items)) (sym c.of_groups.ensures)
     (groups-cause x taken journals seen s refl (map (λ s. record { held = g.S.SpillStore.held s; told = g.S.SpillStore.told s; faults = g.S.SpillStore.faults s; sure = g.S.SpillStore.sure s; path = g.S.SpillStore.path s }) c.stores_of-in-Err-groups.result.items)
     c.args.closed.items c.args.rested.items (total_height taken) c.requires.fed c.in-Ok.ended.closed.items c.answer_of_run-groups.result.1.items c.in-Ok.ensures.whole c.answer_of_run-groups.ensures.kept c.in-Err-groups.error c.stores_of-in-Err-groups.ensures refl c.in-Ok.ensures.counted cause)
@@ -91,10 +89,19 @@ returns-clause-answered g c =
     let after = c.answer_of_run-groups.result.1.items in
     let named : c.new.result ≡ map (λ (p : PartitionSeen). p.journal) after = search rules in
     let count : c.parts_of-journals.result.arrived ≡ sum_by (λ (p : PartitionSeen). p.arrived) after = search rules in
-    let told : All (λ s. tells s ≡ true) x.stores → c.in-Ok-groups.frame ≡ answer taken (query_tree x.query) x.limits.partitions =
-    subst (λ (r : Result FrameData BatchError). IfOk r (λ f. All (λ s. tells s ≡ true) x.stores → f ≡ answer taken (query_tree x.query) x.limits.partitions)) c.in-Ok-groups.is c.answer_of_run-groups.ensures.answer in
-    answered-shut x taken journals seen s refl (map (λ s. record { held = g.S.SpillStore.held s; told = g.S.SpillStore.told s; faults = g.S.SpillStore.faults s; sure = g.S.SpillStore.sure s; path = g.S.SpillStore.path s }) c.parts_of-journals.result.stores.items)
-    c.args.closed.items c.args.rested.items (total_height taken) c.requires.fed c.in-Ok.ended.closed.items c.answer_of_run-groups.result.1.items c.in-Ok.ensures.whole c.answer_of_run-groups.ensures.kept c.in-Ok-groups.frame c.new.result c.parts_of-journals.result.arrived c.parts_of-journals.ensures.stores named count told
+    let is = g.F.Form.is c.args.form.now in
+    let told : IsRunWhole is (run_over x false taken) c.in-Ok-groups.whole =
+    subst (λ (r : Result _ BatchError). IfOk r (IsRunWhole is (run_over x false taken))) c.in-Ok-groups.is c.answer_of_run-groups.ensures.answer in
+    record {
+      frame = told.frame;
+      fits = told.fits;
+      is = told.is;
+      answered = answered-shut x taken journals seen s refl (map (λ s. record { held = g.S.SpillStore.held s; told = g.S.SpillStore.told s; faults = g.S.SpillStore.faults s; sure = g.S.SpillStore.sure s; path = g.S.SpillStore.path s }) c.parts_of-journals.result.stores.items)
+          c.args.closed.items c.args.rested.items (total_height taken) c.requires.fed c.in-Ok.ended.closed.items c.answer_of_run-groups.result.1.items c.in-Ok.ensures.whole c.answer_of_run-groups.ensures.kept told.frame c.new.result c.parts_of-journals.result.arrived c.parts_of-journals.ensures.stores named count told.answer;
+    }
+
+pub answer_of_run-groups-requires-clause-takes : goal.answer_of_run-groups-requires-clause-takes
+answer_of_run-groups-requires-clause-takes g c = λ κs lives. c.requires.takes
 
 pub round-requires-clause-generic : goal.round-requires-clause-generic
 round-requires-clause-generic g c = λ κs lives. c.requires.fed.generic
@@ -111,6 +118,6 @@ returns-clause-unfailed g c =
     let s : FedSeen = record { setting = x; chunks = taken; journals = journals; stores = seen } in
     let after = c.answer_of_run-groups.result.1.items in
     let calm : CountOn c.in-Ok.ended.closed.items after =
-    subst (λ (r : Result FrameData BatchError). OnOk r (CountOn c.in-Ok.ended.closed.items after)) c.in-Ok-groups.is c.answer_of_run-groups.ensures.calm in
+    subst (λ (r : Result _ BatchError). OnOk r (CountOn c.in-Ok.ended.closed.items after)) c.in-Ok-groups.is c.answer_of_run-groups.ensures.calm in
     unfailed-shut x taken journals seen s refl (map (λ s. record { held = g.S.SpillStore.held s; told = g.S.SpillStore.told s; faults = g.S.SpillStore.faults s; sure = g.S.SpillStore.sure s; path = g.S.SpillStore.path s }) c.parts_of-journals.result.stores.items)
     c.args.closed.items c.args.rested.items (total_height taken) c.requires.fed c.in-Ok.ended.closed.items after c.in-Ok.ensures.whole c.answer_of_run-groups.ensures.kept c.parts_of-journals.ensures.stores refl c.in-Ok.ensures.counted calm

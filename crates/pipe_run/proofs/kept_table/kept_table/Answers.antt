@@ -3,7 +3,8 @@ use Rattle.std.specs.Vec.Iter.{into_iter_items, into_iter_len}
 use Rattle.pipe_plan.specs.Run.{Run}
 use Rattle.pipe_workers.specs.declared.paused.PausedWorker.{PausedWorker}
 use Rattle.pipe_run.specs.Setting.{run_over}
-use Rattle.pipe_run.proofs.KeptTables.{holds-all, holds-first, holds-next, HoldsFirst, none-left, next-few, next-shape}
+use Rattle.pipe_asked.proofs.Lists.{none-left}
+use Rattle.pipe_run.proofs.KeptTables.{holds-all, holds-first, holds-next, HoldsFirst, next-few, next-shape}
 use Rattle.pipe_run.proofs.kept_table.kept_table.Goals as goal
 
 pub workers-init : goal.workers-init

@@ -2,7 +2,7 @@ use Rattle.std.proofs.Common.{◌≡◌, ◌∙◌, ◌^◌, ◌&&◌, Bool, tru
 use Rattle.std.specs.Prelude.{nat_lt}
 use Rattle.std.specs.List.{list_all}
 use Rattle.std.proofs.lemmas.List.Folds.{list_all-map}
-use Rattle.pipe_run.proofs.Lists.{drop-past}
+use Rattle.pipe_asked.proofs.Lists.{drop-past}
 use Rattle.pipe_run.proofs.limits.have_numbers.Goals as goal
 
 and_true : (b : Bool) → b ≡ (b && true)

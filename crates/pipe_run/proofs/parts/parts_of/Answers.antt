@@ -4,7 +4,7 @@ use Rattle.std.proofs.lemmas.List.Sums.{sum_by-cons}
 use Rattle.std.specs.Vec.Iter.{into_iter_items}
 use Rattle.pipe_plan.specs.Run.{StoreSeen}
 use Rattle.pipe_global.specs.Partition.{PartitionSeen}
-use Rattle.pipe_run.proofs.Lists.{built-all, built-more}
+use Rattle.pipe_asked.proofs.Lists.{built-all, built-more}
 use Rattle.pipe_run.proofs.parts.parts_of.Goals as goal
 
 pub overflow_add-arrived : goal.overflow_add-arrived

@@ -5,8 +5,7 @@ use Rattle.std.specs.Vec.Iter.{into_iter_items}
 use Rattle.pipe_global.specs.Shares.{SharesSeen}
 use Rattle.pipe_workers.specs.Rounds.{JobSeen}
 use Rattle.pipe_run.specs.Rounds.{has_gone_on, paused_of, shares_of}
-use Rattle.pipe_run.proofs.KeptTables.{none-left}
-use Rattle.pipe_run.proofs.Lists.{built-more, passed-more}
+use Rattle.pipe_asked.proofs.Lists.{built-more, none-left, passed-more}
 use Rattle.pipe_run.proofs.round.gather.Goals as goal
 
 pub loop-job-preserved : goal.loop-job-preserved

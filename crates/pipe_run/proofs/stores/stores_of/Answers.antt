@@ -1,8 +1,7 @@
 use Rattle.std.proofs.Common.{◌≡◌, ◌∙◌, ◌∷◌, ◌++◌, [], ap, arith, length, map, sym}
 use Rattle.std.specs.Vec.Iter.{into_iter_items}
 use Rattle.pipe_plan.specs.Run.{StoreSeen}
-use Rattle.pipe_run.proofs.KeptTables.{none-left}
-use Rattle.pipe_run.proofs.Lists.{built-all}
+use Rattle.pipe_asked.proofs.Lists.{built-all, none-left}
 use Rattle.pipe_run.proofs.stores.stores_of.Goals as goal
 
 pub loop-partition-preserved : goal.loop-partition-preserved

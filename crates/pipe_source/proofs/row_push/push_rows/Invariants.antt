@@ -6,6 +6,7 @@ use Rattle.pipe_csv.proofs.HoldFacts.{RowsFit}
 use Rattle.pipe_scan.specs.Records.{records_at}
 use Rattle.pipe_scan.specs.Stops.{AreMarked}
 use Rattle.narrow_columns.specs.Wanted.{chosen}
+use Rattle.pipe_source.specs.Quoted.{AreAhead}
 use Rattle.pipe_source.proofs.RowsLeft.{RowsLeft}
 use Rattle.pipe_source.proofs.row_push.push_rows.Given as goal
 
@@ -15,6 +16,7 @@ invariant-loop-row l = record {
   done : List (List AnyValue);
   rows : RowsLeft 1 l.fields (read_rows 1 1 l.fields (take l.count (records_at l.text l.at))) l.row done (take (l.count - l.row) (records_at l.text l.stops.cursor));
   marked : AreMarked l.text l.stops;
+  ahead : AreAhead l.text l.quoted;
   room : length l.ends.items ≡ length l.fields;
   columns : l.columns.items ≡ chosen l.wanted (values_from 0 l.fields done);
   fit : RowsFit 0 l.fields done;

@@ -1,7 +1,7 @@
 use Rattle.std.proofs.Common.{[], List, ℕ}
 use Rattle.pipe_csv.specs.Written.{HasWritten}
 use Rattle.pipe_writers.specs.CsvWritten.{WroteLines}
-use Rattle.pipe_writers.specs.Rows.{frame_rows}
+use Rattle.pipe_lines.specs.Rows.{frame_rows}
 use Rattle.pipe_writers.proofs.csv_lines.write_rows.Given as goal
 
 -- the rows so far are written

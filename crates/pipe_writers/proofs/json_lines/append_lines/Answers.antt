@@ -1,6 +1,6 @@
 use Rattle.std.proofs.Common.{◌<◌, arith}
 use Rattle.pipe_writers.specs.JsonText.{json_line}
-use Rattle.pipe_writers.proofs.LineFacts.{goes_on}
+use Rattle.pipe_lines.proofs.LineFacts.{goes_on}
 use Rattle.pipe_writers.proofs.json_lines.append_lines.Goals as goal
 
 pub returns-then-most-len-clause-lines : goal.returns-then-most-len-clause-lines

@@ -1,8 +1,8 @@
 use Rattle.std.proofs.Common.{List, ℕ}
 use Rattle.pipe_writers.specs.JsonHeads.{AreHeads}
 use Rattle.pipe_writers.specs.JsonText.{json_line}
-use Rattle.pipe_writers.specs.LinesAdded.{GoesOn}
-use Rattle.pipe_writers.specs.Rows.{frame_rows}
+use Rattle.pipe_lines.specs.Lines.{GoesOn}
+use Rattle.pipe_lines.specs.Rows.{frame_rows}
 use Rattle.pipe_writers.proofs.json_lines.append_lines.Given as goal
 
 -- the lines so far are written

@@ -1,6 +1,6 @@
 use Rattle.std.proofs.Common.{◌≡◌}
 use Rattle.pipe_writers.specs.JsonHeads.{head_at}
-use Rattle.pipe_writers.specs.Rows.{names_of}
+use Rattle.pipe_lines.specs.Rows.{names_of}
 use Rattle.pipe_writers.proofs.JsonFacts.{head_made, heads_more}
 use Rattle.pipe_writers.proofs.json_lines.make_heads.Goals as goal
 

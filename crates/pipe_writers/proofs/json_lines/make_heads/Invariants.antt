@@ -1,6 +1,6 @@
 use Rattle.std.proofs.Common.{◌≡◌, map}
 use Rattle.pipe_writers.specs.JsonHeads.{heads_to}
-use Rattle.pipe_writers.specs.Rows.{names_of}
+use Rattle.pipe_lines.specs.Rows.{names_of}
 use Rattle.pipe_writers.proofs.json_lines.make_heads.Given as goal
 
 -- the heads so far are made

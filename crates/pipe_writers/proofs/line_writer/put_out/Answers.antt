@@ -1,6 +1,7 @@
 use Rattle.std.proofs.Common.{arith, ◌≡◌, ◌∙◌, ◌++◌, flat_map, take}
-use Rattle.pipe_writers.specs.Rows.{frame_rows}
-use Rattle.pipe_writers.proofs.LineFacts.{all_lines, first_front, first_piece, length-rows, next_piece, on_err, piece_front, sent_front}
+use Rattle.pipe_lines.specs.Rows.{frame_rows}
+use Rattle.pipe_lines.proofs.LineFacts.{all_lines, first_piece, length-rows, next_piece}
+use Rattle.pipe_writers.proofs.LineFacts.{first_front, on_err, piece_front, sent_front}
 use Rattle.pipe_writers.proofs.line_writer.put_out.Goals as goal
 
 pub returns-in_err-send-clause-front : goal.returns-in_err-send-clause-front

@@ -1,6 +1,6 @@
 use Rattle.std.proofs.Common.{◌≡◌, ◌++◌, ◌-◌, ◌≤◌, flat_map, is_some, take}
 use Rattle.std.specs.Io.KnownBytes.{Appends}
-use Rattle.pipe_writers.specs.Rows.{frame_rows}
+use Rattle.pipe_lines.specs.Rows.{frame_rows}
 use Rattle.pipe_writers.proofs.line_writer.put_out.Given as goal
 
 -- the lines of the rows up to the next were sent

@@ -1,15 +1,18 @@
-use Rattle.std.proofs.Common.{◌≡◌, ◌∙◌, arith, refl, rules, subst, sym, true}
+use Rattle.std.proofs.Common.{◌≡◌, ◌∙◌, ap, arith, refl, rules, subst, sym, true}
 use Rattle.std.proofs.lemmas.List.{length-map}
 use Rattle.pipe_aggs.specs.QueryTrees.{query_tree}
 use Rattle.narrow_query.specs.Names.{covers}
 use Rattle.pipe_io.specs.Tried.{TriedFront}
 use Rattle.pipe_io.proofs.TriedFacts.{front-none}
+use Rattle.pipe_model.specs.Output.{output_schema}
+use Rattle.pipe_run.specs.Setting.{Setting}
 use Rattle.pipe_words.specs.Plans.{plan_seen}
+use Rattle.pipe_writers.specs.TextLines.{lines_shape}
 use Rattle.pipe_plan.specs.Stores.{stores_seen}
 use Rattle.tool_words.specs.Asked.{files_named}
 use Rattle.tool_answer.specs.Headline.{AreFedInput}
 use Rattle.tool_answer.proofs.NarrowFacts.{fed-none, keeps-narrow, named-many, reader-is}
-use Rattle.tool_answer.proofs.RunFacts.{began-narrow, end-comes, err-at, fault-of-run, front-made, has-run, has-run-sound, input-fault, left-none, left-read, never-seen, ok-at, plan-fits, run-caused, run-front, run-sound}
+use Rattle.tool_answer.proofs.RunFacts.{began-narrow, end-comes, err-at, fault-of-run, front-made, has-text, has-text-sound, input-fault, left-none, left-read, lines-suit, never-seen, ok-at, plan-fits, run-caused, run-front, run-sound}
 use Rattle.tool_answer.proofs.run.run_question.Goals as goal
 
 pub begin_run-requires-clause-fits : goal.begin_run-requires-clause-fits
@@ -22,12 +25,12 @@ begin_run-requires-clause-each g c = λ lives bounds. omega (arith, c.requires.r
 
 pub begin_run-requires-clause-suited : goal.begin_run-requires-clause-suited
 begin_run-requires-clause-suited g c = λ lives bounds.
-    let n = c.in-Ok.narrowed in
+    let n = c.in-Ok.ready in
     keeps-narrow c.args.question.plan.limits.sink c.args.question.query n.query n.wanted.items c.in-Ok.ensures.covered c.in-Ok.ensures.query c.requires.suited
 
 pub reader_of-requires-clause-wanted : goal.reader_of-requires-clause-wanted
 reader_of-requires-clause-wanted g c =
-    let n = c.in-Ok.narrowed in
+    let n = c.in-Ok.ready in
     omega (arith, named-many c.args.question.query.arena c.args.question.query.schema n.schema n.wanted.items c.in-Ok.ensures.schema c.in-Ok.ensures.wanted)
 
 pub returns-in_default-clause-stopped : goal.returns-in_default-clause-stopped
@@ -44,7 +47,7 @@ pub returns-in_default-reader_of-clause-stopped : goal.returns-in_default-reader
 returns-in_default-reader_of-clause-stopped g c =
     let store = g.S.SpillStore in
     let q = c.args.question.query in
-    let n = c.in-Ok.narrowed in
+    let n = c.in-Ok.ready in
     let covered : covers n.wanted.items (query_tree q) ≡ true = c.in-Ok.ensures.covered in
     let began = began-narrow store.held store.told store.faults store.sure store.path (plan_seen c.args.question.plan) q n.query n.wanted.items c.args.stores.items c.in-Ok-begin_run.run' c.requires.made c.requires.count c.requires.paths c.in-Ok.ensures.query c.in-Ok-begin_run.ensures.setting in
     run-front (plan_seen c.args.question.plan) q n.wanted.items covered (stores_seen store.held store.told store.faults store.sure store.path c.args.stores.items) (stores_seen store.held store.told store.faults store.sure store.path c.into_stores.result.items) c.in-Ok-begin_run.run' began (g.I.InputFiles.told c.args.input.now) (left-none (plan_seen c.args.question.plan) q n.wanted.items (g.I.InputFiles.told c.args.input.now) c.in-Ok-begin_run.run' (stores_seen store.held store.told store.faults store.sure store.path c.into_stores.result.items) c.in-Ok-begin_run.ensures.chunks c.into_stores.ensures.back)
@@ -53,7 +56,7 @@ pub returns-in_default-reader_of-clause-in_memory : goal.returns-in_default-read
 returns-in_default-reader_of-clause-in_memory g c =
     let store = g.S.SpillStore in
     let q = c.args.question.query in
-    let n = c.in-Ok.narrowed in
+    let n = c.in-Ok.ready in
     let covered : covers n.wanted.items (query_tree q) ≡ true = c.in-Ok.ensures.covered in
     let began = began-narrow store.held store.told store.faults store.sure store.path (plan_seen c.args.question.plan) q n.query n.wanted.items c.args.stores.items c.in-Ok-begin_run.run' c.requires.made c.requires.count c.requires.paths c.in-Ok.ensures.query c.in-Ok-begin_run.ensures.setting in
     let never = never-seen store.held store.told store.faults store.sure store.path store.never_failed c.into_stores.result.items in
@@ -63,29 +66,29 @@ pub returns-in-Ok-ended-clause-answered : goal.returns-in-Ok-ended-clause-answer
 returns-in-Ok-ended-clause-answered g c =
     let store = g.S.SpillStore in
     let q = c.args.question.query in
-    let n = c.in-Ok.narrowed in
+    let n = c.in-Ok.ready in
     let covered : covers n.wanted.items (query_tree q) ≡ true = c.in-Ok.ensures.covered in
     let began = began-narrow store.held store.told store.faults store.sure store.path (plan_seen c.args.question.plan) q n.query n.wanted.items c.args.stores.items c.in-Ok-begin_run.run' c.requires.made c.requires.count c.requires.paths c.in-Ok.ensures.query c.in-Ok-begin_run.ensures.setting in
     let reader = reader-is (plan_seen c.args.question.plan) q n.wanted.items c.in-Ok-reader_of.reader n.schema c.in-Ok.ensures.schema c.in-Ok-reader_of.ensures.options c.in-Ok-reader_of.ensures.left in
-    has-run (plan_seen c.args.question.plan) q n.wanted.items covered (stores_seen store.held store.told store.faults store.sure store.path c.args.stores.items) (stores_seen store.held store.told store.faults store.sure store.path c.run_files-ended.result.1.items) c.in-Ok-begin_run.run' (g.I.InputFiles.told c.args.input.now) c.in-Ok-reader_of.reader c.in-Ok-ended.groups began reader (ok-at c.run_files-ended.result.0 c.in-Ok-ended.groups _ c.in-Ok-ended.is c.run_files-ended.ensures.answered)
+    has-text (plan_seen c.args.question.plan) q n.wanted.items covered (stores_seen store.held store.told store.faults store.sure store.path c.args.stores.items) (stores_seen store.held store.told store.faults store.sure store.path c.run_files-ended.result.1.items) c.in-Ok-begin_run.run' (g.I.InputFiles.told c.args.input.now) c.in-Ok-reader_of.reader (output_schema (query_tree n.query)) (lines_shape n.lines) n.head.items c.in-Ok-ended.groups began reader c.in-Ok.ensures.lines c.in-Ok.ensures.head (ok-at c.run_files-ended.result.0 c.in-Ok-ended.groups _ c.in-Ok-ended.is c.run_files-ended.ensures.answered)
 
 pub returns-in-Ok-ended-clause-in_memory : goal.returns-in-Ok-ended-clause-in_memory
 returns-in-Ok-ended-clause-in_memory g c =
     let store = g.S.SpillStore in
     let q = c.args.question.query in
-    let n = c.in-Ok.narrowed in
+    let n = c.in-Ok.ready in
     let covered : covers n.wanted.items (query_tree q) ≡ true = c.in-Ok.ensures.covered in
     let began = began-narrow store.held store.told store.faults store.sure store.path (plan_seen c.args.question.plan) q n.query n.wanted.items c.args.stores.items c.in-Ok-begin_run.run' c.requires.made c.requires.count c.requires.paths c.in-Ok.ensures.query c.in-Ok-begin_run.ensures.setting in
     let reader = reader-is (plan_seen c.args.question.plan) q n.wanted.items c.in-Ok-reader_of.reader n.schema c.in-Ok.ensures.schema c.in-Ok-reader_of.ensures.options c.in-Ok-reader_of.ensures.left in
     let never = never-seen store.held store.told store.faults store.sure store.path store.never_failed c.run_files-ended.result.1.items in
-    has-run-sound (plan_seen c.args.question.plan) (query_tree c.args.question.query) (g.I.InputFiles.told c.args.input.now) c.in-Ok-ended.groups (stores_seen store.held store.told store.faults store.sure store.path c.run_files-ended.result.1.items)
-    (has-run (plan_seen c.args.question.plan) q n.wanted.items covered (stores_seen store.held store.told store.faults store.sure store.path c.args.stores.items) (stores_seen store.held store.told store.faults store.sure store.path c.run_files-ended.result.1.items) c.in-Ok-begin_run.run' (g.I.InputFiles.told c.args.input.now) c.in-Ok-reader_of.reader c.in-Ok-ended.groups began reader (ok-at c.run_files-ended.result.0 c.in-Ok-ended.groups _ c.in-Ok-ended.is c.run_files-ended.ensures.answered)) never
+    has-text-sound (plan_seen c.args.question.plan) (query_tree c.args.question.query) (g.I.InputFiles.told c.args.input.now) c.in-Ok-ended.groups.journals (stores_seen store.held store.told store.faults store.sure store.path c.run_files-ended.result.1.items) _
+    (has-text (plan_seen c.args.question.plan) q n.wanted.items covered (stores_seen store.held store.told store.faults store.sure store.path c.args.stores.items) (stores_seen store.held store.told store.faults store.sure store.path c.run_files-ended.result.1.items) c.in-Ok-begin_run.run' (g.I.InputFiles.told c.args.input.now) c.in-Ok-reader_of.reader (output_schema (query_tree n.query)) (lines_shape n.lines) n.head.items c.in-Ok-ended.groups began reader c.in-Ok.ensures.lines c.in-Ok.ensures.head (ok-at c.run_files-ended.result.0 c.in-Ok-ended.groups _ c.in-Ok-ended.is c.run_files-ended.ensures.answered)) never
 
 pub returns-clause-cause : goal.returns-clause-cause
 returns-clause-cause g c =
     let store = g.S.SpillStore in
     let q = c.args.question.query in
-    let n = c.in-Ok.narrowed in
+    let n = c.in-Ok.ready in
     let covered : covers n.wanted.items (query_tree q) ≡ true = c.in-Ok.ensures.covered in
     let began = began-narrow store.held store.told store.faults store.sure store.path (plan_seen c.args.question.plan) q n.query n.wanted.items c.args.stores.items c.in-Ok-begin_run.run' c.requires.made c.requires.count c.requires.paths c.in-Ok.ensures.query c.in-Ok-begin_run.ensures.setting in
     let reader = reader-is (plan_seen c.args.question.plan) q n.wanted.items c.in-Ok-reader_of.reader n.schema c.in-Ok.ensures.schema c.in-Ok-reader_of.ensures.options c.in-Ok-reader_of.ensures.left in
@@ -108,7 +111,7 @@ pub returns-clause-stopped : goal.returns-clause-stopped
 returns-clause-stopped g c =
     let store = g.S.SpillStore in
     let q = c.args.question.query in
-    let n = c.in-Ok.narrowed in
+    let n = c.in-Ok.ready in
     let covered : covers n.wanted.items (query_tree q) ≡ true = c.in-Ok.ensures.covered in
     let began = began-narrow store.held store.told store.faults store.sure store.path (plan_seen c.args.question.plan) q n.query n.wanted.items c.args.stores.items c.in-Ok-begin_run.run' c.requires.made c.requires.count c.requires.paths c.in-Ok.ensures.query c.in-Ok-begin_run.ensures.setting in
     let reader = reader-is (plan_seen c.args.question.plan) q n.wanted.items c.in-Ok-reader_of.reader n.schema c.in-Ok.ensures.schema c.in-Ok-reader_of.ensures.options c.in-Ok-reader_of.ensures.left in
@@ -118,7 +121,7 @@ pub returns-clause-in_memory : goal.returns-clause-in_memory
 returns-clause-in_memory g c =
     let store = g.S.SpillStore in
     let q = c.args.question.query in
-    let n = c.in-Ok.narrowed in
+    let n = c.in-Ok.ready in
     let covered : covers n.wanted.items (query_tree q) ≡ true = c.in-Ok.ensures.covered in
     let began = began-narrow store.held store.told store.faults store.sure store.path (plan_seen c.args.question.plan) q n.query n.wanted.items c.args.stores.items c.in-Ok-begin_run.run' c.requires.made c.requires.count c.requires.paths c.in-Ok.ensures.query c.in-Ok-begin_run.ensures.setting in
     let reader = reader-is (plan_seen c.args.question.plan) q n.wanted.items c.in-Ok-reader_of.reader n.schema c.in-Ok.ensures.schema c.in-Ok-reader_of.ensures.options c.in-Ok-reader_of.ensures.left in
@@ -141,3 +144,9 @@ returns-in-Ok-ended-clause-tried g c =
 pub returns-clause-tried : goal.returns-clause-tried
 returns-clause-tried g c =
     subst (TriedFront (g.I.InputFiles.tried c.args.input.now) (g.I.InputFiles.tried c.run_files-ended.new.input)) c.in-Ok-reader_of.ensures.names c.run_files-ended.ensures.tried
+
+pub run_files-ended-requires-clause-lines : goal.run_files-ended-requires-clause-lines
+run_files-ended-requires-clause-lines g c = λ lives bounds.
+    let n = c.in-Ok.ready in
+    let x = c.in-Ok-begin_run.run'.setting in
+    lines-suit (plan_seen c.args.question.plan).format (lines_shape n.lines) n.query x c.in-Ok.ensures.lines (ap (λ (y : Setting). y.query) c.in-Ok-begin_run.ensures.setting)

@@ -1,5 +1,5 @@
 use Rattle.std.proofs.Common.{rules}
-use Rattle.pipe_writers.specs.Rows.{frame_rows}
+use Rattle.pipe_lines.specs.Rows.{frame_rows}
 use Rattle.pipe_files_sink.proofs.JoinedFacts.{completed-fits, on-err, put-front, put-written, still-awaits}
 use Rattle.pipe_files_sink.proofs.joined_writer.JoinedWriter.put.Goals as goal
 

@@ -1,7 +1,7 @@
 use Rattle.std.proofs.Common.{◌≡◌, ◌∙◌, ◌++◌, ◌∷◌, [], arith, rules, subst, ap, sym, append_assoc, List}
 use Rattle.std.proofs.lemmas.Grind.{common_steps}
 use Rattle.pipe_columns.specs.declared.data_chunk.DataChunk.{DataChunk}
-use Rattle.pipe_writers.specs.Rows.{Row, frame_rows}
+use Rattle.pipe_lines.specs.Rows.{Row, frame_rows}
 use Rattle.pipe_writers.specs.WriteOrder.{rows_of_chunks}
 use Rattle.pipe_files_sink.specs.Joined.{HasPut}
 use Rattle.pipe_files_sink.proofs.JoinedFacts.{front-more, on-err, rows-both, rows-more, waits-both}

@@ -1,6 +1,6 @@
 use Rattle.std.proofs.Common.{◌≡◌, ◌++◌, ◌≤◌, List, ℕ, is_some}
 use Rattle.pipe_files_sink.specs.Joined.{HasPut, waits_after}
-use Rattle.pipe_writers.specs.Rows.{Row}
+use Rattle.pipe_lines.specs.Rows.{Row}
 use Rattle.pipe_writers.specs.WriteOrder.{rows_of_chunks}
 use Rattle.pipe_writers.specs.Writers.{IsOpen}
 use Rattle.pipe_files_sink.proofs.joined_writer.JoinedWriter.put_all.Given as goal

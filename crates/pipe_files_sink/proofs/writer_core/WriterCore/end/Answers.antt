@@ -1,5 +1,5 @@
 use Rattle.std.proofs.Common.{◌++◌, List, subst}
-use Rattle.pipe_writers.specs.Rows.{Row}
+use Rattle.pipe_lines.specs.Rows.{Row}
 use Rattle.pipe_writers.specs.WriteOrder.{rows_of_chunks, written_piece}
 use Rattle.pipe_files_sink.specs.Core.{full_order}
 use Rattle.pipe_files_sink.specs.JoinedState.{HasPutFront}

@@ -1,4 +1,4 @@
-use Rattle.pipe_writers.specs.Rows.{frame_rows}
+use Rattle.pipe_lines.specs.Rows.{frame_rows}
 use Rattle.pipe_writers.proofs.WriterFacts.{batch_stands}
 use Rattle.pipe_writers.proofs.line_writer.LineWriterSinkWriter._write_batch.Goals as goal
 

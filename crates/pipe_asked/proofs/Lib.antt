@@ -1,0 +1,12 @@
+pub mod Lists
+pub mod Slicing
+pub mod SourceFacts
+pub mod ChunkFacts
+pub mod Joining
+pub mod Asking
+pub mod Apart
+pub mod ByPlace
+pub mod Wholes
+pub mod SideBySide
+pub mod Sourcing
+pub mod Joined

@@ -1,0 +1,123 @@
+use Rattle.std.proofs.Common.{◌∙◌, ◌<◌, arith, sym, subst, length, slice_index_or, slice_set, ◌+◌, ◌++◌, List}
+use Rattle.std.proofs.lemmas.List.{get_or_default}
+use Rattle.pipe_aggs.specs.QueryTrees.{query_tree}
+use Rattle.pipe_model.specs.Partitions.{groups_in}
+use Rattle.pipe_groups.specs.QueryRows.{ArePlacedRows}
+use Rattle.pipe_spill.specs.declared.spill_row.SpillRow.{SpillRow}
+use Rattle.pipe_global.specs.Finishing.{CanFinish, GivesOwnPlaced, GivesPlaced, HasNoFault, IsCause, IsLeftOf, IsRestOf, KeepsRest, own_rows, StandFor, StandTogether}
+use Rattle.pipe_global.specs.Partition.{PartitionSeen}
+use Rattle.pipe_asked.specs.Left.{CountOn}
+use Rattle.pipe_asked.specs.Given.{HasRows, KeepsSource, SourceSeen}
+use Rattle.pipe_asked.specs.Sources.{IsPlacedFrame}
+use Rattle.pipe_asked.proofs.ChunkFacts.{given-placed, own-placed}
+use Rattle.pipe_asked.proofs.SourceFacts.{asked, calm-asked, given-rows, given-source, keeps-asked, refused-cause, refused-rows, refused-source}
+use Rattle.pipe_asked.proofs.asked.AskedPartitions.next_placed.Goals as goal
+
+pub invariant_of-self : goal.invariant_of-self
+invariant_of-self g c =
+    let s : SourceSeen = record { query = c.self.inside.query.now; partitions = c.self.inside.partitions.items; local = c.self.inside.local; slice = c.self.inside.slice; given = c.self.inside.given } in
+    let y = c.finish_placed.new.self in
+    let lt = subst (λ (v : SourceSeen). v.given < length v.partitions) (sym c.self.view_is) c.requires.left in
+    let at = c.index_mut-partition.ensures.value ∙ get_or_default s.partitions s.given c.index_mut-partition.result.now y lt in
+    let kept = subst (λ (x : PartitionSeen). KeepsRest x y) at c.in-Err.ensures.kept in
+    refused-source s y c.finish_placed.new.local c.self.inside.slice c.self.invariant lt kept c.in-Err.ensures.again (subst (λ (x : PartitionSeen). IsLeftOf x s.local c.finish_placed.new.local) at c.in-Err.ensures.left)
+
+pub returns-in-Err-clause-refused : goal.returns-in-Err-clause-refused
+returns-in-Err-clause-refused g c =
+    let s : SourceSeen = record { query = c.self.inside.query.now; partitions = c.self.inside.partitions.items; local = c.self.inside.local; slice = c.self.inside.slice; given = c.self.inside.given } in
+    let y = c.finish_placed.new.self in
+    let lt = subst (λ (v : SourceSeen). v.given < length v.partitions) (sym c.self.view_is) c.requires.left in
+    let at = c.index_mut-partition.ensures.value ∙ get_or_default s.partitions s.given c.index_mut-partition.result.now y lt in
+    let kept = subst (λ (x : PartitionSeen). KeepsRest x y) at c.in-Err.ensures.kept in
+    subst (λ (v : SourceSeen). KeepsSource v (asked s y c.finish_placed.new.local c.self.inside.slice s.given) v.given) c.self.view_is (keeps-asked s y c.finish_placed.new.local c.self.inside.slice s.given lt kept)
+
+pub returns-in-Err-clause-stands : goal.returns-in-Err-clause-stands
+returns-in-Err-clause-stands g c =
+    let s : SourceSeen = record { query = c.self.inside.query.now; partitions = c.self.inside.partitions.items; local = c.self.inside.local; slice = c.self.inside.slice; given = c.self.inside.given } in
+    let y = c.finish_placed.new.self in
+    let lt = subst (λ (v : SourceSeen). v.given < length v.partitions) (sym c.self.view_is) c.requires.left in
+    let at = c.index_mut-partition.ensures.value ∙ get_or_default s.partitions s.given c.index_mut-partition.result.now y lt in
+    let kept = subst (λ (x : PartitionSeen). KeepsRest x y) at c.in-Err.ensures.kept in
+    λ rs rows. refused-rows s y c.finish_placed.new.local c.self.inside.slice c.self.invariant lt kept rs (subst (HasRows rs) (sym c.self.view_is) rows) (subst (λ (x : PartitionSeen). StandTogether x y s.local c.finish_placed.new.local) at c.in-Err.ensures.together)
+
+pub returns-in-Err-clause-cause : goal.returns-in-Err-clause-cause
+returns-in-Err-clause-cause g c =
+    let s : SourceSeen = record { query = c.self.inside.query.now; partitions = c.self.inside.partitions.items; local = c.self.inside.local; slice = c.self.inside.slice; given = c.self.inside.given } in
+    let y = c.finish_placed.new.self in
+    let lt = subst (λ (v : SourceSeen). v.given < length v.partitions) (sym c.self.view_is) c.requires.left in
+    let at = c.index_mut-partition.ensures.value ∙ get_or_default s.partitions s.given c.index_mut-partition.result.now y lt in
+    let kept = subst (λ (x : PartitionSeen). KeepsRest x y) at c.in-Err.ensures.kept in
+    λ d. subst (λ (v : SourceSeen). IsCause (slice_index_or v.partitions v.given d) (slice_index_or (slice_set s.partitions s.given y) v.given d) c.in-Err.refusal) c.self.view_is
+    (refused-cause s y d c.in-Err.refusal lt (subst (λ (x : PartitionSeen). IsCause x y c.in-Err.refusal) at c.in-Err.ensures.cause))
+
+pub invariant_of-self-2 : goal.invariant_of-self-2
+invariant_of-self-2 g c =
+    let s : SourceSeen = record { query = c.self.inside.query.now; partitions = c.self.inside.partitions.items; local = c.self.inside.local; slice = c.self.inside.slice; given = c.self.inside.given } in
+    let y = c.finish_placed.new.self in
+    let lt = subst (λ (v : SourceSeen). v.given < length v.partitions) (sym c.self.view_is) c.requires.left in
+    let at = c.index_mut-partition.ensures.value ∙ get_or_default s.partitions s.given c.index_mut-partition.result.now y lt in
+    let kept = subst (λ (x : PartitionSeen). KeepsRest x y) at c.in-Ok.ensures.kept in
+    given-source s y c.finish_placed.new.local c.self.inside.slice c.self.invariant lt kept (subst (λ (x : PartitionSeen). IsRestOf x s.local c.finish_placed.new.local) at c.in-Ok.ensures.rest)
+
+pub returns-clause-kept : goal.returns-clause-kept
+returns-clause-kept g c =
+    let s : SourceSeen = record { query = c.self.inside.query.now; partitions = c.self.inside.partitions.items; local = c.self.inside.local; slice = c.self.inside.slice; given = c.self.inside.given } in
+    let y = c.finish_placed.new.self in
+    let lt = subst (λ (v : SourceSeen). v.given < length v.partitions) (sym c.self.view_is) c.requires.left in
+    let at = c.index_mut-partition.ensures.value ∙ get_or_default s.partitions s.given c.index_mut-partition.result.now y lt in
+    let kept = subst (λ (x : PartitionSeen). KeepsRest x y) at c.in-Ok.ensures.kept in
+    subst (λ (v : SourceSeen). KeepsSource v (asked s y c.finish_placed.new.local c.self.inside.slice (s.given + 1)) (v.given + 1)) c.self.view_is (keeps-asked s y c.finish_placed.new.local c.self.inside.slice (s.given + 1) lt kept)
+
+pub returns-clause-stands : goal.returns-clause-stands
+returns-clause-stands g c =
+    let s : SourceSeen = record { query = c.self.inside.query.now; partitions = c.self.inside.partitions.items; local = c.self.inside.local; slice = c.self.inside.slice; given = c.self.inside.given } in
+    let y = c.finish_placed.new.self in
+    let lt = subst (λ (v : SourceSeen). v.given < length v.partitions) (sym c.self.view_is) c.requires.left in
+    let at = c.index_mut-partition.ensures.value ∙ get_or_default s.partitions s.given c.index_mut-partition.result.now y lt in
+    let kept = subst (λ (x : PartitionSeen). KeepsRest x y) at c.in-Ok.ensures.kept in
+    λ rs rows. given-rows s y c.finish_placed.new.local c.self.inside.slice c.self.invariant lt kept rs (subst (HasRows rs) (sym c.self.view_is) rows) (subst (λ (x : PartitionSeen). IsRestOf x s.local c.finish_placed.new.local) at c.in-Ok.ensures.rest)
+
+pub returns-clause-placed : goal.returns-clause-placed
+returns-clause-placed g c =
+    let s : SourceSeen = record { query = c.self.inside.query.now; partitions = c.self.inside.partitions.items; local = c.self.inside.local; slice = c.self.inside.slice; given = c.self.inside.given } in
+    let y = c.finish_placed.new.self in
+    let lt = subst (λ (v : SourceSeen). v.given < length v.partitions) (sym c.self.view_is) c.requires.left in
+    let at = c.index_mut-partition.ensures.value ∙ get_or_default s.partitions s.given c.index_mut-partition.result.now y lt in
+    let kept = subst (λ (x : PartitionSeen). KeepsRest x y) at c.in-Ok.ensures.kept in
+    λ rs rows. subst (λ (v : SourceSeen). ArePlacedRows (query_tree v.query) rs (groups_in (length v.partitions) (query_tree v.query) v.given rs) c.in-Ok.groups.frame c.in-Ok.groups.firsts) c.self.view_is
+    (given-placed s y c.finish_placed.new.local c.self.inside.slice c.self.invariant lt kept rs (subst (HasRows rs) (sym c.self.view_is) rows) c.in-Ok.groups
+    (subst (λ (x : PartitionSeen). (taken locals : List SpillRow) → StandFor x s.local taken locals → GivesPlaced x.table.shape (taken ++ own_rows x locals) c.in-Ok.groups.frame c.in-Ok.groups.firsts) at c.in-Ok.ensures.placed))
+
+pub returns-clause-frame : goal.returns-clause-frame
+returns-clause-frame g c =
+    let s : SourceSeen = record { query = c.self.inside.query.now; partitions = c.self.inside.partitions.items; local = c.self.inside.local; slice = c.self.inside.slice; given = c.self.inside.given } in
+    let y = c.finish_placed.new.self in
+    let lt = subst (λ (v : SourceSeen). v.given < length v.partitions) (sym c.self.view_is) c.requires.left in
+    let at = c.index_mut-partition.ensures.value ∙ get_or_default s.partitions s.given c.index_mut-partition.result.now y lt in
+    let kept = subst (λ (x : PartitionSeen). KeepsRest x y) at c.in-Ok.ensures.kept in
+    let shape = c.self.invariant.each s.given y lt in
+    subst (λ (v : SourceSeen). IsPlacedFrame (query_tree v.query) c.in-Ok.groups) c.self.view_is
+    (own-placed (query_tree s.query) (slice_index_or s.partitions s.given y) c.in-Ok.groups shape.shape
+    (subst (λ (x : PartitionSeen). GivesOwnPlaced x c.in-Ok.groups.frame c.in-Ok.groups.firsts) at c.in-Ok.ensures.partition))
+
+pub index_mut-partition-requires : goal.index_mut-partition-requires
+index_mut-partition-requires g c =
+    let lt = subst (λ (v : SourceSeen). v.given < length v.partitions) (sym c.self.view_is) c.requires.left in
+    omega (arith, lt, c.self.inside.partitions.ok.0)
+
+pub finish_placed-requires : goal.finish_placed-requires
+finish_placed-requires g c =
+    let s : SourceSeen = record { query = c.self.inside.query.now; partitions = c.self.inside.partitions.items; local = c.self.inside.local; slice = c.self.inside.slice; given = c.self.inside.given } in
+    let lt = subst (λ (v : SourceSeen). v.given < length v.partitions) (sym c.self.view_is) c.requires.left in
+    let y = c.index_mut-partition.result.now in
+    let at = c.index_mut-partition.ensures.value ∙ get_or_default s.partitions s.given y y lt in
+    subst (λ (x : PartitionSeen). CanFinish x s.local) (sym at) ((c.self.invariant.each s.given y lt).can (omega arith))
+
+pub returns-clause-calm : goal.returns-clause-calm
+returns-clause-calm g c =
+    let s : SourceSeen = record { query = c.self.inside.query.now; partitions = c.self.inside.partitions.items; local = c.self.inside.local; slice = c.self.inside.slice; given = c.self.inside.given } in
+    let y = c.finish_placed.new.self in
+    let lt = subst (λ (v : SourceSeen). v.given < length v.partitions) (sym c.self.view_is) c.requires.left in
+    let at = c.index_mut-partition.ensures.value ∙ get_or_default s.partitions s.given c.index_mut-partition.result.now y lt in
+    let calm = subst (λ (x : PartitionSeen). HasNoFault x y) at c.in-Ok.ensures.calm in
+    subst (λ (v : SourceSeen). CountOn v.partitions (slice_set s.partitions s.given y)) c.self.view_is (calm-asked s y lt calm)

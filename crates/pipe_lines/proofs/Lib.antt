@@ -1,0 +1,2 @@
+pub mod StackedRows
+pub mod LineFacts

@@ -1,5 +1,0 @@
-use Rattle.pipe_run.proofs.Joining.{joined-chunks}
-use Rattle.pipe_run.proofs.laws.what_a_group_source_gives.Goals as goal
-
-pub returns : goal.returns
-returns c = λ q rs partitions some. joined-chunks q rs partitions some

@@ -1,0 +1,4 @@
+mod Views
+mod History
+mod Steps
+mod PassSteps

@@ -1,0 +1,4 @@
+pub mod Arrivals
+pub mod Sent
+pub mod Carries
+pub mod Sender
