@@ -16,3 +16,12 @@ pub mod GoodFacts
 pub mod GivenRows
 pub mod GivenStates
 pub mod GivenSaved
+pub mod Appending
+pub mod Apart
+pub mod Ascent
+pub mod Forms
+pub mod SumHalves
+pub mod Saved
+pub mod Fronts
+pub mod Rows
+pub mod Texts

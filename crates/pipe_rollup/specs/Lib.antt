@@ -4,5 +4,7 @@ pub mod Regrouped
 pub mod StateText
 pub mod Parts
 pub mod Fair
+pub mod Files
+pub mod Forms
 pub mod Together
 pub mod Worked

@@ -3,8 +3,21 @@
 #![tactic(auto)]
 
 mod fair_laws;
+mod fairness;
+mod halves;
 mod laws;
+mod reading;
+mod restored;
+mod results;
+mod saved_types;
+mod state_error;
+mod state_file;
 mod state_row;
 mod worked;
+mod writing;
 
+pub use reading::read_state;
+pub use state_error::StateError;
+pub use state_file::StateFile;
 pub use state_row::StateRow;
+pub use writing::write_state;

@@ -10,10 +10,10 @@ use crate::runs::output_of;
 use pipe_io::{MemoryOutput, Output, OutputError};
 use std::alloc::{AllocError, Global};
 
-/// How many bytes it takes.
-pub(crate) const PIECE: usize = 5;
+/// How many bytes it takes: as many as the line of names has, which is written by calls of its own.
+pub(crate) const PIECE: usize = 6;
 
-/// An output that takes five bytes at a time.
+/// An output that takes six bytes at a time.
 #[derive(Drop)]
 pub(crate) struct Small(pub(crate) MemoryOutput);
 
