@@ -12,10 +12,11 @@ use crate::hash_agg::AggInput;
 use crate::query::Query;
 use pipe_columns::{DataType, Schema};
 use pipe_running::AggregateFunction;
+use std::hash::RandomState;
 use std::marker::Model;
 
-/// A query without fault, with its output columns and types made once. Contracts see it as the
-/// query.
+/// A query without fault, with its output columns and types made once, and with the keys under which
+/// tables of its groups hash where values were chosen against the hash. Contracts see it as the query.
 #[derive(Drop)]
 pub struct CheckedQuery<'a> {
     query: &'a Query,
@@ -24,6 +25,7 @@ pub struct CheckedQuery<'a> {
     input_types: Vec<DataType>,
     inputs: Vec<AggInput>,
     prototypes: Vec<AggregateFunction>,
+    hash_keys: Option<RandomState>,
 }
 
 impl<'a> Model for CheckedQuery<'a> {
@@ -60,7 +62,21 @@ impl<'a> CheckedQuery<'a> {
             input_types,
             inputs,
             prototypes,
+            hash_keys: None,
         }
+    }
+
+    /// Has tables of its groups hash under these keys where the values of many rows have one hash.
+    /// Until then they do under fixed keys, so that a run can be repeated. No answer depends on them.
+    pub fn hash_under(&mut self, keys: RandomState)
+        ensures { self.new ≡ self.old }
+    {
+        self.hash_keys = Some(keys);
+    }
+
+    /// The keys under which tables hash, none where they are the fixed ones.
+    pub fn hash_keys(&self) -> Option<RandomState> {
+        self.hash_keys
     }
 
     /// The query itself.
