@@ -122,6 +122,13 @@ impl<W: SinkWriter> GuardedCore<W> {
         }
     }
 
+    /// Whether the writing has ended.
+    pub fn ended(&self) -> bool
+        ensures { result ≡ self.now.ended }
+    {
+        self.ended
+    }
+
     /// How the writing went so far.
     pub fn result(&self) -> Result<(), WriteError>
         ensures ok { (result ≡ Ok tt) ↔ (self.now.fault ≡ None) }
