@@ -96,16 +96,16 @@ module _ (Marks : List DataType → List ℕ → ℕ → Type 0) (CanHide : List
   -- where keys hide, each group of a key has its secret hash
   pub hidden-lead : (hides : Bool) → hides ≡ true → AreLed Marks CanHide hash_keys hides types (group_keys gs) marks leads
       → (key : List ℕ) (lead : ℕ) → lead ≡ secret_hash_of hash_keys key → HaveLead gs leads key lead
-  hidden-lead false no h key lead is = absurd (cc)
-  hidden-lead true yes h key lead is = λ i l e.
+  hidden-lead false hidden h key lead is = absurd (cc)
+  hidden-lead true hidden h key lead is = λ i l e.
       ap (λ (ls : List ℕ). get_or ls i 0) h.led
       ∙ get_or-map (secret_hash_of hash_keys) (group_keys gs) i [] 0 (omega (arith, l, length-map gs (λ (g : Group). g.key)))
       ∙ ap (secret_hash_of hash_keys) (get_or-map (λ (g : Group). g.key) gs i no_group [] l ∙ e) ∙ sym is
 
-  module _ (hides : Bool) (no : hides ≡ false) (led : AreLed Marks CanHide hash_keys hides types (group_keys gs) marks leads) where
+  module _ (hides : Bool) (plain : hides ≡ false) (led : AreLed Marks CanHide hash_keys hides types (group_keys gs) marks leads) where
     -- where they don't, leads are marks
     pub plain-leads : leads ≡ marks
-    plain-leads = led.led ∙ ap (λ (b : Bool). leads_of b hash_keys (group_keys gs) marks) no
+    plain-leads = led.led ∙ ap (λ (b : Bool). leads_of b hash_keys (group_keys gs) marks) plain
 
     -- each group of a key has its mark, which is the one
     pub plain-lead : ((code : List ℕ) (a b : ℕ) → Marks types code a → Marks types code b → a ≡ b) → (key : List ℕ) (mark : ℕ) → Marks types key mark

@@ -72,7 +72,7 @@ module _ (Marks : List DataType → List ℕ → ℕ → Type 0) (CanHide : List
       record {
         marked = rw (longer, keys, is.1) (marked-behind Marks old.key_types (group_keys gs) g.key marks mark h.marked own);
         led = led ∙ rw (longer, keys, leading, h.led) (sym (leads-behind hides hash_keys (group_keys gs) g.key marks mark));
-        can = λ yes. rw is.1 (h.can yes);
+        can = λ hidden. rw is.1 (h.can hidden);
       }
 
   -- no groups have no marks and no leads
@@ -95,5 +95,5 @@ module _ (Marks : List DataType → List ℕ → ℕ → Type 0) (CanHide : List
   led-hidden types keys marks leads more further same secret can h = record {
     marked = rw same h.marked;
     led = secret;
-    can = λ yes. can;
+    can = λ hidden. can;
   }

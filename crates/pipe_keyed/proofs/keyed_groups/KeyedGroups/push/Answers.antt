@@ -14,4 +14,7 @@ invariant_of-self-2 g c =
     (further ∙ ap (λ (ls : List ℕ). ls ++ c.lead_of-lead.result ∷ []) c.reserve.ensures.leads)
 
 pub returns-clause-room : goal.returns-clause-room
-returns-clause-room g c = λ g b h. ?
+returns-clause-room g c = λ g b h.
+    let was = subst (λ (t : Seen). Covers t (g + 1) (b + length c.args.key.now)) (sym c.self.view_is) h in
+    let left : Covers c.push.new.self g b = c.in_ok-index.ensures.room g b (omega (arith, was.0), was.1, was.2) in
+    c.hide_where_deep.ensures.room g b (omega (arith, left.0, was.0, c.reserve.ensures.room, c.push-2.ensures.room), left.1, left.2)
