@@ -12,3 +12,4 @@ pub mod MarkFacts
 pub mod PartPlaceFacts
 pub mod GaveFacts
 mod KeptFacts
+mod SecretFacts

@@ -4,6 +4,7 @@ use Rattle.pipe_chains.specs.Hash.{hash_of}
 use Rattle.pipe_columns.specs.declared.any_value.AnyValue.{AnyValue}
 use Rattle.pipe_columns.specs.declared.any_value.AnyValue.TheVariants as av
 use Rattle.pipe_columns.specs.declared.data_type.DataType.{DataType}
+use Rattle.pipe_columns.specs.declared.data_type.DataType.TheVariants as dt
 use Rattle.pipe_columns.specs.Key.{code}
 use Rattle.pipe_spill.specs.KeyTypes.{AreOfTypes}
 pub use Rattle.pipe_sinks.specs.SoleKeys.{is_wide, IsSole}
@@ -46,6 +47,10 @@ pub record IsSought (types : List DataType) (value : AnyValue) (mark : ℕ) : Ty
   pub sole : IsSole types
   pub fit : IsSoleValue types value
   pub mark_is : mark ≡ mark_of value
+
+-- the one key is one of texts
+abbrev pub IsTextKey : List DataType → Type 0
+IsTextKey types = types ≡ dt.String ∷ []
 
 -- whether bytes begin with one
 abbrev pub begins : ℕ → List ℕ → Bool

@@ -1,11 +1,13 @@
 //! Keys that are marked by their one value.
 
 ghost use Rattle.pipe_sinks.specs.MarkLaws.{mark_once, sought_marked};
-ghost use Rattle.pipe_sinks.specs.Marks.{IsMarkedKey, IsSought, sole_code};
+ghost use Rattle.pipe_sinks.specs.Marks.{IsMarkedKey, IsSought, IsTextKey, sole_code};
 
+use crate::secret_lead::secret_lead;
 use crate::sole_mark::is_code_of;
-use pipe_columns::AnyValue;
+use pipe_columns::{AnyValue, DataType};
 use pipe_keyed::{Marking, Sought};
+use std::hash::RandomState;
 
 /// The mark of a key is that of its one value: of a number the number itself, of a text a hash.
 pub(crate) struct ByValue;
@@ -14,6 +16,13 @@ impl Marking for ByValue {
     ghost marks = { IsMarkedKey };
 
     ghost once = { mark_once };
+
+    ghost can_hide = { IsTextKey };
+
+    /// No two numbers have one mark, so only texts ever hide.
+    fn can_hide(types: &[DataType]) -> bool {
+        types == [DataType::String].as_slice()
+    }
 }
 
 /// A value is never encoded to be looked for.
@@ -25,6 +34,10 @@ impl Sought<ByValue> for AnyValue {
     #[inline]
     fn is_code(&self, code: &[u8]) -> bool {
         is_code_of(code, self)
+    }
+
+    fn secret_lead(&self, hash_keys: Option<RandomState>) -> u64 {
+        secret_lead(self, hash_keys)
     }
 
     ghost marked = { sought_marked };

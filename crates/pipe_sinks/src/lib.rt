@@ -11,6 +11,7 @@ mod laws;
 mod paused;
 mod run_finish;
 mod run_sink;
+mod secret_lead;
 mod sink_run;
 mod slices;
 mod sole_key;

@@ -8,7 +8,7 @@ use std::test::Fail;
 fn four_entries(alloc: Global) -> Result<Chains, AllocError> {
     let mut chains = Chains::new(alloc);
     for mark in &[7, 8, 7, 7] {
-        chains.push(*mark)?;
+        chains.push(*mark, *mark)?;
     }
     Ok(chains)
 }
