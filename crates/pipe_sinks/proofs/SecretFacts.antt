@@ -1,5 +1,5 @@
 -- Codes of values of the one key, and their secret hashes.
-use Rattle.std.proofs.Common.{◌≡◌, ◌≢◌, ◌∙◌, ◌++◌, ◌+◌, ◌<◌, ◌≤◌, ◌==◌, ℕ, zero, suc, ℤ, false, List, [], ◌∷◌, Option, drop, get_or, length, refl, sym, ap, arith, subst}
+use Rattle.std.proofs.Common.{◌≡◌, ◌≢◌, ◌∙◌, ◌+◌, ◌<◌, ◌==◌, ℕ, zero, suc, false, List, [], ◌∷◌, Option, drop, get_or, length, refl, sym, ap}
 use Rattle.std.specs.Hash.DefaultHasher.{finish, write}
 use Rattle.std.specs.List.{list_any}
 use Rattle.std.specs.declared.hash.DefaultHasher.{DefaultHasher}
@@ -10,11 +10,10 @@ use Rattle.pipe_chains.specs.Hash.{secret_hash_of, secret_start}
 use Rattle.pipe_chains.proofs.HashFacts.{write-pieces}
 use Rattle.pipe_columns.specs.declared.any_value.AnyValue.TheVariants as av
 use Rattle.pipe_columns.specs.declared.data_type.DataType.{DataType}
-use Rattle.pipe_columns.specs.declared.data_type.DataType.TheVariants as dt
 use Rattle.pipe_columns.specs.Key.{text_code}
 use Rattle.pipe_spill.proofs.CodeOrder.{text_code-more}
 use Rattle.pipe_spill.proofs.Escapes.{plain}
-use Rattle.pipe_sinks.specs.Marks.{IsSoleValue, IsTextKey, sole_code}
+use Rattle.pipe_sinks.specs.Marks.{IsTextKey, sole_code}
 
 -- a zero byte is written with a one behind it
 pub wrote-zero : (s t : DefaultHasher) (b : ℕ) (rest : List ℕ) → b ≡ 0 → t ≡ write s (0 ∷ 1 ∷ []) → write t (text_code rest) ≡ write s (text_code (b ∷ rest))
@@ -22,13 +21,10 @@ wrote-zero s t b rest z e =
     ap (λ (h : DefaultHasher). write h (text_code rest)) e ∙ sym (write-pieces s (0 ∷ 1 ∷ []) (text_code rest)) ∙ ap (λ (n : ℕ). write s (text_code (n ∷ rest))) (sym z)
 
 -- another byte as it is
-wrote : (s t : DefaultHasher) (b : ℕ) (rest : List ℕ) → b ≢ 0 → t ≡ write s (b ∷ []) → write t (text_code rest) ≡ write s (text_code (b ∷ rest))
-wrote s t zero rest h e = absurd (h refl)
-wrote s t (suc b) rest h e =
-    ap (λ (h : DefaultHasher). write h (text_code rest)) e ∙ sym (write-pieces s (suc b ∷ []) (text_code rest)) ∙ ap (write s) (sym (text_code-more b rest))
-
 pub wrote-byte : (s t : DefaultHasher) (b : ℕ) (rest : List ℕ) → b ≢ 0 → t ≡ write s (b ∷ []) → write t (text_code rest) ≡ write s (text_code (b ∷ rest))
-wrote-byte = wrote
+wrote-byte s t zero rest h e = absurd (h refl)
+wrote-byte s t (suc b) rest h e =
+    ap (λ (h : DefaultHasher). write h (text_code rest)) e ∙ sym (write-pieces s (suc b ∷ []) (text_code rest)) ∙ ap (write s) (sym (text_code-more b rest))
 
 module _ (old : DefaultHasher) (text : List ℕ) where
   -- the next byte
@@ -61,6 +57,3 @@ module _ (types : List DataType) (one : IsTextKey types) where
 
   pub text-secret : (s : List ℕ) → 1 ∷ text_code s ≡ sole_code types (av.Text s)
   text-secret s = sym (append-nil (1 ∷ text_code s)) ∙ ap (λ (ts : List DataType). sole_code ts (av.Text s)) (sym one)
-
-  pub no-number : (n : ℤ) → IsSoleValue types (av.Int n) → ⊥
-  no-number n fit = absurd (let h : IsSoleValue (dt.String ∷ []) (av.Int n) = subst (λ (ts : List DataType). IsSoleValue ts (av.Int n)) one fit in cc)

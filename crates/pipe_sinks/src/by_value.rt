@@ -21,7 +21,10 @@ impl Marking for ByValue {
 
     /// No two numbers have one mark, so only texts ever hide.
     fn can_hide(types: &[DataType]) -> bool {
-        types == [DataType::String].as_slice()
+        match types {
+            [DataType::String] => true,
+            _ => false,
+        }
     }
 }
 
