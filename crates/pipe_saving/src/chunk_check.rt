@@ -1,6 +1,6 @@
 //! Whether chunks can be saved.
 
-ghost use Rattle.std.specs.Prelude.{◌≡◌, ◌≤◌, ◌<◌, ◌^◌, ℕ, Err, IfNone, IfSome, IsErrOf, OnOk};
+ghost use Rattle.std.specs.Prelude.{◌≡◌, ◌≢◌, ◌≤◌, ◌<◌, ◌^◌, ℕ, Err, IfNone, IfSome, IsErrOf, OnOk};
 ghost use Rattle.pipe_model.specs.Rows.{total_height};
 ghost use Rattle.pipe_saving.specs.Refusals.{AllFit, AreTooLarge, CanBeSaved, IsFirstMisfit};
 ghost use Rattle.pipe_saving.specs.declared.save_error.SaveError.TheVariants as fault;

@@ -1,6 +1,6 @@
 //! State rows out of lists of values.
 
-ghost use Rattle.std.specs.Prelude.{◌≡◌, ◌+◌, IfOk, drop, length, map};
+ghost use Rattle.std.specs.Prelude.{◌≡◌, ◌+◌, IfOk, OnOk, drop, length, map};
 ghost use Rattle.std.specs.List.{range_with_len};
 ghost use Rattle.pipe_saving.specs.Lists.{row_in, values_in};
 
@@ -24,7 +24,8 @@ pub(crate) fn lists_of(alloc: Global, columns: Vec<Column>) -> Result<Vec<Values
 /// Takes the values at a number out of lists, one of each.
 fn take_values(alloc: Global, lists: &mut [Values], number: usize) -> Result<Values, AllocError>
     ensures values { IfOk result (λ v. v ≡ values_in number lists.old) }
-    ensures rest { map (drop (number + 1)) lists.new ≡ map (drop (number + 1)) lists.old }
+    ensures rest { OnOk result
+        (map (drop (number + 1)) lists.new ≡ map (drop (number + 1)) lists.old) }
 {
     let mut values = Vec::with_capacity(alloc, lists.len())?;
     for i in 0..lists.len() {
@@ -36,7 +37,8 @@ fn take_values(alloc: Global, lists: &mut [Values], number: usize) -> Result<Val
 /// The same. Few of them take no memory.
 fn take_few(alloc: Global, lists: &mut [Values], number: usize) -> Result<Values, AllocError>
     ensures values { IfOk result (λ v. v ≡ values_in number lists.old) }
-    ensures rest { map (drop (number + 1)) lists.new ≡ map (drop (number + 1)) lists.old }
+    ensures rest { OnOk result
+        (map (drop (number + 1)) lists.new ≡ map (drop (number + 1)) lists.old) }
 {
     match lists.len() {
         1 => Ok(Values::one(lists[0].take_out(number))),
@@ -64,14 +66,14 @@ pub(crate) fn state_rows(
     let mut rows = Vec::with_capacity(alloc, firsts.len())?;
     for number in 0..firsts.len() {
         let key = take_few(alloc, keys, number)?;
-        let results = take_few(alloc, results, number)?;
+        let given = take_few(alloc, results, number)?;
         let Extent { last, rows: count } = extents[number];
         rows.push(StateRow {
             key,
             first: firsts[number],
             last,
             rows: count,
-            results,
+            results: given,
         })?;
     }
     Ok(rows)

@@ -48,6 +48,7 @@ impl AggHashTable {
             ↔ ((is_full self.old ≡ true) × (is_held key.now self.old.groups ≡ false)) }
         ensures memory { result ≡ LentAt.Memory → HasGroups self.old self.new self.old.groups }
         ensures full { result ≡ LentAt.Overflow → HasGroups self.old self.new self.old.groups }
+        ensures table { IsTable self.old }
     {
         match spot_for(&self.keyed, &mut self.hints, self.limit, key) {
             Spot::At(index) => match self.keyed.feed_lent(index, rows, row) {

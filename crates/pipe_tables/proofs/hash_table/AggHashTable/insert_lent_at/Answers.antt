@@ -47,7 +47,7 @@ returns-after-feed_lent-clause-done c = λ i e. elim c.match-feed_lent.branch [
 
 pub returns-after-feed_lent-clause-at : goal.returns-after-feed_lent-clause-at
 returns-after-feed_lent-clause-at c = λ i e. elim c.match-feed_lent.branch [
-  | in-Ok w ↦ same_index _ c.args.key.now c.in-At.index i (sym w.result-is ∙ e) (at-set _ c.args.key.now c.in-At.index _ c.in-At.ensures.0 refl w.in-Ok.ensures.ok.0)
+  | in-Ok w ↦ same_index _ c.args.key.now c.in-At.index i (sym w.result-is ∙ e) (at-set _ c.args.key.now c.in-At.index _ c.in-At.ensures.0 refl _ w.in-Ok.ensures.ok.0)
   | in-Err w ↦ absurd (let q : Memory ≡ Done i = sym w.result-is ∙ e in cc)
 ]
 
