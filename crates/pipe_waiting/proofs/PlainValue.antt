@@ -1,6 +1,5 @@
 -- What stands in front of bytes that begin with a value that is no text.
-use Rattle.std.proofs.Common.{append_assoc, ◌≡◌, ◌≢◌, ◌∙◌, ◌==◌, ◌<◌, ◌≤◌, ◌+◌, ◌-◌, ◌*◌, ◌^◌, ◌++◌, ◌-ℤ◌, ℕ, ℤ, zero, suc, pos, negsuc, Bool, true, false, List, [], ◌∷◌, length, length-append, take, drop, get_or, arith, refl, sym, ap, subst}
-use Rattle.std.specs.Prelude.{All}
+use Rattle.std.proofs.Common.{append_assoc, ◌≡◌, ◌∙◌, ◌<◌, ◌≤◌, ◌+◌, ◌-◌, ◌*◌, ◌++◌, ℕ, ℤ, pos, negsuc, true, false, List, [], ◌∷◌, length, length-append, drop, get_or, arith, refl, sym, ap, subst}
 use Rattle.std.proofs.lemmas.List.{drop_at, drop_more}
 use Rattle.std.proofs.lemmas.List.Elements.{All-head, All-tail}
 use Rattle.std.proofs.lemmas.Bool.{false≢true}
@@ -11,10 +10,10 @@ use Rattle.pipe_columns.specs.declared.any_value.AnyValue.TheVariants as av
 use Rattle.pipe_columns.specs.AnyValue.{fits, fits_number, HasUtf8, is_signed, is_unsigned}
 use Rattle.pipe_columns.specs.DataType.{is_boolean, is_string}
 use Rattle.pipe_columns.specs.Key.{code, number_code, signed_code, unsigned_code, value_code}
-use Rattle.pipe_spill.specs.KeyTypes.{AreOfTypes, IsTuple, IsValue}
+use Rattle.pipe_spill.specs.KeyTypes.{IsTuple, IsValue}
 use Rattle.pipe_spill.proofs.ByteOrder.{length-bytes}
-use Rattle.pipe_waiting.specs.PlainValues.{BeginsSome, BeginsTuple, body_size, code_size, read_number}
-use Rattle.pipe_waiting.specs.ReadRows.{read_body, read_value}
+use Rattle.pipe_waiting.specs.PlainValues.{BeginsSome, body_size, code_size}
+use Rattle.pipe_waiting.specs.ReadRows.{read_value}
 use Rattle.pipe_waiting.proofs.ReadBack.{counted, counted-is, value_back}
 
 -- ---- one value
@@ -123,44 +122,3 @@ next_of types i d bytes lt p h =
     let at : drop i types ≡ t ∷ drop (i + 1) types = drop_more types i d lt in
     first_of t (drop (i + 1) types) h.1.values h.0 bytes p (subst (λ (ts : List DataType). IsTuple ts h.1.values) at h.1.tuple)
     (subst (λ (ts : List DataType). code ts h.1.values ++ h.0 ≡ bytes) at h.1.front)
-
--- ---- what is read of one
-
--- a null takes its mark alone
-pub size-null : (t : DataType) (bytes : List ℕ) (d : ℕ) → 0 < length bytes → get_or bytes 0 d ≡ 0 → code_size t bytes ≡ 1
-size-null t [] d some e = refl
-size-null t (zero ∷ bytes) d some e = refl
-size-null t (suc b ∷ bytes) d some e = absurd (omega (arith, e))
-
--- another value a body too
-pub size-some : (t : DataType) (bytes : List ℕ) (d : ℕ) → 0 < length bytes → get_or bytes 0 d ≢ 0 → code_size t bytes ≡ 1 + body_size t
-size-some t [] d some n = absurd (omega (arith, some))
-size-some t (zero ∷ bytes) d some n = absurd (n refl)
-size-some t (suc b ∷ bytes) d some n = refl
-
--- a null is read
-pub value-null : (t : DataType) (bytes : List ℕ) (d : ℕ) → 0 < length bytes → get_or bytes 0 d ≡ 0 → av.Null ≡ (read_value t bytes).0
-value-null t [] d some e = refl
-value-null t (zero ∷ bytes) d some e = refl
-value-null t (suc b ∷ bytes) d some e = absurd (omega (arith, e))
-
--- another value is its body's
-pub value-some : (t : DataType) (bytes : List ℕ) (d : ℕ) → 0 < length bytes → get_or bytes 0 d ≢ 0 → (read_body t (drop 1 bytes)).0 ≡ (read_value t bytes).0
-value-some t [] d some n = absurd (omega (arith, some))
-value-some t (zero ∷ bytes) d some n = absurd (n refl)
-value-some t (suc b ∷ bytes) d some n = refl
-
--- a number is read
-pub body-number : (t : DataType) (bytes : List ℕ) → is_boolean t ≡ false → is_string t ≡ false → av.Int (read_number t bytes) ≡ (read_body t bytes).0
-body-number dt.Boolean bytes b s = absurd cc
-body-number dt.Int8 bytes b s = refl
-body-number dt.Int16 bytes b s = refl
-body-number dt.Int32 bytes b s = refl
-body-number dt.Int64 bytes b s = refl
-body-number dt.UInt8 bytes b s = refl
-body-number dt.UInt16 bytes b s = refl
-body-number dt.UInt32 bytes b s = refl
-body-number dt.UInt64 bytes b s = refl
-body-number dt.Int128 bytes b s = refl
-body-number dt.Date bytes b s = refl
-body-number dt.String bytes b s = absurd cc

@@ -1,5 +1,5 @@
 -- Of the proofs alone: values that are no texts, in front of bytes.
-use Rattle.std.specs.Prelude.{◌≡◌, ◌+◌, ◌^◌, ◌-ℤ◌, ◌++◌, ℕ, ℤ, zero, suc, pos, List, [], ◌∷◌, take}
+use Rattle.std.specs.Prelude.{◌≡◌, ◌^◌, ◌-ℤ◌, ◌++◌, ℕ, ℤ, zero, suc, pos, List, [], ◌∷◌, take}
 use Rattle.pipe_columns.specs.declared.data_type.DataType.{DataType}
 use Rattle.pipe_columns.specs.declared.data_type.DataType.TheVariants as dt
 use Rattle.pipe_columns.specs.declared.any_value.AnyValue.{AnyValue}
@@ -26,7 +26,7 @@ body_size dt.String = 0
 abbrev pub code_size : DataType → List ℕ → ℕ
 code_size t [] = 1
 code_size t (zero ∷ bytes) = 1
-code_size t (suc mark ∷ bytes) = 1 + body_size t
+code_size t (suc mark ∷ bytes) = suc (body_size t)
 
 -- the number of a type that bytes begin with, counted from the least one of a signed type
 abbrev pub read_number : DataType → List ℕ → ℤ

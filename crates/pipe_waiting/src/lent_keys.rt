@@ -6,7 +6,7 @@ ghost use Rattle.pipe_waiting.specs.PlainValues.{BeginsSome, BeginsTuple};
 ghost use Rattle.pipe_waiting.specs.Waiting.{HaveNoTexts, HoldRows, IsNextKey};
 
 use crate::lent_rows::{LentRow, LentRows};
-use crate::plain_value::code_size;
+use crate::plain_value::behind_value;
 use crate::row_head::take_key;
 use pipe_columns::DataType;
 
@@ -19,7 +19,7 @@ fn skip_inputs<'a>(bytes: &'a [u8], types: &[DataType]) -> &'a [u8]
 {
     let mut rest = bytes;
     for i in 0..types.len() {
-        rest = &rest[code_size(rest, types[i])..];
+        rest = behind_value(rest, types[i]);
     }
     rest
 }

@@ -7,7 +7,7 @@ ghost use Rattle.pipe_waiting.specs.PlainValues.{BeginsSome};
 ghost use Rattle.pipe_waiting.specs.Waiting.{HaveNoTexts, HoldRows, IsNext};
 
 use crate::lent_rows::{LentRow, LentRows};
-use crate::plain_value::{code_size, plain_value};
+use crate::plain_value::{behind_value, plain_value};
 use crate::row_head::take_key;
 use pipe_columns::{AnyValue, DataType};
 
@@ -26,7 +26,7 @@ fn read_plain_inputs<'a>(bytes: &'a [u8], types: &[DataType], values: &mut [AnyV
     for i in 0..types.len() {
         let value = plain_value(rest, types[i]);
         values[i] = value;
-        rest = &rest[code_size(rest, types[i])..];
+        rest = behind_value(rest, types[i]);
     }
     rest
 }
@@ -34,6 +34,7 @@ fn read_plain_inputs<'a>(bytes: &'a [u8], types: &[DataType], values: &mut [AnyV
 impl<'a> LentRows<'a> {
     /// The next row where no input is a text: its place and key, and its inputs in a list, in the
     /// place of what it held. None where all were given. It takes no memory.
+    #[inline(always)]
     pub fn next_plain(&mut self, types: &[DataType], values: &mut [AnyValue]) -> Option<LentRow<'a>>
         requires held { HoldRows types.now self.old.count self.old.bytes }
         requires plain { HaveNoTexts types.now }

@@ -1,6 +1,6 @@
 //! A value that is no text, out of the bytes of its code, which are known to be there.
 
-ghost use Rattle.std.specs.Prelude.{◌≡◌, ◌<◌, ◌≤◌, ◌^◌, false, length, take};
+ghost use Rattle.std.specs.Prelude.{◌≡◌, ◌<◌, ◌≤◌, ◌^◌, drop, false, length, take};
 ghost use Rattle.pipe_columns.specs.DataType.{is_boolean, is_string};
 ghost use Rattle.pipe_waiting.specs.PlainValues.{body_size, code_size, read_number};
 ghost use Rattle.pipe_waiting.specs.ReadRows.{number_of, read_value};
@@ -25,7 +25,7 @@ fn body_size(dtype: DataType) -> usize
 
 /// How many bytes the value takes that the bytes begin with. It reads the mark alone.
 #[inline(always)]
-pub(crate) fn code_size(bytes: &[u8], dtype: DataType) -> usize
+fn code_size(bytes: &[u8], dtype: DataType) -> usize
     requires { 0 < length bytes.now }
     ensures { result ≡ code_size dtype bytes.now }
 {
@@ -34,6 +34,16 @@ pub(crate) fn code_size(bytes: &[u8], dtype: DataType) -> usize
     } else {
         1 + body_size(dtype)
     }
+}
+
+/// The bytes after the value that the bytes begin with.
+#[inline(always)]
+pub(crate) fn behind_value(bytes: &[u8], dtype: DataType) -> &[u8]
+    requires some { 0 < length bytes.now }
+    requires room { code_size dtype bytes.now ≤ length bytes.now }
+    ensures { result.now ≡ drop (code_size dtype bytes.now) bytes.now }
+{
+    &bytes[code_size(bytes, dtype)..]
 }
 
 /// The number that the first four bytes are.
