@@ -1,6 +1,6 @@
 //! Keys that are marked by hashes of their codes.
 
-ghost use Rattle.std.specs.Prelude.{◌≡◌, Unit};
+ghost use Rattle.std.specs.Prelude.{◌≡◌};
 ghost use Rattle.pipe_chains.specs.Hash.{hash_of};
 ghost use Rattle.pipe_tables.specs.Hashes.{hash_once};
 
