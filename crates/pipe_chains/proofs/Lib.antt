@@ -1,3 +1,5 @@
+pub mod HashFacts
 pub mod LastIndex
 pub mod Walks
+mod LeadFacts
 mod LinkFacts

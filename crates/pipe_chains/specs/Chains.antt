@@ -1,9 +1,11 @@
--- Entries in chains by a mark.
+-- Entries in chains by a lead.
 use Rattle.std.specs.Prelude.{ℕ, suc, Bool, ◌==◌, List, [], ◌∷◌, Option, Some, None, if◌then◌else◌}
 
--- the marks of the entries, in the order in which they came, and how many more there is memory for
+-- the marks of the entries and their leads, in the order in which they came, and how many more there
+-- is memory for
 pub record Marked : Type 0 where
   pub marks : List ℕ
+  pub leads : List ℕ
   pub room : ℕ
 
 -- an index in the rest of a list, or that of its head where it passes
@@ -16,6 +18,6 @@ abbrev pub last_index : {X : Type 0} → (X → Bool) → List X → Option ℕ
 last_index p [] = None
 last_index p (x ∷ xs) = later (last_index p xs) (p x)
 
--- the index of the last entry of a mark
+-- the index of the last entry of a lead
 abbrev pub last_of : ℕ → List ℕ → Option ℕ
-last_of mark marks = last_index (λ m. m == mark) marks
+last_of lead leads = last_index (λ l. l == lead) leads

@@ -1,24 +1,24 @@
-//! Entries in chains by a mark.
+//! Entries in chains by a lead.
 
 ghost use Rattle.std.specs.Prelude.{◌≡◌, ◌+◌, ◌≤◌, ◌<◌, ◌∷◌, ◌++◌, [], length, take, slice_index, IsOk, OnErr, OnOk};
 ghost use Rattle.pipe_chains.specs.Chains.{last_of};
 
+use crate::heads::HeadHasher;
+use crate::link::{Link, entry_of, lead_all, link_to};
 use indexmap::IndexMap;
 use std::alloc::{AllocError, Global};
+use std::hash::RandomState;
 use std::marker::Model;
 
-/// The mark of an entry, and the last entry before it of the same mark.
-#[derive(Clone, Copy, Debug)]
-pub(crate) struct Link {
-    mark: u64,
-    before: Option<usize>,
-}
+/// The most entries that chains have.
+const MOST_ENTRIES: usize = 0xFFFF_FFFF;
 
-/// Entries by number, each with a mark. From the last entry of a mark a chain leads back over all of
-/// them. Contracts see the list of the marks, and the room for more.
+/// Entries by number, each with a mark that it keeps, and with a lead. From the last entry of a lead a
+/// chain leads back over all of them. Contracts see the lists of the marks and of the leads, and the
+/// room for more.
 #[derive(Drop)]
 pub struct Chains {
-    heads: IndexMap<u64, usize>,
+    heads: IndexMap<u64, u32, HeadHasher>,
     links: Vec<Link>,
 }
 
@@ -34,14 +34,32 @@ impl Model for Chains {
 }
 
 impl Chains {
-    /// Chains of no entries.
-    pub fn new(alloc: Global) -> Chains
-        ensures { result.marks ≡ [] }
+    /// Chains of no entries, whose heads are found as a hasher says.
+    fn over(alloc: Global, hasher: HeadHasher) -> Chains
+        ensures marks { result.marks ≡ [] }
+        ensures leads { result.leads ≡ [] }
     {
         Chains {
-            heads: IndexMap::new(alloc),
+            heads: IndexMap::with_hasher(alloc, hasher),
             links: Vec::new(alloc),
         }
+    }
+
+    /// Chains of no entries.
+    pub fn new(alloc: Global) -> Chains
+        ensures marks { result.marks ≡ [] }
+        ensures leads { result.leads ≡ [] }
+    {
+        Chains::over(alloc, HeadHasher::new(None))
+    }
+
+    /// Chains of no entries, the heads of which are found under these keys: no leads can be chosen so
+    /// that it takes long to find them.
+    pub fn with_keys(alloc: Global, keys: Option<RandomState>) -> Chains
+        ensures marks { result.marks ≡ [] }
+        ensures leads { result.leads ≡ [] }
+    {
+        Chains::over(alloc, HeadHasher::new(keys))
     }
 
     /// Where the memory comes from.
@@ -49,16 +67,18 @@ impl Chains {
         *self.links.allocator()
     }
 
-    /// Chains of no entries, whose memory comes from where that of these does.
+    /// Chains of no entries, under the same keys, whose memory comes from where that of these does.
     pub fn split(&self) -> Chains
-        ensures { result.marks ≡ [] }
+        ensures marks { result.marks ≡ [] }
+        ensures leads { result.leads ≡ [] }
     {
-        Chains::new(self.allocator())
+        Chains::over(self.allocator(), *self.heads.hasher())
     }
 
     /// How many entries there are.
     pub fn len(&self) -> usize
-        ensures { result ≡ length self.now.marks }
+        ensures marks { result ≡ length self.now.marks }
+        ensures leads { result ≡ length self.now.leads }
     {
         self.links.len()
     }
@@ -71,52 +91,101 @@ impl Chains {
         self.links[index].mark
     }
 
-    /// The last entry of a mark.
+    /// The last entry of a lead.
     #[inline]
-    pub fn last(&self, mark: u64) -> Option<usize>
-        ensures { result ≡ last_of mark self.now.marks }
+    pub fn last(&self, lead: u64) -> Option<usize>
+        ensures { result ≡ last_of lead self.now.leads }
     {
-        self.heads.get(&mark).copied()
+        let told = match self.heads.get(&lead) {
+            Some(told) => *told,
+            None => 0,
+        };
+        entry_of(told)
     }
 
-    /// The last entry before another that has the same mark.
+    /// The last entry before another that has the same lead.
     #[inline]
     pub fn before(&self, index: usize) -> Option<usize>
-        requires { index < length self.now.marks }
+        requires { index < length self.now.leads }
         ensures { result
-            ≡ last_of (slice_index self.now.marks index) (take index self.now.marks) }
+            ≡ last_of (slice_index self.now.leads index) (take index self.now.leads) }
     {
-        self.links[index].before
+        self.links[index].before()
     }
 
-    /// Takes memory for so many more entries.
+    /// Whether more than 32 entries stand before one in its chain.
+    #[inline(always)]
+    pub fn is_deep(&self, index: usize) -> bool
+        requires { index < length self.now.leads }
+    {
+        self.links[index].is_deep()
+    }
+
+    /// How many more entries there is room for.
+    fn room(&self) -> usize
+        ensures { result ≡ self.now.room }
+    {
+        let heads = self.heads.capacity().saturating_sub(self.heads.len());
+        let links = self.links.capacity().saturating_sub(self.links.len());
+        heads
+            .min(links)
+            .min(MOST_ENTRIES.saturating_sub(self.links.len()))
+    }
+
+    /// Takes memory for so many more entries. More than 2^32 - 1 in all are want of memory.
     pub fn reserve(&mut self, additional: usize) -> Result<(), AllocError>
         ensures marks { self.new.marks ≡ self.old.marks }
+        ensures leads { self.new.leads ≡ self.old.leads }
         ensures ok { OnOk result (additional ≤ self.new.room) }
         ensures succeeds { additional ≤ self.old.room → IsOk result }
         ensures room { self.old.room ≤ self.new.room }
     {
+        if additional > MOST_ENTRIES - self.links.len() {
+            return Err(AllocError);
+        }
         self.heads.reserve(additional)?;
         self.links.reserve(additional)
     }
 
     /// Appends an entry.
-    pub fn push(&mut self, mark: u64) -> Result<(), AllocError>
+    pub fn push(&mut self, mark: u64, lead: u64) -> Result<(), AllocError>
         ensures ok { OnOk result (self.new.marks ≡ self.old.marks ++ mark ∷ []) }
+        ensures led { OnOk result (self.new.leads ≡ self.old.leads ++ lead ∷ []) }
         ensures err { OnErr result (self.new.marks ≡ self.old.marks) }
+        ensures led_err { OnErr result (self.new.leads ≡ self.old.leads) }
         ensures succeeds { 0 < self.old.room → IsOk result }
         ensures room { self.old.room ≤ self.new.room + 1 }
     {
         let index = self.links.len();
+        if index >= MOST_ENTRIES {
+            return Err(AllocError);
+        }
         self.links.reserve(1)?;
-        let before = self.heads.insert(mark, index)?;
-        self.links.push(Link { mark, before }).unwrap();
+        let told = index as u32 + 1;
+        let link = link_to(&mut self.heads, self.links.as_slice(), told, mark, lead)?;
+        self.links.push(link).unwrap();
+        Ok(())
+    }
+
+    /// Chains the entries by other leads. Where memory is wanting for it, they stay as they are.
+    pub fn lead_anew(&mut self, leads: &[u64]) -> Result<(), AllocError>
+        requires { length leads.now ≡ length self.old.leads }
+        ensures marks { self.new.marks ≡ self.old.marks }
+        ensures ok { OnOk result (self.new.leads ≡ leads.now) }
+        ensures err { OnErr result (self.new.leads ≡ self.old.leads) }
+        ensures room { self.old.room ≤ self.new.room }
+    {
+        let wanted = self.links.len().saturating_add(self.room());
+        self.heads.reserve(wanted.saturating_sub(self.heads.len()))?;
+        self.heads.clear();
+        lead_all(&mut self.heads, self.links.as_mut_slice(), leads);
         Ok(())
     }
 
     /// Takes all entries out. The memory stays.
     pub fn clear(&mut self)
         ensures marks { self.new.marks ≡ [] }
+        ensures leads { self.new.leads ≡ [] }
         ensures room { self.old.room ≤ self.new.room }
     {
         self.heads.clear();

@@ -75,6 +75,8 @@ impl<W: SinkWriter> GuardedCore<W> {
         ensures format { W.format self.new.core.writer ≡ W.format self.old.core.writer }
         ensures kept { (self.new.core.maintain_order ≡ self.old.core.maintain_order)
             × (self.new.core.morsels ≡ self.old.core.morsels) }
+        ensures tells { is_some (W.told self.new.core.writer)
+            ≡ is_some (W.told self.old.core.writer) }
         ensures since { (n : ℕ) → TellsSince n (W.faults self.old.core.writer) self.old.fault
             → TellsSince n (W.faults self.new.core.writer) self.new.fault }
     {
@@ -110,6 +112,8 @@ impl<W: SinkWriter> GuardedCore<W> {
             → TellsFront (W.told self.new.core.writer) since
             (W.text (W.format self.old.core.writer) (rows_of_chunks
             (write_order chunks self.old.core.morsels self.old.core.maintain_order))) }
+        ensures tells { is_some (W.told self.new.core.writer)
+            ≡ is_some (W.told self.old.core.writer) }
         ensures since { (n : ℕ) → TellsSince n (W.faults self.old.core.writer) self.old.fault
             → TellsSince n (W.faults self.new.core.writer) self.new.fault }
     {

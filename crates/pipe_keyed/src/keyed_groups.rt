@@ -7,32 +7,37 @@ ghost use Rattle.pipe_groups.specs.Shape.{IsShape, shape_of};
 ghost use Rattle.pipe_keyed.specs.Keyed.{IsAt, IsFound};
 
 use crate::marking::Marking;
+use crate::secret::{find_along, lead_of};
 use crate::sought::{KeyCode, Sought};
 use pipe_aggs::CheckedQuery;
 use pipe_chains::Chains;
 use pipe_groups::Groups;
 use std::alloc::{AllocError, Global};
+use std::hash::RandomState;
 use std::marker::{Model, PhantomData};
 
-/// Groups, with chains over marks of their keys. Contracts see the groups, what they are of, and the
-/// room for more.
+/// Groups, with chains over marks of their keys. Where many keys have one mark, they hide: chains then
+/// go by secret hashes of the keys, so that none is long. Contracts see the groups, what they are of,
+/// and the room for more.
 #[derive(Drop)]
 pub struct KeyedGroups<M: Marking> {
     pub(crate) groups: Groups,
     pub(crate) chains: Chains,
+    pub(crate) hash_keys: Option<RandomState>,
+    pub(crate) hides: bool,
     of: PhantomData<M>,
 }
 
 impl<M: Marking> Model for KeyedGroups<M> {
     ghost use Rattle.pipe_groups.specs.Groups.{group_keys, Seen};
-    ghost use Rattle.pipe_keyed.specs.KeyedLayout.{AreMarked, with_room};
+    ghost use Rattle.pipe_keyed.specs.KeyedLayout.{AreLed, with_room};
 
     ghost Value = { Seen };
 
     ghost view = { λ a. with_room a.chains.room a.groups };
 
-    ghost invariant = { λ a. AreMarked M.marks a.groups.shape.key_types (group_keys a.groups.groups)
-        a.chains.marks };
+    ghost invariant = { λ a. AreLed M.marks M.can_hide a.hash_keys a.hides
+        a.groups.shape.key_types (group_keys a.groups.groups) a.chains.marks a.chains.leads };
 }
 
 impl<M: Marking> KeyedGroups<M> {
@@ -43,10 +48,13 @@ impl<M: Marking> KeyedGroups<M> {
         ensures groups { IfOk result (λ g. g.groups ≡ []) }
     {
         let groups = Groups::new(alloc, query)?;
-        let chains = Chains::new(alloc);
+        let hash_keys = query.hash_keys();
+        let chains = Chains::with_keys(alloc, hash_keys);
         Ok(KeyedGroups {
             groups,
             chains,
+            hash_keys,
+            hides: false,
             of: PhantomData,
         })
     }
@@ -61,6 +69,8 @@ impl<M: Marking> KeyedGroups<M> {
         Ok(KeyedGroups {
             groups,
             chains,
+            hash_keys: self.hash_keys,
+            hides: false,
             of: PhantomData,
         })
     }
@@ -108,6 +118,10 @@ impl<M: Marking> KeyedGroups<M> {
         requires { S.has_mark sought.now self.now.shape.key_types mark }
         ensures { IsFound self.now.groups (S.code_of sought.now self.now.shape.key_types) result }
     {
+        if self.hides {
+            let lead = sought.secret_lead(self.hash_keys);
+            return find_along::<M, S>(&self.groups, &self.chains, lead, mark, sought);
+        }
         let mut at = self.chains.last(mark);
         while let Some(index) = at {
             if sought.is_code(self.groups.key(index)) {
@@ -141,7 +155,9 @@ impl<M: Marking> KeyedGroups<M> {
     {
         self.chains.reserve(1)?;
         let index = self.groups.push(key)?;
-        self.chains.push(mark).unwrap();
+        let lead = lead_of(self.hides, self.hash_keys, key, mark);
+        self.chains.push(mark, lead).unwrap();
+        self.hide_where_deep(index);
         Ok(index)
     }
 

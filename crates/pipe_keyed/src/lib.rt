@@ -8,6 +8,7 @@ mod keyed_groups;
 mod marking;
 mod merge;
 mod same_keys;
+mod secret;
 mod sought;
 mod take;
 

@@ -9,7 +9,7 @@ ghost use Rattle.pipe_keyed.specs.Merges.{MayMerge};
 use crate::keyed_groups::KeyedGroups;
 use crate::marking::Marking;
 
-/// Takes the rows of all groups of others in. It takes no memory.
+/// Takes the rows of all groups of others in. It needs no memory.
 pub fn take_all<M: Marking>(own: &mut KeyedGroups<M>, other: &mut KeyedGroups<M>)
     requires may { MayMerge own.old other.old }
     requires room { Covers own.old (count_held other.old.groups) (held_bytes other.old.groups) }

@@ -8,7 +8,7 @@ use crate::keyed_groups::KeyedGroups;
 use crate::marking::Marking;
 
 impl<M: Marking> KeyedGroups<M> {
-    /// Takes the rows of a group of others in, which then has none. It takes no memory.
+    /// Takes the rows of a group of others in, which then has none. It needs no memory.
     pub fn take(&mut self, other: &mut KeyedGroups<M>, from: usize)
         requires within { from < length other.old.groups }
         requires shape { other.old.shape ≡ self.old.shape }

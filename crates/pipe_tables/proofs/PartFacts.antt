@@ -3,7 +3,7 @@ use Rattle.std.proofs.Common.{◌≡◌, ◌∙◌, ℕ, suc, ◌+◌, ◌<◌, 
 use Rattle.std.proofs.lemmas.List.{get_or-map, length-map}
 use Rattle.pipe_columns.specs.Key.{fold_bytes}
 use Rattle.pipe_chains.specs.Chains.{last_of}
-use Rattle.pipe_chains.proofs.Walks.{left-falls, left_of, OnChain, Walking, walking-end, walking-mark, walking-next, walking-start, walking-within}
+use Rattle.pipe_chains.proofs.Walks.{left-falls, left_of, OnChain, Walking, walking-end, walking-lead, walking-next, walking-start, walking-within}
 use Rattle.pipe_groups.specs.Groups.{AreJoined, Covers, Group, group_of, has_rows, HasGroups, held_at, group_keys, new_group, no_group, Seen}
 use Rattle.pipe_keyed.specs.Merges.{IsTakenInto, MayMerge, MayTake}
 use Rattle.pipe_tables.specs.Parts.{marks_in}
@@ -58,7 +58,7 @@ module _ (partitions p : ℕ) (marks : List ℕ) (own0 other0 : Seen) (may : May
       part-within = omega (arith, part-link, part-length partitions p other.groups marks still)
 
       passes : lies_in partitions p (group_of other.groups i).key ≡ true
-      passes = part-passes partitions p other.groups marks still i part-within (walking-mark (IsEmptied other.groups) p marks t.on.below i t.on.walk)
+      passes = part-passes partitions p other.groups marks still i part-within (walking-lead (IsEmptied other.groups) p marks t.on.below i t.on.walk)
 
       part-walk : (next : Option ℕ) (gs : List Group) → ((j : ℕ) → i < j → IsEmptied other.groups j → IsEmptied gs j) → IsEmptied gs i
           → next ≡ last_of (get_or marks i 0) (take i marks) → Walking (IsEmptied gs) p marks i next

@@ -11,4 +11,4 @@ marks_in partitions keys = map (λ k. fold_bytes k % partitions) keys
 -- what is kept of the partitions of groups, if anything, is up to date
 abbrev pub ArePartsOf : List Group → Option Parts → Type 0
 ArePartsOf gs None = Unit {0}
-ArePartsOf gs (Some p) = p.chains.marks ≡ marks_in p.partitions (group_keys gs)
+ArePartsOf gs (Some p) = p.chains.leads ≡ marks_in p.partitions (group_keys gs)

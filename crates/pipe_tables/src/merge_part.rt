@@ -12,7 +12,7 @@ use crate::by_hash::ByHash;
 use crate::parts::Parts;
 use pipe_keyed::KeyedGroups;
 
-/// Takes the rows of the groups of a partition of others in, along its chain. It takes no memory.
+/// Takes the rows of the groups of a partition of others in, along its chain. It needs no memory.
 pub(crate) fn take_part(
     own: &mut KeyedGroups<ByHash>,
     other: &mut KeyedGroups<ByHash>,

@@ -26,7 +26,8 @@ impl Parts {
         let mut chains = Chains::new(keyed.allocator());
         chains.reserve(keyed.len())?;
         for index in 0..keyed.len() {
-            chains.push(partition_of(keyed.key(index), partitions) as u64)?;
+            let partition = partition_of(keyed.key(index), partitions) as u64;
+            chains.push(partition, partition)?;
         }
         Ok(Parts { partitions, chains })
     }

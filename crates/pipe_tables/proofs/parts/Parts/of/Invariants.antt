@@ -4,4 +4,4 @@ use Rattle.pipe_tables.specs.Parts.{marks_in}
 use Rattle.pipe_tables.proofs.parts.Parts.of.Given as goal
 
 abbrev pub invariant-loop-index : goal.invariant-loop-index
-invariant-loop-index l = l.chains.marks ≡ marks_in l.partitions (group_keys (take l.index l.keyed.groups))
+invariant-loop-index l = l.chains.leads ≡ marks_in l.partitions (group_keys (take l.index l.keyed.groups))
