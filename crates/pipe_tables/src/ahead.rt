@@ -1,6 +1,6 @@
 //! A look at what the next rows need.
 
-ghost use Rattle.std.specs.Prelude.{◌≡◌, All, length};
+ghost use Rattle.std.specs.Prelude.{◌≡◌, All};
 ghost use Rattle.pipe_spill.specs.KeyTypes.{AreOfTypes};
 ghost use Rattle.pipe_waiting.specs.Waiting.{HaveNoTexts, HoldRows};
 
@@ -8,7 +8,7 @@ use crate::by_hash::ByHash;
 use crate::hash_table::AggHashTable;
 use crate::hints::Hints;
 use pipe_chains::hash_bytes;
-use pipe_columns::{AnyValue, DataType};
+use pipe_columns::DataType;
 use pipe_groups::encode_row;
 use pipe_inputs::ChunkRows;
 use pipe_keyed::KeyedGroups;
@@ -69,23 +69,16 @@ fn look_at_keys(keyed: &KeyedGroups<ByHash>, hints: &Hints, mut spots: [usize; T
     seen
 }
 
-/// Reads what the keys of the next rows that are lent need. The list is for their inputs.
+/// Reads what the keys of the next rows that are lent need.
 #[inline(never)]
-fn look_lent(
-    keyed: &KeyedGroups<ByHash>,
-    hints: &Hints,
-    rows: LentRows<'_>,
-    values: &mut [AnyValue],
-) -> usize
+fn look_lent(keyed: &KeyedGroups<ByHash>, hints: &Hints, rows: LentRows<'_>) -> usize
     requires held { HoldRows keyed.now.shape.input_types rows.count rows.bytes }
     requires plain { HaveNoTexts keyed.now.shape.input_types }
-    requires fit { length values.old ≡ length keyed.now.shape.input_types }
-    ensures { length values.new ≡ length values.old }
 {
     let mut rows = rows;
     let mut spots = [0usize; TOGETHER];
     for place in 0..TOGETHER {
-        if let Some(row) = rows.next_plain(keyed.groups().input_types(), values) {
+        if let Some(row) = rows.next_key(keyed.groups().input_types()) {
             spots[place] = hash_bytes(row.key) as usize;
         }
     }
@@ -94,22 +87,15 @@ fn look_lent(
 
 /// Reads what the keys of the next rows that are lent need, once for several of them.
 #[inline(always)]
-pub(crate) fn look_at_lent(
-    keyed: &KeyedGroups<ByHash>,
-    hints: &mut Hints,
-    rows: &LentRows<'_>,
-    values: &mut [AnyValue],
-)
+pub(crate) fn look_at_lent(keyed: &KeyedGroups<ByHash>, hints: &mut Hints, rows: &LentRows<'_>)
     requires held { HoldRows keyed.now.shape.input_types rows.now.count rows.now.bytes }
     requires plain { HaveNoTexts keyed.now.shape.input_types }
-    requires fit { length values.old ≡ length keyed.now.shape.input_types }
-    ensures { length values.new ≡ length values.old }
 {
     if rows.len() % TOGETHER != 0 || keyed.len() < FEWEST {
         return;
     }
     // What was read is used, or a compiler would leave the reading out.
-    if look_lent(keyed, hints, rows.again(), values) == usize::MAX {
+    if look_lent(keyed, hints, rows.again()) == usize::MAX {
         hints.widen(0);
     }
 }

@@ -7,7 +7,7 @@ ghost use Rattle.pipe_tables.specs.Hashes.{hash_once};
 use pipe_columns::DataType;
 use pipe_keyed::Marking;
 
-/// The mark of a key is the hash of its code.
+/// The mark of a key is the hash of its code. Of any types keys can be found that have one hash.
 pub(crate) struct ByHash;
 
 impl Marking for ByHash {

@@ -1,6 +1,6 @@
 //! The groups of the keys of rows that wait are found or made, and where they are is remembered.
 
-ghost use Rattle.std.specs.Prelude.{◌≡◌, ◌∷◌, ◌++◌, [], IfOk, List, OnErr, OnOk, length};
+ghost use Rattle.std.specs.Prelude.{◌≡◌, ◌∷◌, ◌++◌, [], IfOk, List, OnErr, OnOk};
 ghost use Rattle.std.specs.List.{All};
 ghost use Rattle.pipe_spill.specs.declared.spill_row.SpillRow.{SpillRow};
 ghost use Rattle.pipe_groups.specs.Groups.{cover, group_keys, HasGroups as SameGroups};
@@ -14,7 +14,6 @@ use crate::hash_table::AggHashTable;
 use crate::hints::Hints;
 use crate::spot::find_near;
 use pipe_chains::hash_bytes;
-use pipe_columns::AnyValue;
 use pipe_keyed::KeyedGroups;
 use pipe_waiting::{LentRows, WaitingRows};
 use std::alloc::AllocError;
@@ -61,20 +60,17 @@ fn find_rows(
     hints: &mut Hints,
     mut rows: LentRows<'_>,
     spots: &mut Vec<u32>,
-    values: &mut [AnyValue],
 ) -> Result<(), AllocError>
     requires held { HoldRows keyed.old.shape.input_types rows.count rows.bytes }
     requires plain { HaveNoTexts keyed.old.shape.input_types }
-    requires fit { length values.old ≡ length keyed.old.shape.input_types }
     ensures covered { HasCovered keyed.old keyed.new }
     ensures at { OnOk result ((before : List SpillRow)
         → AreAt (group_keys keyed.old.groups) before spots.old.items
         → AreAt (group_keys keyed.new.groups)
         (before ++ left_rows keyed.old.shape.input_types rows.entry) spots.new.items) }
-    ensures fits { length values.new ≡ length values.old }
 {
-    while let Some(row) = rows.next_plain(keyed.groups().input_types(), values) {
-        look_at_lent(keyed, hints, &rows, values);
+    while let Some(row) = rows.next_key(keyed.groups().input_types()) {
+        look_at_lent(keyed, hints, &rows);
         let index = spot_of(keyed, hints, row.key)?;
         push_spot(spots, index)?;
     }
@@ -87,20 +83,17 @@ impl AggHashTable {
         &mut self,
         rows: LentRows<'_>,
         spots: &mut Vec<u32>,
-        values: &mut [AnyValue],
     ) -> Result<(), AllocError>
         requires held { HoldRows self.old.shape.input_types rows.count rows.bytes }
         requires plain { HaveNoTexts self.old.shape.input_types }
-        requires fit { length values.old ≡ length self.old.shape.input_types }
         ensures same { HoldsAs self.old self.new }
         ensures at { OnOk result ((before : List SpillRow)
             → AreAt (group_keys self.old.groups) before spots.old.items
             → AreAt (group_keys self.new.groups)
             (before ++ left_rows self.old.shape.input_types rows.entry) spots.new.items) }
-        ensures fits { length values.new ≡ length values.old }
     {
         self.parts = None;
-        find_rows(&mut self.keyed, &mut self.hints, rows, spots, values)
+        find_rows(&mut self.keyed, &mut self.hints, rows, spots)
     }
 
     /// Finds or makes the groups of all rows that wait, in order.
@@ -108,19 +101,16 @@ impl AggHashTable {
         &mut self,
         waiting: &[WaitingRows],
         spots: &mut Vec<u32>,
-        values: &mut [AnyValue],
     ) -> Result<(), AllocError>
         requires held { All (AreWaiting self.old.shape.input_types) waiting.now }
         requires plain { HaveNoTexts self.old.shape.input_types }
-        requires fit { length values.old ≡ length self.old.shape.input_types }
         requires none { spots.old.items ≡ [] }
         ensures same { HoldsAs self.old self.new }
         ensures at { OnOk result (AreAt (group_keys self.new.groups)
             (rows_waiting self.old.shape.input_types waiting.now) spots.new.items) }
-        ensures fits { length values.new ≡ length values.old }
     {
         for rows in waiting {
-            self.find_lent(rows.lend(), spots, values)?;
+            self.find_lent(rows.lend(), spots)?;
         }
         Ok(())
     }

@@ -2,6 +2,7 @@
 #![tactic(auto)]
 
 mod ahead;
+mod beside;
 mod by_hash;
 mod combine;
 mod exchange;
@@ -28,6 +29,7 @@ mod take_waiting;
 mod thread_local;
 mod types;
 
+pub use beside::LentAt;
 pub use hash_table::AggHashTable;
 pub use insert_end::{InsertEnd, LentEnd};
 pub use local_end::{LentLocalEnd, LocalEnd};

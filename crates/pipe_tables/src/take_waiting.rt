@@ -52,7 +52,7 @@ impl AggHashTable {
         ensures fits { length values.new ≡ length values.old }
     {
         let mut spots = self.hints.spots(rows.len())?;
-        self.find_lent(rows.again(), &mut spots, values)?;
+        self.find_lent(rows.again(), &mut spots)?;
         self.feed_lent(rows, &spots, values);
         Ok(())
     }
@@ -80,7 +80,7 @@ impl AggHashTable {
         ensures fits { length values.new ≡ length values.old }
     {
         let mut spots = self.hints.spots(count_of(waiting))?;
-        self.find_waiting(waiting, &mut spots, values)?;
+        self.find_waiting(waiting, &mut spots)?;
         self.feed_waiting(waiting, &spots, values);
         Ok(())
     }

@@ -13,6 +13,7 @@ use Rattle.pipe_spill.specs.KeyTypes.{IsTuple}
 use Rattle.pipe_spill.specs.Reading.{BeginsNoTuple}
 use Rattle.pipe_spill.specs.declared.spill_row.SpillRow.{SpillRow}
 use Rattle.pipe_spill.proofs.RowOnce.{eight_once}
+use Rattle.pipe_waiting.specs.PlainValues.{BeginsSome}
 use Rattle.pipe_waiting.specs.ReadRows.{read_row, read_rows}
 use Rattle.pipe_waiting.specs.Waiting.{CanWait, HoldRows, IsNext}
 use Rattle.pipe_waiting.proofs.ReadBack.{row_back}
@@ -74,12 +75,19 @@ is_headed types n bytes h some none =
     let first = first_row types n bytes h some in
     none types first.0 first.1 first.3
 
--- and the inputs are a tuple of the types
+-- and the inputs begin with a tuple of the types
+pub begins_inputs : (types : List DataType) (n : ℕ) (bytes : List ℕ) (chunk number : ℕ) (key inputs : List ℕ) → HoldRows types n bytes → n ≢ 0 → length bytes < 2 ^ 64
+    → headed chunk number key inputs ≡ bytes → BeginsSome types inputs
+begins_inputs types n bytes chunk number key inputs h some room head =
+    let first = first_row types n bytes h some in
+    (first.1, record { values = first.0.values; tuple = first.2.inputs; front = (same_parts types chunk number key inputs bytes first.0 first.1 room head first.3).1 })
+
+-- which bytes that begin with none do not
 pub has_inputs : (types : List DataType) (n : ℕ) (bytes : List ℕ) (chunk number : ℕ) (key inputs : List ℕ) → HoldRows types n bytes → n ≢ 0 → length bytes < 2 ^ 64
     → headed chunk number key inputs ≡ bytes → BeginsNoTuple types inputs → ⊥
 has_inputs types n bytes chunk number key inputs h some room head none =
-    let first = first_row types n bytes h some in
-    none first.0.values first.1 first.2.inputs (same_parts types chunk number key inputs bytes first.0 first.1 room head first.3).1
+    let begins = begins_inputs types n bytes chunk number key inputs h some room head in
+    none begins.1.values begins.0 begins.1.tuple begins.1.front
 
 -- what stands behind a front
 behind_front : (front a b : List ℕ) → front ++ a ≡ front ++ b → a ≡ b

@@ -3,3 +3,4 @@ pub mod Appending
 pub mod Giving
 pub mod FrameFacts
 pub mod PlainRead
+pub mod PlainValue

@@ -44,7 +44,7 @@ number_from (suc k) n start =
     number_from k n (start * 256 + byte_at k n) ∙ sym (ap (λ (m : ℕ). start * 256 ^ suc k + m) (byte_and_rest k n) ∙ rw pow-suc (omega arith))
 
 -- the number of the bytes of a number is that number
-number_back : (k n : ℕ) → n < 256 ^ k → number_of (bytes_high_first k n) ≡ n
+pub number_back : (k n : ℕ) → n < 256 ^ k → number_of (bytes_high_first k n) ≡ n
 number_back k n h = number_from k n 0 ∙ omega (arith, mod-eq_of_lt h)
 
 -- the number in front of other bytes
@@ -68,12 +68,12 @@ unsigned_back k b e (pos n) rest h =
 unsigned_back k b e (negsuc n) rest h = absurd cc
 
 -- a number counted from the least one
-abbrev counted : ℕ → ℤ → ℕ
+abbrev pub counted : ℕ → ℤ → ℕ
 counted b (pos n) = n + 2 ^ b
 counted b (negsuc n) = 2 ^ b - suc n
 
 -- it is the number from the least one on
-counted-is : (b : ℕ) (z : ℤ) → is_signed b z ≡ true → z +ℤ pos (2 ^ b) ≡ pos (counted b z)
+pub counted-is : (b : ℕ) (z : ℤ) → is_signed b z ≡ true → z +ℤ pos (2 ^ b) ≡ pos (counted b z)
 counted-is b (pos n) h = refl
 counted-is b (negsuc n) h = grind (arith, nat_tests)
 

@@ -1,4 +1,5 @@
 pub mod ReadRows
 pub mod Waiting
+pub mod PlainValues
 pub mod OwnRows
 pub mod Worked

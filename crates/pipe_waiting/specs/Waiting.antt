@@ -1,6 +1,7 @@
 -- Rows that wait as bytes, and what makes bytes those of rows.
 use Rattle.std.specs.Prelude.{◌≡◌, ◌<◌, ◌^◌, ◌+◌, ◌++◌, ◌∷◌, [], ℕ, List, All, false, length}
 use Rattle.pipe_columns.specs.declared.data_type.DataType.{DataType}
+use Rattle.pipe_columns.specs.declared.any_value.AnyValue.{AnyValue}
 use Rattle.pipe_columns.specs.declared.place.Place.{Place}
 use Rattle.pipe_columns.specs.DataType.{is_string}
 use Rattle.pipe_columns.specs.Row.{Row}
@@ -78,3 +79,8 @@ pub record IsNext (types : List DataType) (r : SpillRow) (before after : Left) :
   pub bytes : before.bytes ≡ row_bytes types r ++ after.bytes
   pub can : CanWait types r
   pub left : HoldRows types after.count after.bytes
+
+-- the first of the rows that were left has this place and this key, and the others are left
+pub record IsNextKey (types : List DataType) (place : Place) (key : List ℕ) (before after : Left) : Type 0 where
+  pub values : List AnyValue
+  pub next : IsNext types (record { place = place; key = key; values = values }) before after

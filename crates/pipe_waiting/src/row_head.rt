@@ -10,7 +10,7 @@ use pipe_columns::Place;
 
 /// The number in the first four bytes, and the bytes after them.
 #[inline(always)]
-fn take_u32(bytes: &[u8]) -> Option<(u32, &[u8])>
+pub(crate) fn take_u32(bytes: &[u8]) -> Option<(u32, &[u8])>
     ensures some { IfSome result (λ p. bytes_high_first 4 p.0 ++ p.1.now ≡ bytes.now) }
     ensures range { IfSome result (λ p. p.0 < 2 ^ 32) }
     ensures none { IsNone result → length bytes.now < 4 }

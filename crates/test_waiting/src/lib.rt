@@ -4,6 +4,8 @@
 #[cfg(test)]
 mod chunk_rows;
 #[cfg(test)]
+mod fixed_rows;
+#[cfg(test)]
 mod given_rows;
 #[cfg(test)]
 mod kept_rows;

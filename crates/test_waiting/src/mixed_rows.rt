@@ -50,7 +50,7 @@ pub(crate) const TEXT_ROWS: [u8; 88] = [
 pub(crate) const TEXT_TYPES: [DataType; 2] = [DataType::String, DataType::Int8];
 
 /// The rows of a frame whose keys are texts.
-fn lend<'a>(
+pub(crate) fn lend<'a>(
     alloc: Global,
     frame: &'a [u8],
     types: &[DataType],
@@ -77,8 +77,8 @@ fn is_row(
     next.place == place && next.key == key && values == wanted
 }
 
-/// Whether the next row is this one.
-fn gives(
+/// Whether the next row is this one, given whole, and by its place and key alone.
+pub(crate) fn gives(
     rows: &mut LentRows<'_>,
     types: &[DataType],
     values: &mut [AnyValue],
@@ -92,10 +92,15 @@ fn gives(
     ensures held { HoldRows types.now rows.new.count rows.new.bytes }
     ensures fit { length values.new ≡ length values.old }
 {
-    match rows.next_plain(types, values) {
-        Some(next) => is_row(&next, values, place, key, wanted),
-        None => false,
-    }
+    let mut passed = rows.again();
+    let Some(alone) = passed.next_key(types) else {
+        return false;
+    };
+    let Some(next) = rows.next_plain(types, values) else {
+        return false;
+    };
+    let left = passed.len() == rows.len() && passed.byte_len() == rows.byte_len();
+    left && alone.place == place && alone.key == key && is_row(&next, values, place, key, wanted)
 }
 
 /// Whether the rows of `PLAIN_ROWS` are given in turn, and no other.
@@ -134,7 +139,8 @@ fn gives_plain(rows: &mut LentRows<'_>, types: &[DataType], values: &mut [AnyVal
     ];
     let place = Place { chunk: 4, row: 1 };
     let third = gives(rows, types, values, place, &PLAIN_ROWS[105..140], &letters);
-    first && second && third && rows.next_plain(types, values).is_none()
+    let end = rows.again().next_key(types).is_none();
+    first && second && third && end && rows.next_plain(types, values).is_none()
 }
 
 /// Whether `PLAIN_ROWS` give their rows twice, into a list that held other values.

@@ -1,4 +1,3 @@
-use Rattle.std.proofs.Common.{◌≡◌, length}
 use Rattle.pipe_tables.proofs.FoundFacts.{Finds}
 use Rattle.pipe_tables.proofs.find_waiting.find_rows.Given as goal
 
@@ -7,7 +6,4 @@ decreases-loop-row l = l.rows.count
 
 -- the groups of those that are not left were found
 abbrev pub invariant-loop-row : goal.invariant-loop-row
-invariant-loop-row l = record {
-  finds : Finds l.fn.keyed.shape.input_types l.fn.rows l.fn.keyed l.keyed l.fn.spots.items l.spots.items l.rows;
-  size : length l.values ≡ length l.fn.values;
-}
+invariant-loop-row l = Finds l.fn.keyed.shape.input_types l.fn.rows l.fn.keyed l.keyed l.fn.spots.items l.spots.items l.rows

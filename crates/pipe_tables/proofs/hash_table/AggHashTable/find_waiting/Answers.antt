@@ -1,4 +1,4 @@
-use Rattle.std.proofs.Common.{◌≡◌, ◌∙◌, ◌+◌, ◌++◌, ℕ, List, ap, arith, refl, subst, sym, take}
+use Rattle.std.proofs.Common.{◌≡◌, ◌∙◌, ◌+◌, ◌++◌, ℕ, List, ap, arith, subst, sym, take}
 use Rattle.std.proofs.lemmas.List.{take_all}
 use Rattle.pipe_columns.specs.declared.data_type.DataType.{DataType}
 use Rattle.pipe_spill.specs.declared.spill_row.SpillRow.{SpillRow}
@@ -13,7 +13,6 @@ use Rattle.pipe_tables.proofs.hash_table.AggHashTable.find_waiting.Goals as goal
 pub loop-rows-init : goal.loop-rows-init
 loop-rows-init c = record {
   same = as-none c.args.self.now;
-  size = refl;
   at = subst (λ (l : List ℕ). AreAt (group_keys c.args.self.now.groups) (rows_waiting c.args.self.now.shape.input_types (take 0 c.args.waiting.now)) l) (sym c.requires.none) tt;
 }
 
@@ -32,7 +31,6 @@ loop-rows-preserved c =
     ap (λ (l : List SpillRow). before ++ l) lent ∙ sym (waiting-more T c.args.waiting.now c.loop-rows.rows-index c.rows-item.result c.loop-rows-test.true c.rows-item.is) in
     record {
       same = as-more c.args.self.now c.loop-rows.self c.find_lent.new.self c.loop-rows.invariant.same c.find_lent.ensures.same;
-      size = c.find_lent.ensures.fits ∙ c.loop-rows.invariant.size;
       at = subst (λ (l : List SpillRow). AreAt (group_keys c.find_lent.new.self.groups) l c.find_lent.new.spots.items) next (c.in_ok-find_lent.ensures.at before c.loop-rows.invariant.at);
     }
 

@@ -1,0 +1,4 @@
+pub mod ExtentFacts
+pub mod FedFacts
+pub mod RowFacts
+pub mod StateFacts

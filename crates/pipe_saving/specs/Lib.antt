@@ -1,0 +1,4 @@
+pub mod Extents
+pub mod Lists
+pub mod Refusals
+pub mod Taken
