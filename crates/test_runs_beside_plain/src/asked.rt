@@ -12,7 +12,7 @@ const HEIGHTS: [usize; 6] = [3, 0, 4, 1, 5, 2];
 const WORDS: [&str; 5] = ["", "b", "a\0", "a", "ab"];
 
 /// Adds an expression whose children are there.
-fn add(arena: &mut Arena, expr: AExpr) -> Result<(), Fail> {
+pub(crate) fn add(arena: &mut Arena, expr: AExpr) -> Result<(), Fail> {
     match arena.add(expr) {
         Ok(_) => Ok(()),
         Err(_) => Err("Arena::add wants memory".into()),
@@ -66,7 +66,7 @@ fn key_of(alloc: Global, dtype: DataType, row: usize) -> Result<AnyValue, Fail> 
     Ok(AnyValue::Int(number as i128))
 }
 
-fn column_of(
+pub(crate) fn column_of(
     alloc: Global,
     name: &str,
     dtype: DataType,

@@ -22,7 +22,7 @@ pub(crate) enum Feeds {
 }
 
 /// So many stores in memory.
-fn stores_of(alloc: Global, count: usize) -> Result<Vec<MemoryStore>, Fail> {
+pub(crate) fn stores_of(alloc: Global, count: usize) -> Result<Vec<MemoryStore>, Fail> {
     let mut stores = Vec::new(alloc);
     for _store in 0..count {
         stores.push(MemoryStore::new(alloc, Vec::new(alloc)))?;
@@ -36,7 +36,7 @@ fn is_same(left: &Column, right: &Column) -> bool {
 }
 
 /// Whether two frames are the same.
-fn are_same(left: &DataFrame, right: &DataFrame) -> bool {
+pub(crate) fn are_same(left: &DataFrame, right: &DataFrame) -> bool {
     let (left_columns, right_columns) = (left.columns(), right.columns());
     if left.height() != right.height() || left_columns.len() != right_columns.len() {
         return false;

@@ -6,6 +6,8 @@ mod asked;
 #[cfg(test)]
 mod groups;
 #[cfg(test)]
+mod memory_tests;
+#[cfg(test)]
 mod sinks;
 #[cfg(test)]
 mod tables;

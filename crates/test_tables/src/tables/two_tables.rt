@@ -52,7 +52,7 @@ fn few_rows(
 ) -> Result<Vec<SpillRow>, Fail>
     ensures typed { IfOk result (λ rows. AreRows (key_types (query_tree query.now))
         (input_types (query_tree query.now)) rows.items) }
-    ensures few { IfOk result (λ rows. length rows.items ≤ 16) }
+    ensures few { IfOk result (λ rows. length rows.items ≤ 64) }
 {
     let index = chunk.chunk_index;
     if index != 0 || !chunk.frame.fits(&query.query().schema) {
@@ -60,7 +60,7 @@ fn few_rows(
     }
     let seen = ChunkRows::new(alloc, query, index, chunk)?;
     let count = seen.len();
-    if count > 16 {
+    if count > 64 {
         return Err("many rows".into());
     }
     Ok(Eval::new(query).rows(alloc, chunk)?)
