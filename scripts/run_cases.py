@@ -17,7 +17,8 @@ from concurrent.futures import ThreadPoolExecutor
 ROOT = os.path.dirname(os.path.dirname(os.path.abspath(__file__)))
 CASES = os.path.join(ROOT, "cases")
 BUILT = [os.path.join(ROOT, "crates/group_tool/out", name) for name in ("group_tool", "group_tool.by-rattle")]
-PARTS = {"args", "options", "stdin", "stdout", "stderr", "status", "files", "made", "fed", "left"}
+CHOSEN = os.path.join(ROOT, "bench/chosen_keys.py")
+PARTS = {"args", "options", "stdin", "chosen", "seconds", "stdout", "stderr", "status", "files", "made", "fed", "left"}
 NOBODY = 65534
 AS_NOBODY = ["setpriv", f"--reuid={NOBODY}", f"--regid={NOBODY}", "--clear-groups", "--no-new-privs"]
 SECONDS = 60
@@ -111,15 +112,15 @@ def give_to_nobody(folder):
             os.chown(path, NOBODY, NOBODY)
 
 
-def ended(words, folder, given):
-    """What a run ends with: its status, its output and its line of fault. It is given the bytes of a pipe, or a file's name."""
+def ended(words, folder, given, seconds):
+    """What a run ends with: its status, its output and its line of fault. It is given the bytes of a pipe, or a file's name, and some time."""
     environment = {"PATH": os.environ["PATH"], "HOME": folder, "TMPDIR": folder, "LANG": "C.UTF-8"}
     with contextlib.ExitStack() as opened:
         how = {"input": given} if isinstance(given, bytes) else {"stdin": opened.enter_context(open(given, "rb"))}
         try:
-            run = subprocess.run(words, cwd=folder, capture_output=True, env=environment, timeout=SECONDS, check=False, **how)
+            run = subprocess.run(words, cwd=folder, capture_output=True, env=environment, timeout=seconds, check=False, **how)
         except subprocess.TimeoutExpired:
-            return f"none in {SECONDS} seconds", b"", b""
+            return f"none in {seconds} seconds", b"", b""
     return run.returncode, run.stdout, run.stderr
 
 
@@ -134,7 +135,7 @@ def end_in(case, folder, words, given):
         os.chmod(path, 0)
     for feeder in feeders.values():
         feeder.start()
-    end = ended([*prefix, *words], folder, given)
+    end = ended([*prefix, *words], folder, given, int(read(os.path.join(case, "seconds")) or SECONDS))
     for path, feeder in feeders.items():
         while feeder.is_alive():
             os.close(os.open(path, os.O_RDONLY | os.O_NONBLOCK))
@@ -172,6 +173,9 @@ def differences(end, wanted):
 
 def inputs_of(case):
     """The ways to give a case its standard input."""
+    chosen = read(os.path.join(case, "chosen")).decode().split()
+    if chosen:
+        return [(" of chosen keys", subprocess.run([sys.executable, CHOSEN, *chosen], capture_output=True, check=True).stdout)]
     path = os.path.join(case, "stdin")
     if not os.path.exists(path):
         return [("", os.devnull)]
