@@ -17,7 +17,7 @@ returns-in-Err-clause-cause g c =
 
 pub unused_sinks-requires-clause-key : goal.unused_sinks-requires-clause-key
 unused_sinks-requires-clause-key g c =
-    subst (λ (q : Query). IsSole (key_types (query_tree q))) (sym c.in-Ok.ensures.query) (sole-suited c.args.limits.now.sink (key_types (query_tree c.args.query.now)) c.requires.typed c.in-Ok.ensures.suited)
+    subst (λ (q : Query). IsSole (key_types (query_tree q))) (sym (c.hash_under.ensures ∙ c.in-Ok.ensures.query)) (sole-suited c.args.limits.now.sink (key_types (query_tree c.args.query.now)) c.requires.typed c.in-Ok.ensures.suited)
 
 pub returns-in-Err-unused_sinks-clause-cause : goal.returns-in-Err-unused_sinks-clause-cause
 returns-in-Err-unused_sinks-clause-cause g c =
@@ -33,8 +33,8 @@ invariant_of-result g c =
     let seen : S → StoreSeen = λ s. record { held = g.S.SpillStore.held s; told = g.S.SpillStore.told s; faults = g.S.SpillStore.faults s; sure = g.S.SpillStore.sure s; path = g.S.SpillStore.path s } in
     let sinks = c.in-Ok-unused_sinks.sinks in
     let count : length sinks.items ≡ vec_len sinks = search rules in (
-      typed-begun seen (λ v. v.items) c.in-Ok.checked c.args.query.now c.copy_of.result c.args.limits.now c.args.actions.items c.args.rules.items c.args.stores.items c.deref.result.now c.len.result sinks.items _
-          c.in-Ok.ensures.query c.copy_of.ensures (omega (arith, c.len.ensures, c.args.actions.ok.0)) c.deref.ensures.value c.in-Ok.ensures.fit c.in-Ok.ensures.faultless c.in-Ok.ensures.suited c.requires.typed
+      typed-begun seen (λ v. v.items) c.hash_under.new.self c.args.query.now c.copy_of.result c.args.limits.now c.args.actions.items c.args.rules.items c.args.stores.items c.deref.result.now c.len.result sinks.items _
+          (c.hash_under.ensures ∙ c.in-Ok.ensures.query) c.copy_of.ensures (omega (arith, c.len.ensures, c.args.actions.ok.0)) c.deref.ensures.value c.in-Ok.ensures.fit c.in-Ok.ensures.faultless c.in-Ok.ensures.suited c.requires.typed
           (count ∙ c.in-Ok-unused_sinks.ensures.len) c.in-Ok-unused_sinks.ensures.unused (ap (λ l. map (λ m. m.value) l) c.new.ensures.items),
       c.new-2.ensures,
     )
