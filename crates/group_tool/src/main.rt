@@ -53,7 +53,7 @@ struct Given {
 
 /// What the program is given, or why it can't be had. Where the random source gives nothing, that is told
 /// as want of memory: a run never goes on under keys that others may know.
-fn given(rt: &(impl Env + RandomSource + Alloc<A = Global>)) -> Result<Given, ErrorKind> {
+fn given_by(rt: &(impl Env + RandomSource + Alloc<A = Global>)) -> Result<Given, ErrorKind> {
     let words = words_of(rt)?;
     match RandomState::new(rt) {
         Ok(hash_keys) => Ok(Given { words, hash_keys }),
@@ -65,7 +65,7 @@ fn main(rt: HostRuntime) -> ExitCode {
     let alloc = rt.alloc();
     drop(first_block(alloc));
     let mut messages = RealOutput::new(rt.stderr());
-    let status = match given(&rt) {
+    let status = match given_by(&rt) {
         Ok(Given { words, hash_keys }) => {
             let mut input = RealFiles::new(&rt, rt.stdin());
             let mut output = RealOutput::new(io::writer(&rt));
