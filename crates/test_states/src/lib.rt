@@ -1,0 +1,5 @@
+//! Tests of states that are saved.
+#![tactic(auto)]
+
+mod asked;
+mod saved_tests;
