@@ -1,0 +1,20 @@
+use Rattle.std.proofs.Common.{◌≡◌, ◌∙◌, ◌+◌, ℕ, List, length, map, sym, ap, subst, arith}
+use Rattle.std.proofs.lemmas.List.{length-map}
+use Rattle.pipe_aggs.specs.QueryTrees.{query_tree}
+use Rattle.pipe_model.specs.Rows.{rows_from}
+use Rattle.pipe_saving.proofs.SaveFacts.{extents-all, file-fair, file-is, marked}
+use Rattle.pipe_saving.proofs.StateFacts.{state-of}
+use Rattle.pipe_states.specs.Fair.{IsStateOf}
+use Rattle.pipe_states.specs.States.{state_rows, StateSeen}
+use Rattle.pipe_saving.proofs.saving.file_of.Goals as goal
+
+pub into_rows-requires : goal.into_rows-requires
+into_rows-requires c = extents-all (query_tree c.args.query.now) c.args.first (marked c.args.taken.now) c.args.groups.table c.args.groups.extents.items c.requires
+
+pub new-requires : goal.new-requires
+new-requires c =
+    let x = c.args.query.now in
+    let rows : c.in_ok-rows.rows.items ≡ state_rows (query_tree x) (rows_from (query_tree x) c.args.first (marked c.args.taken.now)) =
+    c.in_ok-rows.ensures x c.args.first (marked c.args.taken.now) c.query-known.ensures.sound c.query-known.ensures.groupable c.requires in
+    file-fair (query_tree x) c.args.first (marked c.args.taken.now) _ c.in_ok-rows.rows.items c.requires.few
+    (omega (arith, c.len-end.ensures, length-map c.args.taken.now (λ s. s.value))) rows
