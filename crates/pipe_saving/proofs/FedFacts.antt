@@ -1,5 +1,5 @@
 -- Groups that are fed rows, one by one.
-use Rattle.std.proofs.Common.{◌≡◌, ◌∙◌, ℕ, suc, ◌+◌, ◌<◌, ◌≤◌, ◌^◌, Bool, true, false, List, [], ◌∷◌, ◌++◌, length, map, set, All, Option, nat_lt, refl, sym, ap, subst, arith}
+use Rattle.std.proofs.Common.{◌≡◌, ◌∙◌, ℕ, suc, ◌+◌, ◌-◌, ◌<◌, ◌≤◌, ◌^◌, Bool, true, false, List, [], ◌∷◌, ◌++◌, length, map, set, All, Option, nat_lt, refl, sym, ap, subst, arith}
 use Rattle.std.proofs.lemmas.Bool.{ltb-false, ltb-true}
 use Rattle.std.proofs.lemmas.List.{append_assoc, append-nil, length-append, length-map, map-append}
 use Rattle.std.proofs.lemmas.List.Elements.{All-append, All-cons, All-nil, All-weaker}
@@ -82,8 +82,8 @@ module _ (s : Shape) (taken : List SpillRow) (old new : Table) (extents more : L
   pub fed-more : IsRow s.key_types s.input_types r → ((rows : List SpillRow) → Holds old.shape.prototypes old.groups rows → Holds old.shape.prototypes new.groups (rows ++ r ∷ []))
       → IsFed s (taken ++ r ∷ []) new more
   fed-more typed holds = record {
-    shape = done.1.0 ∙ h.shape;
-    limit = done.1.1 ∙ h.limit;
+    shape = done.1 ∙ h.shape;
+    limit = done.2 ∙ h.limit;
     holds = subst (λ (x : Shape). (rows : List SpillRow) → Holds x.prototypes old.groups rows → Holds x.prototypes new.groups (rows ++ r ∷ [])) h.shape holds taken h.holds;
     typed = All-append (IsRow s.key_types s.input_types) taken (r ∷ []) h.typed (All-cons (IsRow s.key_types s.input_types) r [] typed (All-nil (IsRow s.key_types s.input_types)));
     extents = extents-then;

@@ -186,7 +186,8 @@ module _ (q : QueryTree) (rs : List Row) where
         ap (λ (n : ℕ). map (row_in ks results firsts turned) (range_with_len 0 n)) firsts-count
         ∙ range-map (row_in ks results firsts turned) (state_row q rs) keys [] 0 (λ n lt.
         let extent = extent-there n lt in
-        λ i. record {
+        let none : 0 + n ≡ n = omega arith in
+        ap (row_in ks results firsts turned) none ∙ λ i. record {
           key = key-there n lt i;
           first = first-there n lt i;
           last = (extent i).last;

@@ -1,6 +1,5 @@
 use Rattle.std.proofs.Common.{◌≡◌, ◌∙◌, ◌+◌, ◌<◌, ◌^◌, ◌∷◌, [], ◌++◌, ℕ, List, length, map, sym, ap, subst, arith}
 use Rattle.std.proofs.lemmas.List.{length-map}
-use Rattle.std.specs.declared.snapshot.Snapshot.{Snapshot}
 use Rattle.pipe_aggs.specs.CheckedQuery.{input_types}
 use Rattle.pipe_aggs.specs.QueryTrees.{query_tree}
 use Rattle.pipe_columns.specs.declared.data_chunk.DataChunk.{DataChunk}
@@ -18,11 +17,8 @@ use Rattle.pipe_saving.proofs.FedFacts.{fed-next, few-more, few-next, row-is, ro
 use Rattle.pipe_spill.specs.KeyTypes.{AreOfTypes}
 use Rattle.pipe_spill.specs.SpillRow.{IsRow, spilled}
 use Rattle.pipe_spill.specs.declared.spill_row.SpillRow.{SpillRow}
+use Rattle.pipe_saving.proofs.SaveFacts.{marked}
 use Rattle.pipe_saving.proofs.saving.feed_chunk.Goals as goal
-
--- the chunks that marks stand for
-abbrev marked : List (Snapshot DataChunk) → List DataChunk
-marked marks = map (λ s. s.value) marks
 
 pub feed_row-requires-clause-there : goal.feed_row-requires-clause-there
 feed_row-requires-clause-there c =
@@ -37,7 +33,7 @@ feed_row-requires-clause-tuple c =
     let q : QueryTree = query_tree c.args.query.now in
     let n = c.loop-row.row in
     let own : IsRowOf q (row_at c.in_ok-rows.rows n) = row-of q c.in_ok-rows.rows n c.in_ok-rows.ensures.typed (feed_row-requires-clause-there c) in
-    subst (λ (s : Shape). AreOfTypes s.key_types (row_at c.in_ok-rows.rows n)) (sym c.loop-row.invariant.shape) own.key.fit
+    subst (λ (s : Shape). AreOfTypes s.key_types (row_at c.in_ok-rows.rows n).key) (sym c.loop-row.invariant.shape) own.key.fit
 
 pub feed_row-requires-clause-typed : goal.feed_row-requires-clause-typed
 feed_row-requires-clause-typed c =
@@ -48,7 +44,7 @@ feed_row-requires-clause-typed c =
     let few = few-more c.args.first (marked c.args.taken.now) c.args.chunk.now c.requires.few in
     let count = length-map c.args.taken.now (λ s. s.value) in
     let read = row-is q _ frame n c.in_ok-rows.rows c.in_ok-rows.ensures.rows lt in
-    let typed = row-typed q _ frame n c.in_ok-rows.rows c.in_ok-rows.ensures.rows c.in_ok-rows.ensures.typed (omega (arith, few.1, count, c.len-index.ensures)) (omega (arith, few.0)) lt in
+    let typed = row-typed q _ frame n c.in_ok-rows.rows c.in_ok-rows.ensures.rows c.in_ok-rows.ensures.typed (omega (arith, few.1, count)) (omega (arith, few.0)) lt in
     subst (λ (s : Shape). IsRow s.key_types s.input_types (spilled s.key_types (row_at c.in_ok-rows.rows n))) (sym c.loop-row.invariant.shape)
     (subst (λ (r : Row). IsRow (key_types q) (input_types q) (spilled (key_types q) r)) (sym read) typed)
 
@@ -57,15 +53,31 @@ feed_row-requires-clause-limit c = c.loop-row.invariant.limit
 
 pub feed_row-requires-clause-few : goal.feed_row-requires-clause-few
 feed_row-requires-clause-few c =
-    let lt = omega (arith, c.height-height.ensures.height, c.loop-row-test.true) in
+    let lt : c.loop-row.row < c.args.chunk.now.frame.height = omega (arith, c.height-height.ensures.height, c.loop-row-test.true) in
     (few-next (query_tree c.args.query.now) c.args.first (marked c.args.taken.now) c.args.chunk.now _ c.loop-row.row _ _ c.requires.few lt c.loop-row.invariant).0
 
 pub feed_row-requires-clause-counts : goal.feed_row-requires-clause-counts
 feed_row-requires-clause-counts c =
-    let lt = omega (arith, c.height-height.ensures.height, c.loop-row-test.true) in
+    let lt : c.loop-row.row < c.args.chunk.now.frame.height = omega (arith, c.height-height.ensures.height, c.loop-row-test.true) in
     (few-next (query_tree c.args.query.now) c.args.first (marked c.args.taken.now) c.args.chunk.now _ c.loop-row.row _ _ c.requires.few lt c.loop-row.invariant).1
 
 pub loop-row-preserved : goal.loop-row-preserved
 loop-row-preserved c =
     let lt : c.loop-row.row < c.args.chunk.now.frame.height = omega (arith, c.height-height.ensures.height, c.loop-row-test.true) in
     fed-next (query_tree c.args.query.now) _ _ c.args.chunk.now.frame c.loop-row.row c.in_ok-rows.rows _ _ _ _ c.in_ok-rows.ensures.rows lt c.in_ok-feed_row.ensures c.loop-row.invariant
+
+pub returns : goal.returns
+returns c =
+    let q : QueryTree = query_tree c.args.query.now in
+    let marks = c.args.taken.now in
+    let chunk : DataChunk = c.args.chunk.now in
+    let first = c.args.first in
+    let before : List SpillRow = spilled_from q first (marked marks) in
+    let t = c.loop-row.groups.table in
+    let extents = c.loop-row.groups.extents.items in
+    let count = length-map marks (λ s. s.value) in
+    let at : first + length marks ≡ first + length (marked marks) = omega (arith, count) in
+    let whole : c.loop-row.row ≡ chunk.frame.height = omega (arith, c.loop-row-test.false, c.height-height.ensures.height) in
+    taken-more q first (marked marks) chunk c.args.groups.now.table t c.args.groups.now.extents.items extents c.requires.before c.requires.fits c.height-height.ensures.types c.requires.few
+    (subst (λ (k : ℕ). IsFed (shape_of q) (rows_so_far q before k chunk.frame chunk.frame.height) t extents) at
+    (subst (λ (n : ℕ). IsFed (shape_of q) (rows_so_far q before (first + length marks) chunk.frame n) t extents) whole c.loop-row.invariant))
