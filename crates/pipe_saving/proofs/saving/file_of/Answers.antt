@@ -26,5 +26,6 @@ returns-clause-of_query c =
     let taken : List DataChunk = marked c.args.taken.now in
     let rows : c.in_ok-rows.rows.items ≡ state_rows (query_tree x) (rows_from (query_tree x) c.args.first taken) =
     c.in_ok-rows.ensures x c.args.first taken c.query-known.ensures.sound c.query-known.ensures.groupable c.requires in
-    let is = file-is (query_tree x) c.args.first taken _ c.in_ok-rows.rows.items (omega (arith, length-map c.args.taken.now (λ s. s.value))) rows in
+    let end : c.args.first + length c.args.taken.now ≡ c.args.first + length taken = omega (arith, length-map c.args.taken.now (λ s. s.value)) in
+    let is = file-is (query_tree x) c.args.first taken (c.args.first + length c.args.taken.now) c.in_ok-rows.rows.items end rows in
     subst (IsStateOf (query_tree x)) (sym (c.new.ensures ∙ is)) (state-of x c.args.first taken c.query-known.ensures.sound c.query-known.ensures.groupable c.requires.few c.requires.fit c.requires.typed)
