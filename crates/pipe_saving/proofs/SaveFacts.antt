@@ -1,11 +1,8 @@
 -- States of chunks that are taken one by one.
-use Rattle.std.proofs.Common.{◌≡◌, ◌∙◌, ℕ, ◌+◌, ◌<◌, ◌≤◌, ◌^◌, List, [], ◌∷◌, ◌++◌, length, map, take, drop, get_or, All, refl, sym, ap, subst, arith}
+use Rattle.std.proofs.Common.{◌≡◌, ◌∙◌, ℕ, ◌+◌, ◌<◌, List, [], ◌∷◌, ◌++◌, length, map, take, drop, get_or, sym, ap, subst, arith}
 use Rattle.std.specs.declared.snapshot.Snapshot.{Snapshot}
 use Rattle.std.proofs.lemmas.List.{length-append, length-map, map-append, take-append-drop, take_more}
 use Rattle.std.proofs.lemmas.List.Sums.{sum_by-append}
-use Rattle.pipe_aggs.specs.CheckedQuery.{IsSound}
-use Rattle.pipe_aggs.specs.QueryTrees.{query_tree}
-use Rattle.pipe_aggs.specs.declared.query.Query.{Query}
 use Rattle.pipe_columns.specs.declared.data_chunk.DataChunk.{DataChunk}
 use Rattle.pipe_groups.specs.Groups.{Group}
 use Rattle.pipe_keyed.specs.Tables.{Table}
@@ -18,7 +15,7 @@ use Rattle.pipe_saving.specs.Taken.{HasTaken, spilled_from}
 use Rattle.pipe_saving.proofs.StateFacts.{can-save}
 use Rattle.pipe_states.specs.Fair.{IsFair}
 use Rattle.pipe_states.specs.Parts.{part_of, saved}
-use Rattle.pipe_states.specs.States.{state_rows, StateSeen}
+use Rattle.pipe_states.specs.States.{state_rows}
 use Rattle.pipe_states.specs.declared.state_row.StateRow.{StateRow}
 use Rattle.pipe_states.proofs.FairFacts.{saved-fair}
 

@@ -1,5 +1,5 @@
 -- What a table of groups gives with their extents are the state rows of its rows.
-use Rattle.std.proofs.Common.{◌≡◌, ◌∙◌, ℕ, zero, suc, ◌+◌, ◌<◌, ◌≤◌, ◌^◌, List, [], ◌∷◌, ◌++◌, length, map, take, drop, get_or, All, Option, Some, None, option_map, refl, sym, ap, subst, arith}
+use Rattle.std.proofs.Common.{◌≡◌, ◌∙◌, ℕ, suc, ◌+◌, ◌<◌, ◌≤◌, ◌^◌, List, [], ◌∷◌, length, map, take, drop, get_or, All, Option, Some, None, option_map, refl, sym, ap, subst, arith}
 use Rattle.std.specs.List.{flat_map, range_with_len}
 use Rattle.std.proofs.lemmas.List.{drop_at, drop-map, get_or-map, length-append, length-map, take_at, take-map}
 use Rattle.std.proofs.lemmas.List.Elements.{All-append, All-head, All-map, All-nil, All-tail, All-weaker}
@@ -51,7 +51,6 @@ use Rattle.pipe_saving.proofs.FedFacts.{rows_from-length}
 use Rattle.pipe_states.specs.Fair.{CanSave, IsStateOf}
 use Rattle.pipe_states.specs.Parts.{part_of, saved}
 use Rattle.pipe_states.specs.States.{place_of, state_row, state_rows, tuples_of}
-use Rattle.pipe_states.specs.declared.state_row.StateRow.{StateRow}
 use Rattle.pipe_states.proofs.GivenSaved.{saved-of}
 use Rattle.pipe_states.proofs.PartFacts.{part-in_range}
 

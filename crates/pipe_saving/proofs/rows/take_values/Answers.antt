@@ -1,8 +1,7 @@
-use Rattle.std.proofs.Common.{◌≡◌, ◌∙◌, ◌+◌, ◌<◌, ◌∷◌, [], ◌++◌, List, length, drop, get_or, set, sym, ap, arith}
+use Rattle.std.proofs.Common.{◌≡◌, ◌∙◌, ◌+◌, ◌<◌, ◌∷◌, [], ◌++◌, List, length, drop, get_or, sym, ap, arith}
 use Rattle.std.proofs.lemmas.List.{get_or_default, length-set}
 use Rattle.pipe_columns.specs.declared.any_value.AnyValue.{AnyValue}
 use Rattle.pipe_columns.specs.Frame.{value_at}
-use Rattle.pipe_saving.specs.Lists.{values_in}
 use Rattle.pipe_saving.proofs.RowFacts.{drop-same, lists-behind, list-same, same-set, values-more}
 use Rattle.pipe_saving.proofs.rows.take_values.Goals as goal
 

@@ -1,4 +1,4 @@
-use Rattle.std.proofs.Common.{◌≡◌, ◌∙◌, ◌+◌, ◌<◌, ◌^◌, ◌∷◌, [], ◌++◌, ℕ, List, length, map, sym, ap, subst, arith}
+use Rattle.std.proofs.Common.{◌≡◌, ◌∙◌, ◌+◌, ◌<◌, ℕ, List, length, sym, ap, subst, arith}
 use Rattle.std.proofs.lemmas.List.{length-map}
 use Rattle.pipe_aggs.specs.CheckedQuery.{input_types}
 use Rattle.pipe_aggs.specs.QueryTrees.{query_tree}
@@ -13,7 +13,7 @@ use Rattle.pipe_model.specs.Output.{key_types}
 use Rattle.pipe_model.specs.Query.{QueryTree}
 use Rattle.pipe_saving.specs.Extents.{IsFed}
 use Rattle.pipe_saving.specs.Taken.{spilled_from}
-use Rattle.pipe_saving.proofs.FedFacts.{fed-next, few-more, few-next, row-is, row-of, rows-count, rows_so_far, so-far-none, taken-more}
+use Rattle.pipe_saving.proofs.FedFacts.{fed-next, few-more, few-next, row-is, row-of, rows-count, rows_so_far, taken-more}
 use Rattle.pipe_spill.specs.KeyTypes.{AreOfTypes}
 use Rattle.pipe_spill.specs.SpillRow.{IsRow, spilled}
 use Rattle.pipe_spill.specs.declared.spill_row.SpillRow.{SpillRow}

@@ -1,17 +1,9 @@
-use Rattle.std.proofs.Common.{◌≡◌, ◌∙◌, ℕ, List, length, map, take, drop, ap, sym, subst, arith}
+use Rattle.std.proofs.Common.{◌∙◌, List, length, map, take, drop, ap, arith}
 use Rattle.std.specs.List.{range_with_len}
 use Rattle.std.proofs.lemmas.Result.{IfOk-weaker}
-use Rattle.pipe_aggs.specs.CheckedQuery.{IsSound}
-use Rattle.pipe_aggs.specs.QueryTrees.{query_tree}
-use Rattle.pipe_aggs.specs.declared.query.Query.{Query}
-use Rattle.pipe_columns.specs.declared.data_chunk.DataChunk.{DataChunk}
-use Rattle.pipe_model.specs.Groupable.{IsGroupable}
-use Rattle.pipe_model.specs.Rows.{rows_from}
 use Rattle.pipe_saving.specs.declared.extent.Extent.{Extent}
 use Rattle.pipe_saving.specs.Lists.{extent_at, row_in}
-use Rattle.pipe_saving.specs.Taken.{HasTaken}
 use Rattle.pipe_saving.proofs.StateFacts.{count-fits, given-rows, IsGiven, width-fits}
-use Rattle.pipe_states.specs.States.{state_rows}
 use Rattle.pipe_saving.proofs.fed_groups.FedGroups.into_rows.Goals as goal
 
 pub rows_of-requires-clause-columns : goal.rows_of-requires-clause-columns
