@@ -2,4 +2,5 @@
 #![tactic(auto)]
 
 mod asked;
+mod memory_tests;
 mod saved_tests;

@@ -9,7 +9,7 @@ use std::alloc::Global;
 use std::test::Fail;
 
 /// Asks a test of the checked query.
-fn ask(
+pub(crate) fn ask(
     alloc: Global,
     query: &Query,
     test: fn(Global, &CheckedQuery<'_>) -> Result<bool, Fail>,
@@ -65,7 +65,7 @@ fn at(chunk: u32, row: u32) -> Place {
 }
 
 /// Whether a state is that of both chunks, of which the first has the position 7.
-fn is_of_both(file: &StateFile) -> bool {
+pub(crate) fn is_of_both(file: &StateFile) -> bool {
     let rows = file.rows();
     file.first() == 7
         && file.end() == 9
