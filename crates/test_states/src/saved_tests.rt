@@ -16,7 +16,7 @@ pub(crate) fn ask(
 ) -> Result<bool, Fail> {
     match query.check(alloc) {
         Ok(checked) => test(alloc, &checked),
-        Err(_) => Err("no query".into()),
+        Err(_) => Err("Query::check wants memory".into()),
     }
 }
 
