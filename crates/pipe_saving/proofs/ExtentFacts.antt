@@ -1,13 +1,14 @@
 -- The extents of groups with one more row.
-use Rattle.std.proofs.Common.{◌≡◌, ◌∙◌, ℕ, zero, suc, ◌+◌, ◌<◌, ◌≤◌, Bool, true, false, ◌||◌, cond, if◌then◌else◌, List, [], ◌∷◌, ◌++◌, length, map, get_or, set, All, Option, Some, None, refl, sym, ap, subst, arith}
+use Rattle.std.proofs.Common.{◌≡◌, ◌∙◌, ℕ, zero, suc, ◌<◌, ◌≤◌, Bool, true, false, ◌||◌, cond, if◌then◌else◌, List, [], ◌∷◌, ◌++◌, length, set, All, Option, Some, None, refl, sym, ap, arith}
 use Rattle.std.specs.List.{AllByRecursion, IsDistinct}
 use Rattle.std.specs.Option.{option_to_list}
+use Rattle.std.specs.Cmp.{nat_cmp_is}
 use Rattle.std.specs.Str.{bytes_eq}
 use Rattle.std.specs.declared.cmp.Ordering.{Ordering}
 use Rattle.std.specs.declared.cmp.Ordering.TheVariants.{Less, Equal, Greater}
 use Rattle.std.specs.Ordering.{is_lt, match_ordering, nat_cmp, ordering_then}
 use Rattle.std.proofs.lemmas.Cmp.{nat_list_eq_equiv}
-use Rattle.std.proofs.lemmas.List.{append-nil, length-append, length-map, map-append}
+use Rattle.std.proofs.lemmas.List.{append-nil, length-append, map-append}
 use Rattle.std.proofs.lemmas.List.Elements.{All-cons, All-nil, filter-append}
 use Rattle.std.proofs.lemmas.List.Sums.{count_by-le-length, length-filter}
 use Rattle.std.proofs.lemmas.Map.Keys.{IsDistinct-head, IsDistinct-tail}
@@ -31,28 +32,33 @@ use Rattle.pipe_states.proofs.EntryFacts.{last-of_lasts}
 abbrev later_of : Place → Place → Place
 later_of p l = if is_lt (place_cmp l p) then p else l
 
+-- a lesser number is below
+less : (m n : ℕ) → m < n → nat_cmp m n ≡ Less
+less m n h = sym (nat_cmp_is m n Less h)
+
 -- none is before the place that stands for none
 past-none : (p : Place) → later_of p no_place ≡ p
 past-none p = by p.chunk p.row where
   by : (c r : ℕ) → later_of (record { chunk = c; row = r }) no_place ≡ record { chunk = c; row = r }
   by zero zero = refl
-  by zero (suc r) = refl
-  by (suc c) r = refl
+  by zero (suc r) = ap (λ (o : Ordering). if is_lt (ordering_then (nat_cmp 0 0) o) then record { chunk = 0; row = suc r } else no_place) (less 0 (suc r) (omega arith))
+  by (suc c) r = ap (λ (o : Ordering). if is_lt (ordering_then o (nat_cmp 0 r)) then record { chunk = suc c; row = r } else no_place) (less 0 (suc c) (omega arith))
 
--- the later of two entries has the later place
-later-place : {V : Type 0} (f e : Place × V) → place_of (Some (match_ordering (place_cmp f.0 e.0) e f f)) ≡ later_of e.0 f.0
-later-place f e = by (place_cmp f.0 e.0) refl where
-  by : (o : Ordering) → place_cmp f.0 e.0 ≡ o → place_of (Some (match_ordering o e f f)) ≡ (if is_lt o then e.0 else f.0)
-  by Less h = refl
-  by Equal h = refl
-  by Greater h = refl
+module _ {V : Type 0} where
+  -- the later of two entries has the later place
+  later-place : (f e : Place × V) → place_of (Some (match_ordering (place_cmp f.0 e.0) e f f)) ≡ later_of e.0 f.0
+  later-place f e = by (place_cmp f.0 e.0) where
+    by : (o : Ordering) → place_of (Some (match_ordering o e f f)) ≡ (if is_lt o then e.0 else f.0)
+    by Less = refl
+    by Equal = refl
+    by Greater = refl
 
--- the greatest place with one more entry
-last-more : {V : Type 0} (es : List (Place × V)) (e : Place × V) → place_of (last_entry (es ++ e ∷ [])) ≡ later_of e.0 (place_of (last_entry es))
-last-more es e = ap place_of (sym (last-of_lasts (es ∷ (e ∷ []) ∷ []))) ∙ by (last_entry es) where
-  by : (o : Option (Place × V)) → place_of (last_entry (option_to_list o ++ e ∷ [])) ≡ later_of e.0 (place_of o)
-  by None = sym (past-none e.0)
-  by (Some f) = later-place f e
+  -- the greatest place with one more entry
+  last-more : (es : List (Place × V)) (e : Place × V) → place_of (last_entry (es ++ e ∷ [])) ≡ later_of e.0 (place_of (last_entry es))
+  last-more es e = ap place_of (sym (last-of_lasts (es ∷ (e ∷ []) ∷ []))) ∙ by (last_entry es) where
+    by : (o : Option (Place × V)) → place_of (last_entry (option_to_list o ++ e ∷ [])) ≡ later_of e.0 (place_of o)
+    by None = sym (past-none e.0)
+    by (Some f) = later-place f e
 
 -- ---- one key
 

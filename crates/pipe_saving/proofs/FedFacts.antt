@@ -1,17 +1,22 @@
 -- Groups that are fed rows, one by one.
-use Rattle.std.proofs.Common.{◌≡◌, ◌∙◌, ℕ, suc, ◌+◌, ◌<◌, ◌≤◌, ◌^◌, Bool, true, false, List, [], ◌∷◌, ◌++◌, length, map, set, All, Option, nat_lt, refl, sym, ap, subst, arith}
+use Rattle.std.proofs.Common.{◌≡◌, ◌∙◌, ℕ, suc, ◌+◌, ◌-◌, ◌<◌, ◌≤◌, ◌^◌, Bool, true, false, List, [], ◌∷◌, ◌++◌, length, map, set, All, Option, nat_lt, refl, sym, ap, subst, arith}
 use Rattle.std.proofs.lemmas.Bool.{ltb-false, ltb-true}
 use Rattle.std.proofs.lemmas.List.{append_assoc, append-nil, length-append, length-map, map-append}
 use Rattle.std.proofs.lemmas.List.Elements.{All-append, All-cons, All-nil, All-weaker}
 use Rattle.std.proofs.lemmas.List.FromFn.{length-map-range_with_len, map-range_with_len_more}
 use Rattle.std.proofs.lemmas.List.Sums.{sum_by-append, sum_by-cons}
+use Rattle.std.proofs.lemmas.Option.{unwrap_or-slice_get}
 use Rattle.pipe_columns.specs.declared.data_chunk.DataChunk.{DataChunk}
+use Rattle.pipe_columns.specs.declared.place.Place.{Place}
 use Rattle.pipe_columns.specs.Frame.{FitsSchema, FrameData, HoldsTypes}
 use Rattle.pipe_columns.specs.Row.{Row}
 use Rattle.pipe_groups.specs.Groups.{Group, is_covered, put}
 use Rattle.pipe_groups.specs.Holds.{FoundStands, HoldFewer, Holds, of_key}
 use Rattle.pipe_groups.specs.Shape.{Shape, shape_of}
 use Rattle.pipe_groups.proofs.PutFacts.{held_at-new}
+use Rattle.pipe_inputs.specs.ChunkRows.{no_row, row_at}
+use Rattle.pipe_inputs.specs.RowTypes.{IsRowOf}
+use Rattle.pipe_inputs.proofs.CellFacts.{row_at-chunk}
 use Rattle.pipe_keyed.specs.Keyed.{IsAt}
 use Rattle.pipe_keyed.specs.Tables.{HasGroups, IsTable, put_row, Table, TakesOne}
 use Rattle.pipe_keyed.specs.TakenRows.{rows_to, spilled_first}
@@ -30,16 +35,16 @@ use Rattle.pipe_spill.specs.declared.spill_row.SpillRow.{SpillRow}
 -- ---- one row
 
 -- an extent with the first row of its group
-abbrev first_extent : SpillRow → Extent
-first_extent r = record { last = r.place; rows = 1 }
+abbrev first_extent : Place → Extent
+first_extent p = record { last = p; rows = 1 }
 
--- what was done to extents for a row whose group stands at an index
-pub record ArePut (r : SpillRow) (i : ℕ) (old new : List Extent) : Type 0 where
-  pub there : i < length old → new ≡ set old i (with_place r.place (extent_at old i))
-  pub behind : length old ≤ i → new ≡ old ++ first_extent r ∷ []
+-- what was done to extents for a place in the group at an index
+pub record ArePut (p : Place) (i : ℕ) (old new : List Extent) : Type 0 where
+  pub there : i < length old → new ≡ set old i (with_place p (extent_at old i))
+  pub behind : length old ≤ i → new ≡ old ++ first_extent p ∷ []
 
 module _ (s : Shape) (taken : List SpillRow) (old new : Table) (extents more : List Extent) (r : SpillRow) (i : ℕ) (h : IsFed s taken old extents) (table : IsTable old)
-    (done : HasGroups old new (put_row old r)) (at : IsAt new.groups r.key i) (puts : ArePut r i extents more) where
+    (done : HasGroups old new (put_row old r)) (at : IsAt new.groups r.key i) (puts : ArePut r.place i extents more) where
   groups-are : new.groups ≡ after taken r s.prototypes old.groups
   groups-are = done.0 ∙ ap (λ (x : Shape). put x.prototypes r.key r.place r.values old.groups) h.shape
 
@@ -69,7 +74,7 @@ module _ (s : Shape) (taken : List SpillRow) (old new : Table) (extents more : L
         let outside : length old.groups ≤ i = omega (arith, le, as-many) in
         let absent = is-new taken r s.prototypes old.groups i outside stands.0 in
         puts.behind le
-        ∙ ap (λ (es : List Extent). es ++ first_extent r ∷ []) h.extents
+        ∙ ap (λ (es : List Extent). es ++ first_extent r.place ∷ []) h.extents
         ∙ sym (extents-new taken r s.prototypes old.groups absent (none-of old.groups h.holds r.key absent))
         ∙ ap (extents_of (taken ++ r ∷ [])) (sym groups-are)
 
@@ -77,8 +82,8 @@ module _ (s : Shape) (taken : List SpillRow) (old new : Table) (extents more : L
   pub fed-more : IsRow s.key_types s.input_types r → ((rows : List SpillRow) → Holds old.shape.prototypes old.groups rows → Holds old.shape.prototypes new.groups (rows ++ r ∷ []))
       → IsFed s (taken ++ r ∷ []) new more
   fed-more typed holds = record {
-    shape = done.1.0 ∙ h.shape;
-    limit = done.1.1 ∙ h.limit;
+    shape = done.1 ∙ h.shape;
+    limit = done.2 ∙ h.limit;
     holds = subst (λ (x : Shape). (rows : List SpillRow) → Holds x.prototypes old.groups rows → Holds x.prototypes new.groups (rows ++ r ∷ [])) h.shape holds taken h.holds;
     typed = All-append (IsRow s.key_types s.input_types) taken (r ∷ []) h.typed (All-cons (IsRow s.key_types s.input_types) r [] typed (All-nil (IsRow s.key_types s.input_types)));
     extents = extents-then;
@@ -117,6 +122,18 @@ pub so-far-length : (q : QueryTree) (before : List SpillRow) (i : ℕ) (frame : 
 so-far-length q before i frame n =
     length-append before (spilled_first q i frame n)
     ∙ ap (λ (m : ℕ). length before + m) (length-map (rows_to q i frame n) (spilled (key_types q)) ∙ length-map-range_with_len (λ m. row_of q i frame m) 0 n)
+
+-- the rows of a chunk are as many as it is high
+pub rows-count : (q : QueryTree) (i : ℕ) (frame : FrameData) (rs : List Row) → rs ≡ chunk_rows q i frame → length rs ≡ frame.height
+rows-count q i frame rs e = ap (λ (l : List Row). length l) e ∙ length-map-range_with_len (λ n. row_of q i frame n) 0 frame.height
+
+-- and each is one
+pub row-is : (q : QueryTree) (i : ℕ) (frame : FrameData) (n : ℕ) (rs : List Row) → rs ≡ chunk_rows q i frame → n < frame.height → row_at rs n ≡ row_of q i frame n
+row-is q i frame n rs e lt = ap (λ (l : List Row). row_at l n) e ∙ row_at-chunk q i frame n lt
+
+-- of the types of the query
+pub row-of : (q : QueryTree) (rs : List Row) (n : ℕ) → All (IsRowOf q) rs → n < length rs → IsRowOf q (row_at rs n)
+row-of q rs n all lt = subst (IsRowOf q) (sym (unwrap_or-slice_get rs n no_row)) (all n no_row lt)
 
 -- ---- chunks
 
@@ -181,3 +198,23 @@ taken-none q first t extents lt fed = record {
   few = record { rows = omega arith; positions = omega (arith, lt) };
   fed = fed;
 }
+
+-- ---- the next row of a chunk
+
+-- there is room for it
+pub few-next : (q : QueryTree) (first : ℕ) (taken : List DataChunk) (c : DataChunk) (i n : ℕ) (t : Table) (extents : List Extent) → AreFew first (taken ++ c ∷ []) → n < c.frame.height
+    → IsFed (shape_of q) (rows_so_far q (spilled_from q first taken) i c.frame n) t extents → TakesOne t × All (λ e. e.rows + 1 < 2 ^ 32) extents
+few-next q first taken c i n t extents few lt fed =
+    let before : List SpillRow = spilled_from q first taken in
+    let low : length (rows_so_far q before i c.frame n) + 1 < 2 ^ 32 =
+    omega (arith, lt, so-far-length q before i c.frame n, spilled-length q first taken, (few-more first taken c few).0) in
+    (takes-one (shape_of q) (rows_so_far q before i c.frame n) t extents fed low, counts-grow (shape_of q) (rows_so_far q before i c.frame n) t extents fed low)
+
+-- and then it is fed
+pub fed-next : (q : QueryTree) (before : List SpillRow) (i : ℕ) (frame : FrameData) (n : ℕ) (rs : List Row) (t new : Table) (extents more : List Extent) → rs ≡ chunk_rows q i frame → n < frame.height
+    → ((s : Shape) (taken : List SpillRow) → IsFed s taken t extents → IsFed s (taken ++ spilled s.key_types (row_at rs n) ∷ []) new more)
+    → IsFed (shape_of q) (rows_so_far q before i frame n) t extents → IsFed (shape_of q) (rows_so_far q before i frame (n + 1)) new more
+fed-next q before i frame n rs t new extents more e lt step fed =
+    subst (λ (rows : List SpillRow). IsFed (shape_of q) rows new more)
+    (ap (λ (r : Row). rows_so_far q before i frame n ++ spilled (key_types q) r ∷ []) (row-is q i frame n rs e lt) ∙ sym (so-far-more q before i frame n))
+    (step (shape_of q) (rows_so_far q before i frame n) fed)

@@ -1,39 +1,58 @@
 -- What a table of groups gives with their extents are the state rows of its rows.
-use Rattle.std.proofs.Common.{◌≡◌, ◌∙◌, ℕ, zero, suc, ◌+◌, ◌<◌, ◌≤◌, ◌^◌, List, [], ◌∷◌, ◌++◌, length, map, take, drop, get_or, All, Option, Some, None, option_map, refl, sym, ap, subst, arith}
-use Rattle.std.specs.List.{range_with_len}
-use Rattle.std.proofs.lemmas.List.{drop_at, get_or-map, length-map, take_at, take-map, drop-map}
-use Rattle.std.proofs.lemmas.List.Elements.{All-head, All-map, All-tail, All-weaker}
+use Rattle.std.proofs.Common.{◌≡◌, ◌∙◌, ℕ, suc, ◌+◌, ◌<◌, ◌≤◌, ◌^◌, List, [], ◌∷◌, length, map, take, drop, get_or, All, Option, Some, None, option_map, refl, sym, ap, subst, arith}
+use Rattle.std.specs.List.{flat_map, range_with_len}
+use Rattle.std.proofs.lemmas.List.{drop_at, drop-map, get_or-map, length-append, length-map, take_at, take-map}
+use Rattle.std.proofs.lemmas.List.Elements.{All-append, All-head, All-map, All-nil, All-tail, All-weaker}
+use Rattle.std.proofs.lemmas.List.FromFn.{get_or-range_with_len, length-range_with_len}
+use Rattle.std.proofs.lemmas.List.Sums.{sum_by-cons}
 use Rattle.std.proofs.lemmas.Simd.{map-map}
 use Rattle.pipe_columns.specs.declared.any_value.AnyValue.{AnyValue}
+use Rattle.pipe_columns.specs.declared.data_chunk.DataChunk.{DataChunk}
 use Rattle.pipe_columns.specs.declared.data_type.DataType.{DataType}
 use Rattle.pipe_columns.specs.declared.place.Place.{Place}
-use Rattle.pipe_columns.specs.Frame.{ColumnData, frame_of, FrameData, row_at, value_at}
-use Rattle.pipe_columns.specs.Groups.{sorted_keys}
+use Rattle.pipe_columns.specs.declared.schema.Field.{Field}
+use Rattle.pipe_columns.specs.Frame.{ColumnData, columns_from, field_of, FrameData, HoldsTypes, row_at, value_at}
 use Rattle.pipe_columns.specs.Key.{code}
 use Rattle.pipe_columns.specs.Place.{first_entry, last_entry}
 use Rattle.pipe_columns.specs.Row.{Row}
 use Rattle.pipe_columns.proofs.AscendingFacts.{sorted-holds}
+use Rattle.pipe_aggs.specs.CheckedQuery.{input_types, IsSound}
+use Rattle.pipe_aggs.specs.QueryTrees.{query_tree}
+use Rattle.pipe_aggs.specs.declared.query.Query.{Query}
 use Rattle.pipe_inputs.specs.RowTypes.{IsRowOf}
+use Rattle.pipe_inputs.proofs.TypeFacts as TypeFacts
 use Rattle.pipe_model.specs.Answer.{aggs_from, answer_row, rows_at, tuple_cmp}
-use Rattle.pipe_model.specs.Output.{key_types, output_schema}
+use Rattle.pipe_model.specs.Expr.{Expr, name_of}
+use Rattle.pipe_model.specs.Groupable.{IsGroupable}
+use Rattle.pipe_model.specs.Output.{agg_fields, input_type, key_types, output_schema}
 use Rattle.pipe_model.specs.Query.{QueryTree}
-use Rattle.pipe_model.specs.Rows.{HaveDistinctPlaces, keys_of}
+use Rattle.pipe_model.specs.Rows.{chunk_rows, HaveDistinctPlaces, keys_of, row_of, rows_from, total_height}
+use Rattle.pipe_model.specs.Typing.{known_type}
 use Rattle.pipe_spill.specs.KeyTypes.{AreOfTypes}
-use Rattle.pipe_spill.specs.SpillRow.{spilled}
+use Rattle.pipe_spill.specs.SpillRow.{HasValues, spilled}
 use Rattle.pipe_spill.specs.declared.spill_row.SpillRow.{SpillRow}
 use Rattle.pipe_spill.proofs.Tuples.{as_long}
-use Rattle.pipe_groups.specs.Given.{in_order}
-use Rattle.pipe_groups.specs.Groups.{Group, group_keys, group_of, no_group}
+use Rattle.pipe_groups.specs.Given.{in_order, IsFrameOfGroups}
+use Rattle.pipe_groups.specs.Groups.{Group, group_of, no_group}
 use Rattle.pipe_groups.specs.Holds.{entries_of, of_key}
-use Rattle.pipe_groups.specs.QueryRows.{ArePlacedRows, HoldRowsOf}
+use Rattle.pipe_groups.specs.QueryRows.{ArePlaced, ArePlacedRows, HoldRowsOf}
+use Rattle.pipe_groups.specs.Shape.{IsShape, Shape, shape_of}
 use Rattle.pipe_groups.proofs.ByPlaceAnswer.{keys-coded}
+use Rattle.pipe_groups.proofs.ByPlaceFacts.{held-placed}
 use Rattle.pipe_groups.proofs.CodedFacts.{spilled-at}
-use Rattle.pipe_groups.proofs.FrameRows.{answer_row-length, row-frame}
+use Rattle.pipe_groups.proofs.FrameRows.{answer_row-length, frame-fields, row-frame}
+use Rattle.pipe_keyed.specs.Tables.{IsTable, Table}
 use Rattle.pipe_saving.specs.declared.extent.Extent.{Extent}
 use Rattle.pipe_saving.specs.Extents.{extent_of, extents_of}
 use Rattle.pipe_saving.specs.Lists.{extent_at, no_extent, no_place, row_in, values_in}
+use Rattle.pipe_saving.specs.Refusals.{AllFit, AreFew}
+use Rattle.pipe_saving.specs.Taken.{HasTaken}
+use Rattle.pipe_saving.proofs.FedFacts.{rows_from-length}
+use Rattle.pipe_states.specs.Fair.{CanSave, IsStateOf}
+use Rattle.pipe_states.specs.Parts.{part_of, saved}
 use Rattle.pipe_states.specs.States.{place_of, state_row, state_rows, tuples_of}
-use Rattle.pipe_states.specs.declared.state_row.StateRow.{StateRow}
+use Rattle.pipe_states.proofs.GivenSaved.{saved-of}
+use Rattle.pipe_states.proofs.PartFacts.{part-in_range}
 
 -- ---- lists
 
@@ -166,10 +185,119 @@ module _ (q : QueryTree) (rs : List Row) where
         ap (λ (n : ℕ). map (row_in ks results firsts turned) (range_with_len 0 n)) firsts-count
         ∙ range-map (row_in ks results firsts turned) (state_row q rs) keys [] 0 (λ n lt.
         let extent = extent-there n lt in
-        λ i. record {
+        let none : 0 + n ≡ n = omega arith in
+        ap (row_in ks results firsts turned) none ∙ λ i. record {
           key = key-there n lt i;
           first = first-there n lt i;
           last = (extent i).last;
           rows = (extent i).rows;
           results = results-there n lt i;
         })
+
+-- ---- where rows stand
+
+-- the rows of a chunk have numbers below its height
+chunk-low : (q : QueryTree) (i : ℕ) (frame : FrameData) (n : ℕ) → frame.height ≤ n → All (λ r. r.place.row < n) (chunk_rows q i frame)
+chunk-low q i frame n le =
+    All-map (λ (r : Row). r.place.row < n) (row_of q i frame) (range_with_len 0 frame.height)
+    (λ k d lt. omega (arith, le, get_or-range_with_len 0 frame.height k d (omega (arith, lt, length-range_with_len 0 frame.height)), lt, length-range_with_len 0 frame.height))
+
+-- so those of chunks are below any number above that of all rows
+rows-low : (q : QueryTree) (i : ℕ) (cs : List DataChunk) (n : ℕ) → total_height cs < n → All (λ r. r.place.row < n) (rows_from q i cs)
+rows-low q i [] n lt = All-nil (λ (r : Row). r.place.row < n)
+rows-low q i (c ∷ cs) n lt =
+    let sum = sum_by-cons (λ (x : DataChunk). x.frame.height) c cs in
+    All-append (λ (r : Row). r.place.row < n) (chunk_rows q i c.frame) (rows_from q (i + 1) cs)
+    (chunk-low q i c.frame n (omega (arith, sum, lt))) (rows-low q (i + 1) cs n (omega (arith, sum, lt)))
+
+-- the rows of few chunks have places and values that a program can hold
+rows-valued : (q : QueryTree) (first : ℕ) (cs : List DataChunk) → AreFew first cs → All (IsRowOf q) (rows_from q first cs) → All (HasValues (key_types q) (input_types q)) (rows_from q first cs)
+rows-valued q first cs few typed =
+    λ k d lt.
+    let r = get_or (rows_from q first cs) k d in
+    let own : IsRowOf q r = typed k d lt in
+    let within = (part-in_range q first cs).within k d lt in
+    let row = rows-low q first cs (2 ^ 32) few.rows k d lt in
+    record {
+      chunk = omega (arith, within.below, few.positions);
+      row = row;
+      key = record { of_types = own.key.fit; utf8 = own.key.utf8 };
+      inputs = record { of_types = own.inputs.fit; utf8 = own.inputs.utf8 };
+    }
+
+-- ---- by what a table gives
+
+-- the columns of a frame of groups are no fewer than those of their keys
+pub width-fits : (s : Shape) (gs : List Group) (f : FrameData) → IsShape s → IsFrameOfGroups s gs f → length s.key_types ≤ length f.columns
+width-fits s gs f shape is =
+    let q : QueryTree = shape.query in
+    let field : Expr → Field = λ e. record { name = name_of e; dtype = known_type e q.schema } in
+    let type : Expr → DataType = λ e. known_type e q.schema in
+    let more : List Field = flat_map (λ a. agg_fields a.name a.kind (input_type q.schema a.input)) q.aggs in
+    let types = ap (λ (x : Shape). length x.key_types) shape.of_query ∙ length-map q.keys type in
+    let fields = ap (λ (x : Shape). length x.fields) shape.of_query ∙ length-append (map field q.keys) more in
+    let keys = length-map q.keys field in
+    let columns = ap (λ (x : FrameData). length x.columns) is.frame_is ∙ sym (length-map (columns_from 0 s.fields is.rows) field_of) ∙ ap (λ (l : List Field). length l) (frame-fields 0 s.fields is.rows) in
+    omega (arith, types, fields, keys, columns)
+
+-- there are as many extents as first places
+pub count-fits : (gs : List Group) (extents turned : List Extent) (order : List ℕ) (firsts : List Place) → turned ≡ map (extent_at extents) order → map (group_of gs) order ≡ in_order gs
+    → map Some firsts ≡ map (λ g. g.first) (in_order gs) → length turned ≡ length firsts
+count-fits gs extents turned order firsts is ordered are =
+    ap (λ (es : List Extent). length es) is ∙ length-map order (extent_at extents)
+    ∙ sym (length-map order (group_of gs)) ∙ ap (λ (l : List Group). length l) ordered
+    ∙ sym (length-map (in_order gs) (λ (g : Group). g.first)) ∙ ap (λ (l : List (Option Place)). length l) (sym are) ∙ length-map firsts (λ (p : Place). Some p)
+
+-- what a table gives in order
+pub record IsGiven (t : Table) (extents : List Extent) (order : List ℕ) (turned : List Extent) (frame : FrameData) (firsts : List Place) (width : ℕ) : Type 0 where
+  pub table : IsTable t
+  pub within : All (λ i. i < length t.groups) order
+  pub ordered : map (group_of t.groups) order ≡ in_order t.groups
+  pub turned_are : turned ≡ map (extent_at extents) order
+  pub frame_is : IsFrameOfGroups t.shape (in_order t.groups) frame
+  pub firsts_are : map Some firsts ≡ map (λ g. g.first) (in_order t.groups)
+  pub width_is : width ≡ length t.shape.key_types
+
+-- where it has taken chunks it is their state rows
+pub given-rows : (x : Query) (first : ℕ) (taken : List DataChunk) (t : Table) (extents : List Extent) (order : List ℕ) (turned : List Extent) (frame : FrameData) (firsts : List Place) (width : ℕ)
+    → IsGiven t extents order turned frame firsts width → IsSound x → IsGroupable (query_tree x) → HasTaken (query_tree x) first taken t extents
+    → map (row_in (map (λ c. c.values) (take width frame.columns)) (map (λ c. c.values) (drop width frame.columns)) firsts turned) (range_with_len 0 (length firsts))
+    ≡ state_rows (query_tree x) (rows_from (query_tree x) first taken)
+given-rows x first taken t extents order turned frame firsts width g sound groupable h =
+    let q : QueryTree = query_tree x in
+    let rs : List Row = rows_from q first taken in
+    let own : HoldRowsOf q t.groups rs = record {
+      groupable = groupable;
+      typed = TypeFacts.rows-typed x first taken sound h.fit h.typed;
+      apart = g.table.apart;
+      holds = h.fed.holds;
+    } in
+    let distinct : HaveDistinctPlaces rs = (part-in_range q first taken).distinct in
+    let placed : ArePlaced (shape_of q) t.groups frame firsts = record {
+      frame_is = subst (λ (s : Shape). IsFrameOfGroups s (in_order t.groups) frame) h.fed.shape g.frame_is;
+      firsts_are = g.firsts_are;
+    } in
+    let rows : ArePlacedRows q rs (tuples_of rs) frame firsts = held-placed q rs t.groups frame firsts own distinct placed in
+    let wide : width ≡ length (key_types q) = g.width_is ∙ ap (λ (s : Shape). length s.key_types) h.fed.shape in
+    ap (λ (n : ℕ). map (row_in (map (λ c. c.values) (take n frame.columns)) (map (λ c. c.values) (drop n frame.columns)) firsts turned) (range_with_len 0 (length firsts))) wide
+    ∙ rows-are q rs own.typed frame firsts rows turned (g.turned_are ∙ turned-are q rs t.groups own distinct extents h.fed.extents order g.within g.ordered)
+
+-- ---- the state of chunks
+
+-- chunks that were taken can be saved
+pub can-save : (q : QueryTree) (first : ℕ) (taken : List DataChunk) → AreFew first taken → CanSave (part_of q first taken)
+can-save q first taken few = record {
+  in_range = part-in_range q first taken;
+  range = omega arith;
+  end = few.positions;
+  rows = rows-low q first taken (2 ^ 32) few.rows;
+  few = omega (arith, rows_from-length q first taken, few.rows);
+}
+
+-- their state is one of the query
+pub state-of : (x : Query) (first : ℕ) (taken : List DataChunk) → IsSound x → IsGroupable (query_tree x) → AreFew first taken → AllFit (query_tree x).schema taken → All (λ c. HoldsTypes c.frame) taken
+    → IsStateOf (query_tree x) (saved (query_tree x) (part_of (query_tree x) first taken))
+state-of x first taken sound groupable few fit typed =
+    let q : QueryTree = query_tree x in
+    saved-of q (part_of q first taken) groupable
+    (rows-valued q first taken few (TypeFacts.rows-typed x first taken sound fit typed)) (omega (arith, rows_from-length q first taken, few.rows))

@@ -22,10 +22,10 @@ abbrev pub extents_of : List SpillRow → List Group → List Extent
 extents_of rows gs = map (λ g. extent_of rows g.key) gs
 
 -- a table of a shape, without a limit, holds rows, and beside its groups stand their extents
-pub record IsFed (s : Shape) (rows : List SpillRow) (t : Table) (extents : List Extent)
+pub record IsFed (s : Shape) (rows : List SpillRow) (t : Table) (beside : List Extent)
     : Type 0 where
   pub shape : t.shape ≡ s
   pub limit : t.limit ≡ None
   pub holds : Holds s.prototypes t.groups rows
   pub typed : AreRows s.key_types s.input_types rows
-  pub extents : extents ≡ extents_of rows t.groups
+  pub extents : beside ≡ extents_of rows t.groups

@@ -1,5 +1,5 @@
 -- Chunks that were taken to be saved.
-use Rattle.std.specs.Prelude.{◌+◌, ◌<◌, ◌^◌, ℕ, List, All, length, map}
+use Rattle.std.specs.Prelude.{ℕ, List, All, map}
 use Rattle.pipe_columns.specs.declared.data_chunk.DataChunk.{DataChunk}
 use Rattle.pipe_columns.specs.Frame.{HoldsTypes}
 use Rattle.pipe_aggs.specs.declared.query.Query.{Query}

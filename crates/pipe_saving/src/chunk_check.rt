@@ -22,7 +22,7 @@ fn first_misfit(chunks: &[DataChunk], schema: &Schema) -> Option<usize>
 }
 
 /// How many rows chunks have, where they are fewer than 2^32.
-fn rows_of(chunks: &[DataChunk]) -> Option<u64>
+fn total_rows(chunks: &[DataChunk]) -> Option<u64>
     ensures some { IfSome result (λ n. n ≡ total_height chunks.now) }
     ensures few { IfSome result (λ n. n < 2 ^ 32) }
     ensures none { IfNone result (2 ^ 32 ≤ total_height chunks.now) }
@@ -52,7 +52,7 @@ pub(crate) fn check_chunks(
     if let Some(chunk) = first_misfit(chunks, schema) {
         return Err(SaveError::Schema { chunk });
     }
-    if rows_of(chunks).is_none() {
+    if total_rows(chunks).is_none() {
         return Err(SaveError::TooLarge);
     }
     if chunks.len() >= (1 << 32) - first as usize {

@@ -43,6 +43,26 @@ fn feed_chunk(
     Ok(())
 }
 
+/// The state of chunks that groups are fed, of which marks are at hand.
+fn file_of(
+    alloc: Global,
+    query: &CheckedQuery<'_>,
+    first: u32,
+    groups: FedGroups,
+    taken: &[Snapshot<DataChunk>],
+) -> Result<StateFile, AllocError>
+    requires { HasTaken (query_tree query.now) first (map (λ s. s.value) taken.now)
+        groups.table groups.extents.items }
+    ensures state { IfOk result (λ f. let q = query_tree query.now in
+        f ≡ saved q (part_of q first (map (λ s. s.value) taken.now))) }
+    ensures of_query { IfOk result (IsStateOf (query_tree query.now)) }
+{
+    let end = first + taken.len() as u32;
+    let _known = query.query();
+    let rows = groups.into_rows(alloc)?;
+    Ok(StateFile::new(first, end, rows))
+}
+
 /// The state of chunks that come one by one. Contracts see the query, the position of the first chunk
 /// and the chunks taken, though of each only a mark without bytes is kept.
 #[derive(Drop)]
@@ -141,11 +161,9 @@ impl<'a> Saving<'a> {
             query,
             first,
             groups,
+            rows: _,
             taken,
-            ..
         } = self;
-        let end = first + taken.len() as u32;
-        let rows = groups.into_rows(alloc, query)?;
-        Ok(StateFile::new(first, end, rows))
+        file_of(alloc, query, first, groups, &taken)
     }
 }

@@ -1,8 +1,7 @@
-use Rattle.std.proofs.Common.{◌≡◌, ◌∙◌, ◌+◌, ◌<◌, ◌∷◌, [], ◌++◌, List, length, drop, get_or, set, sym, ap, arith}
-use Rattle.std.proofs.lemmas.List.{get_or_read, length-set}
+use Rattle.std.proofs.Common.{◌≡◌, ◌∙◌, ◌+◌, ◌<◌, ◌∷◌, [], ◌++◌, List, length, drop, get_or, sym, ap, arith}
+use Rattle.std.proofs.lemmas.List.{get_or_default, length-set}
 use Rattle.pipe_columns.specs.declared.any_value.AnyValue.{AnyValue}
 use Rattle.pipe_columns.specs.Frame.{value_at}
-use Rattle.pipe_saving.specs.Lists.{values_in}
 use Rattle.pipe_saving.proofs.RowFacts.{drop-same, lists-behind, list-same, same-set, values-more}
 use Rattle.pipe_saving.proofs.rows.take_values.Goals as goal
 
@@ -13,7 +12,7 @@ loop-i-preserved c =
     let all : List (List AnyValue) = c.args.lists.now in
     let now : List (List AnyValue) = c.loop-i.lists in
     let there : i < length now = omega (arith, c.loop-i-test.true, c.loop-i.invariant.many) in
-    let read : c.index-lists-i.result ≡ get_or now i [] = get_or_read now i c.index-lists-i.result there c.index-lists-i.is [] in
+    let read : get_or now i c.index-lists-i.result ≡ get_or now i [] = get_or_default now i c.index-lists-i.result [] there in
     let own : get_or now i [] ≡ get_or all i [] = list-same now all i c.loop-i.invariant.behind in
     let value : c.take_out.result ≡ value_at (get_or all i []) n = c.take_out.ensures.value ∙ ap (λ (l : List AnyValue). value_at l n) (read ∙ own) in
     record {
