@@ -1,6 +1,6 @@
 -- What arrivals name, where what came is what lists of senders hold.
 use Rattle.std.proofs.Common.{◌≡◌, ◌≢◌, ◌∙◌, ◌++◌, ◌∷◌, ◌+◌, ◌<◌, ◌≤◌, ◌==◌, ℕ, zero, suc, Bool, true, false, Option, Some, List, [], length, map, sym, refl, ap, subst, arith, append_assoc, append-nil}
-use Rattle.std.specs.Prelude.{filter, cond, flat_map, slice_get, slice_index_or, slice_set}
+use Rattle.std.specs.Prelude.{filter, cond, slice_get, slice_index_or}
 use Rattle.std.specs.List.{range_with_len}
 use Rattle.std.proofs.lemmas.Bool.{eq-eqb, ne_eqb}
 use Rattle.std.proofs.lemmas.List.Elements.{filter-append}
@@ -69,7 +69,7 @@ named-is : (lists : List (List DataChunk)) (done : List SentChunk) (c : SentChun
 named-is lists done c left whole =
     let own : of_sender c.sender (c ∷ left) ≡ c ∷ of_sender c.sender left = rw (eq-eqb c.sender c.sender refl) refl in
     let at = stands-at c.sender 0 (of_sender c.sender done) c (of_sender c.sender left) (slice_index_or lists c.sender [])
-        (ap (λ (l : List SentChunk). of_sender c.sender done ++ l) (sym own) ∙ sym (filter-append (λ (x : SentChunk). x.sender == c.sender) done (c ∷ left)) ∙ whole c.sender) in
+    (ap (λ (l : List SentChunk). of_sender c.sender done ++ l) (sym own) ∙ sym (filter-append (λ (x : SentChunk). x.sender == c.sender) done (c ∷ left)) ∙ whole c.sender) in
     let number : c.number ≡ 0 + length (of_sender c.sender done) = at.0 in
     let place : c.number ≡ length (of_sender c.sender done) = omega (arith, number) in
     ap (λ (k : ℕ). list_of (slice_get (slice_index_or lists c.sender []) k)) place ∙ ap (λ (x : Option DataChunk). list_of x) at.1
@@ -91,7 +91,7 @@ pub arrive-in-order : (lists : List (List DataChunk)) (taken dropped : List Sent
     → (n : ℕ) × (n ≤ length (slice_index_or lists sender [])) × (numbers_of sender (arrivals_of taken) ≡ range_with_len 0 n)
 arrive-in-order lists taken dropped whole sender =
     let on = numbers-front sender 0 (of_sender sender taken) (of_sender sender dropped) (slice_index_or lists sender [])
-        (sym (filter-append (λ (x : SentChunk). x.sender == sender) taken dropped) ∙ whole sender) in
+    (sym (filter-append (λ (x : SentChunk). x.sender == sender) taken dropped) ∙ whole sender) in
     (length (of_sender sender taken), on.0, numbers-are sender taken ∙ on.1)
 
 -- where all was taken, they are all
@@ -141,11 +141,11 @@ at-longer : (lists : List (List DataChunk)) (came : List SentChunk) (sender : �
 at-longer lists came sender more whole within other (yes e) =
     let l : List DataChunk = slice_index_or lists sender [] in
     let here : of_sender sender came ++ of_sender sender (numbered sender (length l) more) ≡ numbered sender 0 (slice_index_or (longer_at lists sender more) sender []) =
-        ap (λ (cs : List SentChunk). cs ++ of_sender sender (numbered sender (length l) more)) (whole sender)
-        ∙ ap (λ (cs : List SentChunk). numbered sender 0 l ++ cs) (own-all sender (length l) more)
-        ∙ ap (λ (k : ℕ). numbered sender 0 l ++ numbered sender k more) (let z : length l ≡ 0 + length l = omega arith in z)
-        ∙ sym (numbered-append sender 0 l more)
-        ∙ ap (λ (cs : List DataChunk). numbered sender 0 cs) (sym (longer-here lists sender more within)) in
+    ap (λ (cs : List SentChunk). cs ++ of_sender sender (numbered sender (length l) more)) (whole sender)
+    ∙ ap (λ (cs : List SentChunk). numbered sender 0 l ++ cs) (own-all sender (length l) more)
+    ∙ ap (λ (k : ℕ). numbered sender 0 l ++ numbered sender k more) (let z : length l ≡ 0 + length l = omega arith in z)
+    ∙ sym (numbered-append sender 0 l more)
+    ∙ ap (λ (cs : List DataChunk). numbered sender 0 cs) (sym (longer-here lists sender more within)) in
     subst (λ (k : ℕ). of_sender k came ++ of_sender k (numbered sender (length l) more) ≡ numbered k 0 (slice_index_or (longer_at lists sender more) k [])) e here
 at-longer lists came sender more whole within other (no n) =
     ap (λ (cs : List SentChunk). of_sender other came ++ cs) (own-none other sender (length (slice_index_or lists sender [])) more n)

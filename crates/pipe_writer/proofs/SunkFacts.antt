@@ -4,13 +4,13 @@ use Rattle.std.specs.Prelude.{OnOk, IfSome, slice_index_or, take}
 use Rattle.std.specs.List.{range_with_len}
 use Rattle.pipe_columns.specs.declared.data_chunk.DataChunk.{DataChunk}
 use Rattle.pipe_columns.specs.declared.schema.Field.{Field}
-use Rattle.pipe_writers.specs.Writers.{TellsAfter, TellsFront}
+use Rattle.pipe_writers.specs.Writers.{TellsAfter}
 use Rattle.pipe_writers.specs.declared.sink_writer.SinkWriter.{Ghosts}
 use Rattle.pipe_writer.specs.Arrivals.{arrived, list_of, numbers_of}
 use Rattle.pipe_writer.specs.Carries.{AreWhole}
 use Rattle.pipe_writer.specs.Sender.{SenderSeen, WriterChannel}
 use Rattle.pipe_writer.specs.Sink.{AreFrom, IsSunk, RuledSeen, lists_in, sent_of}
-use Rattle.pipe_writer.specs.Taken.{arrivals_of, chunks_of}
+use Rattle.pipe_writer.specs.Taken.{chunks_of}
 use Rattle.pipe_writer.specs.Wrote.{HasEnded, text_of}
 use Rattle.pipe_writer.specs.declared.arrivals.Arrival.{Arrival}
 use Rattle.pipe_writer.specs.declared.message.SentChunk.{SentChunk}
@@ -53,9 +53,11 @@ module _ {Writer : Type 0} (kind : Ghosts Writer) (sink : RuledSeen Writer) (sen
 
   front-told : (since : List ℕ) → kind.told sink.made_of ≡ Some since → (n : ℕ) × (kind.told end.writer ≡ Some (since ++ take n text_arrived))
   front-told since e =
-      let front = h.front since e in
-      (front.0, tells-so (kind.told end.writer) since (take front.0 text_arrived) (h.tells ∙ ap (λ (t : Option (List ℕ)). is_some t) e)
-      (subst (λ (t : List ℕ). TellsAfter (kind.told end.writer) since (take front.0 t)) same-text front.1))
+      let front = h.front since e in (
+        front.0,
+        tells-so (kind.told end.writer) since (take front.0 text_arrived) (h.tells ∙ ap (λ (t : Option (List ℕ)). is_some t) e)
+            (subst (λ (t : List ℕ). TellsAfter (kind.told end.writer) since (take front.0 t)) same-text front.1),
+      )
 
   pub sunk : IsSunk kind.told kind.faults (kind.text (kind.format sink.made_of)) sink senders end
   sunk = record {

@@ -1,19 +1,17 @@
 -- What a writer has written, chunk by chunk.
-use Rattle.std.proofs.Common.{◌≡◌, ◌≢◌, ◌∙◌, ◌++◌, ◌∷◌, ℕ, List, [], Bool, true, false, Option, None, Some, Result, Ok, Err, sym, refl, ap, subst, append_assoc, is_some, map}
-use Rattle.std.specs.Prelude.{OnErr, OnOk, IsErrOf, IsTrue, take}
-use Rattle.pipe_columns.specs.Causes.{Rose}
+use Rattle.std.proofs.Common.{◌≡◌, ◌∙◌, ◌++◌, ◌∷◌, ℕ, List, [], Bool, true, false, Option, None, Some, Result, Ok, Err, sym, refl, ap, subst, append_assoc, is_some}
+use Rattle.std.specs.Prelude.{OnOk, IsErrOf}
 use Rattle.pipe_columns.specs.declared.data_chunk.DataChunk.{DataChunk}
-use Rattle.pipe_files_sink.specs.Core.{CoreSeen, HasTaken}
+use Rattle.pipe_files_sink.specs.Core.{HasTaken}
 use Rattle.pipe_files_sink.specs.Telling.{TellsSince}
 use Rattle.pipe_files_sink.specs.declared.guarded_core.GuardedCore.{GuardedCore}
-use Rattle.pipe_lines.specs.Rows.{Row}
 use Rattle.pipe_writers.specs.WriteOrder.{rows_of_chunks, write_order}
 use Rattle.pipe_writers.specs.Writers.{TellsAfter, TellsFront}
 use Rattle.pipe_writers.specs.declared.sink_writer.SinkWriter.{Ghosts}
 use Rattle.pipe_writers.specs.declared.write_error.WriteError.{WriteError}
 use Rattle.pipe_writers.specs.declared.write_error.WriteError.TheVariants as write_error
 use Rattle.pipe_writer.specs.Taken.{arrival_of, arrivals_of, chunks_of}
-use Rattle.pipe_writer.specs.Wrote.{HasEnded, HasRun, Wrote, text_of}
+use Rattle.pipe_writer.specs.Wrote.{HasEnded, Wrote, text_of}
 use Rattle.pipe_writer.specs.declared.message.SentChunk.{SentChunk}
 use Rattle.pipe_writer.specs.declared.ruled_end.RuledEnd.{RuledEnd}
 use Rattle.pipe_writer.specs.declared.writing.Writing.{Writing}
@@ -90,9 +88,9 @@ module _ {Writer : Type 0} (kind : Ghosts Writer) (made : Writer) (maintain : Bo
         (order : v.core.core.maintain_order ≡ w.core.core.maintain_order) (size : v.core.core.morsels ≡ w.core.core.morsels)
         (tells : is_some (kind.told v.core.core.writer) ≡ is_some (kind.told w.core.core.writer))
         (taken : v.core.ended ≡ false → (chunks : List DataChunk) → (since : List ℕ) → HasTaken (kind.stands w.core.core.writer) w.core.core chunks since
-            → HasTaken (kind.stands v.core.core.writer) v.core.core (chunks ++ c.chunk ∷ []) since)
+        → HasTaken (kind.stands v.core.core.writer) v.core.core (chunks ++ c.chunk ∷ []) since)
         (front : (chunks : List DataChunk) → (since : List ℕ) → HasTaken (kind.stands w.core.core.writer) w.core.core chunks since
-            → TellsFront (kind.told v.core.core.writer) since (kind.text (kind.format w.core.core.writer) (rows_of_chunks (write_order (chunks ++ c.chunk ∷ []) w.core.core.morsels w.core.core.maintain_order))))
+        → TellsFront (kind.told v.core.core.writer) since (kind.text (kind.format w.core.core.writer) (rows_of_chunks (write_order (chunks ++ c.chunk ∷ []) w.core.core.morsels w.core.core.maintain_order))))
         (refused : v.core.ended ≡ true → is_some v.core.fault ≡ true)
         (cause : (n : ℕ) → TellsSince n (kind.faults w.core.core.writer) w.core.fault → TellsSince n (kind.faults v.core.core.writer) v.core.fault) where
       text-alike : kind.text (kind.format w.core.core.writer) (rows_of_chunks (write_order (chunks_of h.taken ++ c.chunk ∷ []) w.core.core.morsels w.core.core.maintain_order))
@@ -122,9 +120,9 @@ module _ {Writer : Type 0} (kind : Ghosts Writer) (made : Writer) (maintain : Bo
       (arrivals : end.arrivals.items ≡ w.arrivals.items) (writer : end.writer ≡ core.core.writer)
       (already : w.core.ended ≡ true → core ≡ w.core)
       (whole : w.core.ended ≡ false → core.fault ≡ None → (chunks : List DataChunk) → (since : List ℕ) → HasTaken (kind.stands w.core.core.writer) w.core.core chunks since
-          → TellsAfter (kind.told core.core.writer) since (kind.text (kind.format w.core.core.writer) (rows_of_chunks (write_order chunks w.core.core.morsels w.core.core.maintain_order))))
+      → TellsAfter (kind.told core.core.writer) since (kind.text (kind.format w.core.core.writer) (rows_of_chunks (write_order chunks w.core.core.morsels w.core.core.maintain_order))))
       (front : w.core.ended ≡ false → (chunks : List DataChunk) → (since : List ℕ) → HasTaken (kind.stands w.core.core.writer) w.core.core chunks since
-          → TellsFront (kind.told core.core.writer) since (kind.text (kind.format w.core.core.writer) (rows_of_chunks (write_order chunks w.core.core.morsels w.core.core.maintain_order))))
+      → TellsFront (kind.told core.core.writer) since (kind.text (kind.format w.core.core.writer) (rows_of_chunks (write_order chunks w.core.core.morsels w.core.core.maintain_order))))
       (tells : is_some (kind.told core.core.writer) ≡ is_some (kind.told w.core.core.writer))
       (cause : (n : ℕ) → TellsSince n (kind.faults w.core.core.writer) w.core.fault → TellsSince n (kind.faults core.core.writer) core.fault)
       (ok : OnOk end.result ((w.wanting ≡ false) × (core.fault ≡ None)))

@@ -1,6 +1,5 @@
 -- Of the proofs alone: a channel to a writer as it is made.
 use Rattle.std.specs.Prelude.{◌≡◌, ◌≤◌, ℕ, List, [], ◌∷◌, IfSome, Option, Some, length, vec_capacity}
-
 use Rattle.crossbeam_channel.specs.Claims.{view}
 use Rattle.crossbeam_channel.specs.Ends.{receives_on}
 use Rattle.pipe_columns.specs.declared.schema.Field.{Field}

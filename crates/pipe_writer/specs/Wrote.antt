@@ -1,14 +1,13 @@
 -- What a writer has written of what came to it.
-use Rattle.std.specs.Prelude.{◌≡◌, ◌++◌, ◌∷◌, ℕ, List, [], Bool, true, false, Option, Some, IsErrOf, OnErr, OnOk, is_some}
+use Rattle.std.specs.Prelude.{◌≡◌, ◌++◌, ℕ, List, [], Bool, true, false, Some, IsErrOf, OnOk, is_some}
 use Rattle.crossbeam_channel.specs.Claims.{view}
 use Rattle.crossbeam_channel.specs.Ends.{receives_on}
 use Rattle.pipe_columns.specs.Causes.{Rose}
 use Rattle.pipe_columns.specs.declared.data_chunk.DataChunk.{DataChunk}
 use Rattle.pipe_files_sink.specs.Core.{HasTaken}
 use Rattle.pipe_files_sink.specs.Telling.{TellsSince}
-use Rattle.pipe_lines.specs.Rows.{Row}
 use Rattle.pipe_writers.specs.WriteOrder.{rows_of_chunks, write_order}
-use Rattle.pipe_writers.specs.Writers.{TellsAfter, TellsFront}
+use Rattle.pipe_writers.specs.Writers.{TellsFront}
 use Rattle.pipe_writers.specs.declared.sink_writer.SinkWriter.{Ghosts}
 use Rattle.pipe_writers.specs.declared.write_error.WriteError.TheVariants as write_error
 use Rattle.pipe_writer.specs.Taken.{arrivals_of, chunks_of}

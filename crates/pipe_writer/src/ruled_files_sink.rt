@@ -149,7 +149,12 @@ fn unled<H: Wait + Copy>(first: RuledSender<H>, second: Option<RuledSender<H>>) 
 }
 
 /// The ways of one or two senders, and these without them.
-type Unled<H> = (SenderWay, Option<SenderWay>, RuledSender<H>, Option<RuledSender<H>>);
+type Unled<H> = (
+    SenderWay,
+    Option<SenderWay>,
+    RuledSender<H>,
+    Option<RuledSender<H>>,
+);
 
 impl<W, H> RuledFilesSink<W, H>
 where
@@ -274,9 +279,7 @@ impl<W: SinkWriter + Drop, H: Threads + Wait + Copy> RuledFilesSink<W, H> {
         match started {
             Started::Alone(writer) => writer,
             Started::Beside(thread) => {
-                let Some(first) = first else {
-                    unreachable!()
-                };
+                let Some(first) = first else { unreachable!() };
                 let mut first = first;
                 first.end(&rt);
                 thread.join(&rt).received(&rt, first, second)

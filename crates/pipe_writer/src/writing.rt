@@ -11,8 +11,8 @@ ghost use Rattle.pipe_writers.specs.declared.write_error.WriteError.TheVariants 
 
 use crate::arrivals::{Arrival, Arrivals};
 use crate::message::SentChunk;
-use crate::ruled_end::RuledEnd;
 use crate::rest::Rest;
+use crate::ruled_end::RuledEnd;
 use pipe_files_sink::{GuardedCore, WriterCore};
 use pipe_writers::{SinkWriter, WriteError};
 use std::alloc::Global;

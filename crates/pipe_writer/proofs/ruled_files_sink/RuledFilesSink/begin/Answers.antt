@@ -15,9 +15,8 @@ invariant_of-sink-in-Err g c =
     let received = c.received-writer.ensures in
     let ran : HasRun {kind = g.W.SinkWriter} (record { receiving = a.line.receiving; writing = c.new-writing.result }) c.spawn_with-in-Err.result = search rules in
     let at_first = subst (λ (came : List SentChunk). Wrote {kind = g.W.SinkWriter} a.writer a.maintain_order a.morsels_per_sink c.new-writing.result came) (sym c.requires.line.waits.none_got)
-        c.new-writing.ensures.wrote in
-    let first_none = ap (λ v. first_chunks v.sent) c.end.ensures.same ∙ unled.none in
-    (
+    c.new-writing.ensures.wrote in
+    let first_none = ap (λ v. first_chunks v.sent) c.end.ensures.same ∙ unled.none in (
       c.requires.one,
       c.requires.two,
       record {
