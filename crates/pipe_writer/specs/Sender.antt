@@ -1,9 +1,10 @@
 -- What a sender has sent.
-use Rattle.std.specs.Prelude.{◌≡◌, ◌++◌, ℕ, List, [], ◌∷◌, Option, None, Some, IfSome, length}
+use Rattle.std.specs.Prelude.{◌≡◌, ◌++◌, ℕ, List, [], ◌∷◌, Option, None, Some, IfSome, length, option_map}
 use Rattle.std.specs.List.{AllByRecursion}
 use Rattle.std.specs.declared.alloc.Global.{Global}
 use Rattle.atomic_table.specs.declared.badge.Badge.{Badge}
 use Rattle.crossbeam_channel.specs.Claims.{view}
+use Rattle.crossbeam_channel.specs.Ends.{sends_on}
 use Rattle.crossbeam_channel.specs.declared.flavors.array.Doing.{Doing}
 use Rattle.crossbeam_channel.specs.declared.flavors.array.Key.{Key}
 use Rattle.crossbeam_channel.specs.declared.flavors.array.Lockers.{Lockers}
@@ -32,6 +33,10 @@ pub record SenderSeen : Type 0 where
   pub fields : List Field
   pub channel : Option WriterChannel
 
+-- a sender that has no channel any more
+abbrev pub without_channel : SenderSeen → SenderSeen
+without_channel s = record s { channel = None }
+
 -- the chunks of the first list
 abbrev pub first_chunks : List SentList → List DataChunk
 first_chunks [] = []
@@ -42,9 +47,17 @@ abbrev pub sent_through : Option SenderWay → List DataChunk
 sent_through None = []
 sent_through (Some way) = first_chunks (view way.pass).sent
 
+-- a way is that of one sender
+abbrev pub IsOwn : ℕ → SenderWay → Type 0
+IsOwn sender way = (view way.pass).sent ≡ record { sender = sender; chunks = first_chunks (view way.pass).sent } ∷ []
+
+-- the channel of a way
+abbrev pub channel_at : Option SenderWay → Option WriterChannel
+channel_at way = option_map (λ w. sends_on w.to) way
+
 -- of the proofs alone: what a sender keeps
 pub record IsSender (number sent : ℕ) (fields : List Field) (way : Option SenderWay) (rest : List DataChunk) : Type 0 where
   pub count : sent ≡ length (sent_through way ++ rest)
-  pub own : IfSome way (λ w. (view w.pass).sent ≡ record { sender = number; chunks = first_chunks (view w.pass).sent } ∷ [])
+  pub own : IfSome way (IsOwn number)
   pub fields_are : IfSome way (λ w. (view w.pass).fields ≡ fields)
   pub fit : AllByRecursion (λ c. IsWritable fields c.frame) rest

@@ -1,13 +1,17 @@
 //! A sender of a sink of files.
 
-ghost use Rattle.std.specs.Prelude.{◌≡◌, ◌≢◌, ◌++◌, ◌∷◌, ◌+◌, ◌<◌, ◌-◌, ◌^◌, [], IfErr, IfOk, IfSome, None, OnOk, is_ok, true};
+ghost use Rattle.std.specs.Prelude.{◌≡◌, ◌≢◌, ◌++◌, ◌∷◌, ◌+◌, ◌<◌, ◌-◌, ◌^◌, [], IfErr, IfOk, IfSome, None, OnOk, is_ok, length, true};
+ghost use Rattle.std.specs.List.{AllByRecursion};
+ghost use Rattle.crossbeam_channel.specs.Claims.{view};
 ghost use Rattle.pipe_columns.specs.declared.sink.SinkResult.TheVariants as sink_result;
 ghost use Rattle.pipe_files_sink.specs.Joined.{IsWritable};
+ghost use Rattle.pipe_writer.specs.Sender.{IsOwn, channel_at, sent_through, without_channel};
 
 use crate::message::SentChunk;
+use crate::rest::Rest;
 use crate::sender_way::SenderWay;
 use pipe_columns::{DataChunk, Schema, SinkResult};
-use std::alloc::AllocError;
+use std::alloc::{AllocError, Global};
 use std::marker::Model;
 use std::snapshot::Snapshot;
 use std::sync::Wait;
@@ -26,9 +30,8 @@ pub struct RuledSender<H> {
 }
 
 impl<H> Model for RuledSender<H> {
-    ghost use Rattle.std.specs.Prelude.{◌++◌, option_map};
-    ghost use Rattle.crossbeam_channel.specs.Ends.{sends_on};
-    ghost use Rattle.pipe_writer.specs.Sender.{IsSender, SenderSeen, sent_through};
+    ghost use Rattle.std.specs.Prelude.{◌++◌};
+    ghost use Rattle.pipe_writer.specs.Sender.{IsSender, SenderSeen, channel_at, sent_through};
 
     ghost Value = { SenderSeen };
 
@@ -37,7 +40,7 @@ impl<H> Model for RuledSender<H> {
       sent = s.sent;
       list = sent_through s.way ++ s.rest.items;
       fields = s.fields.value;
-      channel = option_map (λ way. sends_on way.to) s.way;
+      channel = channel_at s.way;
     } };
 
     ghost invariant = { λ s. IsSender s.number s.sent s.fields.value s.way s.rest.items };
@@ -123,5 +126,92 @@ impl<H: Wait> RuledSender<H> {
             self.keep(back)?;
         }
         Ok(SinkResult::CanHaveMoreInput)
+    }
+}
+
+impl<H: Wait + Copy> RuledSender<H> {
+    /// One that took no chunk.
+    pub(crate) fn new(
+        rt: H,
+        alloc: Global,
+        number: usize,
+        fields: Snapshot<Schema>,
+        way: Option<SenderWay>,
+    ) -> RuledSender<H>
+        requires own { IfSome way (IsOwn number) }
+        requires none { sent_through way ≡ [] }
+        requires fields { IfSome way (λ w. (view w.pass).fields ≡ fields.value) }
+        ensures made { result ≡ record {
+          number = number;
+          sent = 0;
+          list = [];
+          fields = fields.value;
+          channel = channel_at way;
+        } }
+    {
+        RuledSender {
+            rt,
+            number,
+            sent: 0,
+            fields,
+            way,
+            rest: Vec::new(alloc),
+        }
+    }
+
+    /// Its way, and what it kept.
+    pub(crate) fn parted(self) -> (Option<SenderWay>, Rest)
+        ensures channel { channel_at result.0 ≡ self.channel }
+        ensures own { IfSome result.0 (IsOwn self.number) }
+        ensures sender { result.1.sender ≡ self.number }
+        ensures first { result.1.first ≡ length (sent_through result.0) }
+        ensures list { self.list ≡ sent_through result.0 ++ result.1.chunks.items }
+        ensures sent { self.sent ≡ length self.list }
+        ensures few { result.1.first + length result.1.chunks.items < 2 ^ 64 }
+        ensures writable { AllByRecursion (λ c. IsWritable self.fields c.frame)
+            result.1.chunks.items }
+    {
+        let RuledSender {
+            rt: _,
+            number,
+            sent,
+            fields: _fields,
+            way,
+            rest,
+        } = self;
+        let first = sent - rest.len() as u64;
+        let rest = Rest {
+            sender: number,
+            first,
+            chunks: rest,
+        };
+        (way, rest)
+    }
+
+    /// Its way, and it without one, where it took nothing.
+    pub(crate) fn without_way(self) -> (Option<SenderWay>, RuledSender<H>)
+        requires { self.list ≡ [] }
+        ensures channel { channel_at result.0 ≡ self.channel }
+        ensures own { IfSome result.0 (IsOwn self.number) }
+        ensures none { sent_through result.0 ≡ [] }
+        ensures sender { result.1 ≡ without_channel self }
+    {
+        let RuledSender {
+            rt,
+            number,
+            sent,
+            fields,
+            way,
+            rest,
+        } = self;
+        let sender = RuledSender {
+            rt,
+            number,
+            sent,
+            fields,
+            way: None,
+            rest,
+        };
+        (way, sender)
     }
 }
