@@ -29,10 +29,10 @@ are-rows q i frame rows owned e all few small is =
 pub rows-requires-clause-placed : goal.rows-requires-clause-placed
 rows-requires-clause-placed c =
     let long = height (query_tree c.args.query.now) c.args.chunk.now.chunk_index c.args.chunk.now.frame c.in_ok-seen.seen c.in_ok-seen.ensures.rows in
-    omega (arith, long, c.len-count.ensures, c.if-count-gt16.false)
+    omega (arith, long, c.len-count.ensures, c.if-count-gt64.false)
 
 pub returns-clause-typed : goal.returns-clause-typed
 returns-clause-typed c =
     let long = height (query_tree c.args.query.now) c.args.chunk.now.chunk_index c.args.chunk.now.frame c.in_ok-seen.seen c.in_ok-seen.ensures.rows in
     are-rows (query_tree c.args.query.now) c.args.chunk.now.chunk_index c.args.chunk.now.frame c.in_ok-seen.seen c.in_ok-rows.field-0.items c.in_ok-seen.ensures.rows c.in_ok-seen.ensures.typed
-    (omega (arith, c.if-index-ne0.false)) (omega (arith, long, c.len-count.ensures, c.if-count-gt16.false)) (rw c.new-2.ensures at c.in_ok-rows.ensures)
+    (omega (arith, c.if-index-ne0.false)) (omega (arith, long, c.len-count.ensures, c.if-count-gt64.false)) (rw c.new-2.ensures at c.in_ok-rows.ensures)
