@@ -1,4 +1,6 @@
 pub mod CsvChunks
+pub mod NamedRows
+pub mod NamedChunks
 pub mod Reader
 pub mod Worked
 pub mod Rows

@@ -27,6 +27,7 @@ mod source_place;
 mod starts;
 mod wanted_places;
 mod worked;
+mod worked_names;
 
 pub use chunk_reader::ChunkReader;
 pub use csv_source::CsvSource;
