@@ -4,6 +4,8 @@ pub mod NamedChunks
 pub mod Reader
 pub mod Worked
 pub mod Rows
+pub mod Layout
+pub mod LaidRows
 pub mod Quoted
 pub mod Starts
 pub mod Kept
