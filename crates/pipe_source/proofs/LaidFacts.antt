@@ -1,20 +1,21 @@
 -- Rows of which some fields are read, by their places.
 use Rattle.std.proofs.Common.{◌≡◌, ◌≢◌, ◌∙◌, ◌≤◌, ◌<◌, ◌+◌, ◌-◌, ◌^◌, ◌==◌, ◌++◌, ℕ, zero, suc, Bool, true, false, List, [], ◌∷◌, length, map, take, drop, get_or, Option, Some, None, unwrap_or, Result, Ok, Err, refl, sym, ap, arith, eq-eqb}
 use Rattle.std.proofs.lemmas.Bool.{ne_eqb}
-use Rattle.std.proofs.lemmas.List.{drop_more, get_or-map, length-map, take-map}
+use Rattle.std.proofs.lemmas.List.{drop_more, get_or-map, length-map, take-map, take_all}
 use Rattle.csv.specs.Reading.{default_config, records, strip_bom}
 use Rattle.pipe_columns.specs.declared.any_value.AnyValue.{AnyValue}
 use Rattle.pipe_columns.specs.declared.schema.Field.{Field}
 use Rattle.pipe_csv.specs.CsvRows.{Misfit, after, header, read_fields, read_row, read_rows, width}
 use Rattle.pipe_csv.proofs.RowFacts.{row-same, row-width}
 use Rattle.pipe_io.specs.declared.whole_file.TheConstants.{MOST_FILE_BYTES}
-use Rattle.pipe_scan.specs.Records.{Records, records_at}
+use Rattle.pipe_scan.specs.Records.{Records, cut, records_at}
 use Rattle.pipe_scan.specs.Row.{Takes}
 use Rattle.pipe_source.specs.CsvChunks.{wanted_of}
 use Rattle.pipe_source.specs.LaidRows.{ChecksLaid}
 use Rattle.pipe_source.specs.Layout.{ArePlacedIn, FitsLayout, laid, picked}
 use Rattle.pipe_source.specs.NamedRows.{fields_at, named_row, named_rows, named_text_rows, places_of, rows_behind, wanted_named_rows}
 use Rattle.pipe_source.specs.declared.layout.Layout.{Layout}
+use Rattle.pipe_source.proofs.FieldsLeft.{length-cut}
 use Rattle.pipe_source.proofs.RowsLeft.{RowsLeft, drop-next, rows-more, take-first}
 use Rattle.pipe_source.proofs.TextRows.{records-few, wanted-most}
 
@@ -46,6 +47,12 @@ picked-row file row cs l texts fit = by (length texts == l.count) refl where
   by : (b : Bool) → (length texts == l.count) ≡ b → named_row file row cs l.count l.places.items texts ≡ read_row file row cs (picked l texts)
   by true h = rw h (sym (row-same file row cs (fields_at l.places.items texts) (length-fields_at l.places.items texts ∙ fit.many)))
   by false h = rw h (sym (row-width file row cs ([] ∷ fields_at l.places.items texts) (λ e. absurd (omega (arith, e, length-fields_at l.places.items texts, fit.many)))))
+
+-- a row in the text of the layout's width
+pub picked-plain : (l : Layout) (text : List ℕ) (start count : ℕ) (ends : List ℕ) → count ≡ l.count → length ends ≡ l.count → picked l (cut text start (take count ends)) ≡ fields_at l.places.items (cut text start ends)
+picked-plain l text start count ends h e =
+    ap (λ (t : List ℕ). picked l (cut text start t)) (take_all count ends (omega (arith, h, e)))
+    ∙ picked-same l (cut text start ends) (length-cut text start ends ∙ e)
 
 -- ---- rows
 

@@ -10,7 +10,7 @@ ghost use Rattle.pipe_csv.specs.CsvError.{StopsBy};
 ghost use Rattle.pipe_scan.specs.Records.{InOrder, cut, records_at};
 ghost use Rattle.pipe_scan.specs.Stops.{AreMarked};
 ghost use Rattle.pipe_source.specs.LaidRows.{ChecksLaid};
-ghost use Rattle.pipe_source.specs.Layout.{ArePlacedIn, FitsLayout, laid};
+ghost use Rattle.pipe_source.specs.Layout.{ArePlacedIn, FitsLayout, laid, picked};
 ghost use Rattle.pipe_source.specs.NamedRows.{fields_at};
 ghost use Rattle.pipe_source.specs.Rows.{AreStarts, StopsFirst};
 
@@ -56,6 +56,36 @@ fn check_named_fields(
         }
     }
     Ok(())
+}
+
+/// Looks over the columns of a row of so many fields that lie in the text.
+fn check_named_plain(
+    text: &[u8],
+    start: usize,
+    count: usize,
+    ends: &[usize],
+    columns: &[Field],
+    layout: &Layout,
+    file: usize,
+    row: usize,
+    is_ascii: bool,
+) -> Result<(), CsvError>
+    requires order { InOrder (length text.now) start (take count ends.now) }
+    requires ascii { IsTrue is_ascii → IsAscii text.now }
+    requires fit { FitsLayout columns.now layout.now }
+    requires few { count ≤ length ends.now }
+    requires width { length ends.now ≡ layout.now.count }
+    ensures reads { IfOk result (λ _. (values : List AnyValue)
+        × (read_row file row columns.now
+        (picked layout.now (cut text.now start (take count ends.now))) ≡ Ok values)) }
+    ensures stop { IfErr result (λ e. StopsBy e (read_row file row columns.now
+        (picked layout.now (cut text.now start (take count ends.now))))) }
+{
+    if count != layout.count {
+        return Err(CsvError::Width { file, row });
+    }
+    let places = &layout.places;
+    check_named_fields(text, start, ends, columns, places, file, row, is_ascii)
 }
 
 /// Looks over the columns of a row that was read.
@@ -109,21 +139,19 @@ fn check_named_row(
     ensures marked { AreMarked text.now stops.new }
     ensures width { length ends.new ≡ layout.now.count }
 {
-    let places = &layout.places;
     match next_row(text, stops, ends, entry, bytes)? {
         Row::End => Ok(false),
         Row::Plain { start, count } => {
-            if count != layout.count {
-                return Err(CsvError::Width { file, row });
-            }
-            check_named_fields(text, start, ends, columns, places, file, row, is_ascii)?;
+            check_named_plain(
+                text, start, count, ends, columns, layout, file, row, is_ascii,
+            )?;
             Ok(true)
         }
         Row::Quoted => {
             if entry.len() != layout.count {
                 return Err(CsvError::Width { file, row });
             }
-            check_named_record(entry, columns, places, file, row)?;
+            check_named_record(entry, columns, &layout.places, file, row)?;
             Ok(true)
         }
         Row::Wide => Err(CsvError::Width { file, row }),
