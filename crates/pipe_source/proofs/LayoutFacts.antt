@@ -87,7 +87,7 @@ place-within name i p (t ∷ ts) e = by (bytes_eq name t) (has_name name ts) ref
 -- ---- all columns
 
 -- what has a place goes on with it, and what has none stops
-placed-ok : (o : Option ℕ) (m : Misfit) (p : ℕ) → ok_or o m ≡ Ok p → o ≡ Some p
+pub placed-ok : (o : Option ℕ) (m : Misfit) (p : ℕ) → ok_or o m ≡ Ok p → o ≡ Some p
 placed-ok None m p e = cc
 placed-ok (Some q) m p e = ap Some (same_Ok {E = Misfit} q p e)
 

@@ -19,4 +19,5 @@ pub mod PlainReads
 pub mod CheckedRows
 pub mod LayoutFacts
 pub mod LaidFacts
+pub mod NamedAgree
 pub mod QuotedFacts

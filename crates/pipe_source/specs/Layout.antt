@@ -1,5 +1,5 @@
 -- Of the proofs alone: rows of which some fields are read, by their places.
-use Rattle.std.specs.Prelude.{◌≡◌, ◌<◌, ◌+◌, ◌==◌, ℕ, List, [], ◌∷◌, length, map, get_or, Option, Some, None, if◌then◌else◌}
+use Rattle.std.specs.Prelude.{◌≡◌, ◌<◌, ◌+◌, ◌==◌, ℕ, Bool, true, false, List, [], ◌∷◌, length, map, get_or, Option, Some, None, if◌then◌else◌, ⊤}
 use Rattle.std.specs.Str.{bytes_eq}
 use Rattle.pipe_columns.specs.declared.schema.Field.{Field}
 use Rattle.pipe_scan.specs.Records.{Records}
@@ -19,6 +19,16 @@ pub record ArePlacedIn (columns : List Field) (count : ℕ) (places : List ℕ) 
 -- so it has in a layout
 abbrev pub FitsLayout : List Field → Layout → Type 0
 FitsLayout columns l = ArePlacedIn columns l.count l.places.items
+
+-- a file whose columns are found by their names has a layout that they fit, and any other has none
+abbrev pub LayoutFits : List Field → Bool → Option Layout → Type 0
+LayoutFits columns by_name None = by_name ≡ false
+LayoutFits columns by_name (Some l) = (by_name ≡ true) × FitsLayout columns l
+
+-- where there is a layout, the columns fit it, and all are wanted
+abbrev pub IsWholeLayout : List Field → List Bool → Option Layout → Type 0
+IsWholeLayout columns wanted None = ⊤
+IsWholeLayout columns wanted (Some l) = FitsLayout columns l × (wanted ≡ [])
 
 -- the fields of a record that are read, and one more where the record has another number of fields, so
 -- that it is no row

@@ -1,6 +1,8 @@
 pub mod CsvChunks
 pub mod NamedRows
 pub mod NamedChunks
+pub mod ByName
+pub mod InOrder
 pub mod Reader
 pub mod Worked
 pub mod Rows
