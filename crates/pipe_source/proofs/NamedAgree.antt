@@ -85,29 +85,25 @@ fields-chosen ws n texts e =
     ∙ ap (chosen ws) (ap (λ (m : ℕ). map (λ place. get_or texts place []) (range_with_len 0 m)) (sym e) ∙ all-at texts 0 (λ place. get_or texts place []) (λ i l. let z : 0 + i ≡ i = omega arith in rw z refl))
 
 -- what is read of the wanted columns is what is wanted of what is read, but where a header or a field stops that
-Agrees : {A : Type 0} → (A → A) → Result A Misfit → Result A Misfit → Type 0
+abbrev Agrees : {A : Type 0} → (A → A) → Result A Misfit → Result A Misfit → Type 0
 Agrees f (Ok a) r = r ≡ Ok (f a)
 Agrees f (Err m) r = IsOfRow m → r ≡ Err m
 
 -- a value that isn't wanted, and one that is
 value-left : (ws : List Bool) (v : AnyValue) (rest named : Result (List AnyValue) Misfit) → Agrees (chosen ws) rest named → Agrees (chosen (false ∷ ws)) (in_front (v ∷ []) rest) named
-unfolding Agrees
 value-left ws v (Ok vs) named h = h
 value-left ws v (Err m) named h = h
 
 value-kept : (ws : List Bool) (v : AnyValue) (rest named : Result (List AnyValue) Misfit) → Agrees (chosen ws) rest named → Agrees (chosen (true ∷ ws)) (in_front (v ∷ []) rest) (in_front (v ∷ []) named)
-unfolding Agrees
 value-kept ws v (Ok vs) named h = rw h refl
 value-kept ws v (Err m) named h = λ s. rw (h s) refl
 
 value-whole : (v : AnyValue) (rest named : Result (List AnyValue) Misfit) → Agrees (chosen []) rest named → Agrees (chosen []) (in_front (v ∷ []) rest) (in_front (v ∷ []) named)
-unfolding Agrees
 value-whole v (Ok vs) named h = rw h refl
 value-whole v (Err m) named h = λ s. rw (h s) refl
 
 -- fields agree
 fields-agree : (ws : List Bool) (file row c d : ℕ) (fs : List Field) (ts : List (List ℕ)) → length ts ≡ length fs → Agrees (chosen ws) (read_fields file row c fs ts) (read_fields file row d (chosen ws fs) (chosen ws ts))
-unfolding Agrees
 fields-agree ws file row c d [] ts h = rw (chosen-nil {A = Field} ws, chosen-nil {A = AnyValue} ws) refl
 fields-agree ws file row c d (f ∷ fs) [] h = absurd (omega (arith, h))
 fields-agree [] file row c d (f ∷ fs) (t ∷ ts) h = by (read_field f.dtype t) refl (fields-agree [] file row (c + 1) (d + 1) fs ts (omega (arith, h))) where
@@ -131,7 +127,6 @@ wanted_at ws schema = chosen ws (range_with_len 0 (length schema))
 
 -- a row agrees
 row-agrees : (ws : List Bool) (file row : ℕ) (schema : List Field) (ts : List (List ℕ)) → Agrees (chosen ws) (read_row file row schema ts) (named_row file row (chosen ws schema) (length schema) (wanted_at ws schema) ts)
-unfolding Agrees
 row-agrees ws file row schema ts = by (length ts == length schema) refl where
   by : (b : Bool) → (length ts == length schema) ≡ b → Agrees (chosen ws) (read_row file row schema ts) (named_row file row (chosen ws schema) (length schema) (wanted_at ws schema) ts)
   by true e =
@@ -140,25 +135,23 @@ row-agrees ws file row schema ts = by (length ts == length schema) refl where
   by false e = rw e (λ s. refl)
 
 -- rows with so many values each
-Wide : ℕ → List (List AnyValue) → Type 0
+abbrev Wide : ℕ → List (List AnyValue) → Type 0
 Wide n [] = ⊤
 Wide n (r ∷ rs) = (length r ≡ n) × Wide n rs
 
 -- rows agree, and have as many values as the schema
-RowsAgree : {E : Type 0} → (E → Type 0) → List Bool → ℕ → Result (List (List AnyValue)) E → Result (List (List AnyValue)) E → Type 0
+abbrev RowsAgree : {E : Type 0} → (E → Type 0) → List Bool → ℕ → Result (List (List AnyValue)) E → Result (List (List AnyValue)) E → Type 0
 RowsAgree P ws n (Ok rows) r = (r ≡ Ok (map (chosen ws) rows)) × Wide n rows
 RowsAgree P ws n (Err m) r = P m → r ≡ Err m
 
 -- one more row in front
 row-in-front : (ws : List Bool) (n : ℕ) (a b : Result (List AnyValue) Misfit) (rest named : Result (List (List AnyValue)) Misfit) → Agrees (chosen ws) a b → ((vs : List AnyValue) → a ≡ Ok vs → length vs ≡ n) → RowsAgree IsOfRow ws n rest named → RowsAgree IsOfRow ws n (after a rest) (after b named)
-unfolding Agrees, RowsAgree, Wide
 row-in-front ws n (Err m) b rest named h w r = λ s. rw (h s) refl
 row-in-front ws n (Ok vs) b (Ok rows) named h w r = (rw (h, r.0) refl, w vs refl, r.1)
 row-in-front ws n (Ok vs) b (Err m) named h w r = λ s. rw (h, r s) refl
 
 -- all rows agree
 rows-agree : (ws : List Bool) (file row : ℕ) (schema : List Field) (recs : Records) → RowsAgree IsOfRow ws (length schema) (read_rows file row schema recs) (named_rows file row (chosen ws schema) (length schema) (wanted_at ws schema) recs)
-unfolding RowsAgree, Wide
 rows-agree ws file row schema [] = (refl, tt)
 rows-agree ws file row schema (r ∷ rs) =
     row-in-front ws (length schema) (read_row file row schema r) (named_row file row (chosen ws schema) (length schema) (wanted_at ws schema) r) (read_rows file (row + 1) schema rs) (named_rows file (row + 1) (chosen ws schema) (length schema) (wanted_at ws schema) rs)
@@ -166,7 +159,6 @@ rows-agree ws file row schema (r ∷ rs) =
 
 -- so do those behind a header
 wanted-agree : (ws : List Bool) (file : ℕ) (wanted : Option ℕ) (schema : List Field) (recs : Records) → AreFound schema → RowsAgree IsOfRow ws (length schema) (wanted_rows file wanted schema recs) (wanted_named_rows file wanted (chosen ws schema) recs)
-unfolding RowsAgree
 wanted-agree ws file wanted schema [] found = λ s. absurd s
 wanted-agree ws file wanted schema (names ∷ rs) found = by (is_header schema names) refl where
   by : (b : Bool) → is_header schema names ≡ b → RowsAgree IsOfRow ws (length schema) (wanted_rows file wanted schema (names ∷ rs)) (wanted_named_rows file wanted (chosen ws schema) (names ∷ rs))
@@ -185,18 +177,17 @@ Elsewhere s = StopsElsewhere (Some s)
 
 -- numbered rows agree
 numbers-agree : (ws : List Bool) (n : ℕ) (index : Option (List ℕ × ℕ)) (given : ℕ) (read named : Result (List (List AnyValue)) Misfit) → RowsAgree IsOfRow ws n read named → RowsAgree Elsewhere ws n (numbered_rows index given read) (numbered_rows index given named)
-unfolding RowsAgree
 numbers-agree ws n index given (Err m) named h = λ s. rw (h s) refl
 numbers-agree ws n index given (Ok rows) named h = by (is_numbered index given (length rows)) refl where
   many : length (map (chosen ws) rows) ≡ length rows
   many = length-map rows (chosen ws)
+
   by : (b : Bool) → is_numbered index given (length rows) ≡ b → RowsAgree Elsewhere ws n (numbered_rows index given (Ok rows)) (numbered_rows index given named)
   by true e = rw (e, h.0, many, e) (refl, h.1)
   by false e = rw (e, h.0, many, e) (λ s. refl)
 
 -- a file's rows agree
 file-agrees : (ws : List Bool) (options : CsvReadOptions) (schema : List Field) (at : SourcePlace) (text : Option (List ℕ)) → AreFound schema → RowsAgree Elsewhere ws (length schema) (file_rows options schema at text) (named_file_rows options (chosen ws schema) at text)
-unfolding RowsAgree
 file-agrees ws options schema at None found = λ s. refl
 file-agrees ws options schema at (Some text) found = by (nat_lt MOST_FILE_BYTES (length text)) refl where
   by : (b : Bool) → nat_lt MOST_FILE_BYTES (length text) ≡ b → RowsAgree Elsewhere ws (length schema) (file_rows options schema at (Some text)) (named_file_rows options (chosen ws schema) at (Some text))
@@ -209,7 +200,6 @@ file-agrees ws options schema at (Some text) found = by (nat_lt MOST_FILE_BYTES 
 -- the columns of what is wanted of rows
 values-chosen : (ws : List Bool) (fs : List Field) (done rest : List (List AnyValue)) → values_from 0 (chosen ws fs) (map (chosen ws) done) ≡ chosen ws (values_from 0 fs done) → Wide (length fs) rest
     → values_from 0 (chosen ws fs) (map (chosen ws) (done ++ rest)) ≡ chosen ws (values_from 0 fs (done ++ rest))
-unfolding Wide
 values-chosen ws fs done [] h w = rw (append-nil done) h
 values-chosen ws fs done (v ∷ vs) h w =
     let more : values_from 0 (chosen ws fs) (map (chosen ws) (done ++ (v ∷ []))) ≡ chosen ws (values_from 0 fs (done ++ (v ∷ []))) =
@@ -251,24 +241,21 @@ pieces-mapped ws n rows = ap (λ (most : ℕ). pieces_within most n (map (chosen
 
 -- rows of a width in front and behind
 wide-take : (k n : ℕ) (rows : List (List AnyValue)) → Wide n rows → Wide n (take k rows)
-unfolding Wide
 wide-take zero n rows w = tt
 wide-take (suc k) n [] w = tt
 wide-take (suc k) n (r ∷ rs) w = (w.0, wide-take k n rs w.1)
 
 wide-drop : (k n : ℕ) (rows : List (List AnyValue)) → Wide n rows → Wide n (drop k rows)
-unfolding Wide
 wide-drop zero n rows w = w
 wide-drop (suc k) n [] w = tt
 wide-drop (suc k) n (r ∷ rs) w = wide-drop k n rs w.1
 
 -- pieces of rows of a width
-AllWide : ℕ → List (List (List AnyValue)) → Type 0
+abbrev AllWide : ℕ → List (List (List AnyValue)) → Type 0
 AllWide n [] = ⊤
 AllWide n (p ∷ ps) = Wide n p × AllWide n ps
 
 pieces-wide : (most k n : ℕ) (rows : List (List AnyValue)) → Wide n rows → AllWide n (pieces_within most k rows)
-unfolding AllWide
 pieces-wide zero k n rows w = tt
 pieces-wide (suc most) k n [] w = tt
 pieces-wide (suc most) k n (r ∷ rs) w = (wide-take k n (r ∷ rs) w, pieces-wide most k n (drop k (r ∷ rs)) (wide-drop k n (r ∷ rs) w))
@@ -276,7 +263,6 @@ pieces-wide (suc most) k n (r ∷ rs) w = (wide-take k n (r ∷ rs) w, pieces-wi
 -- the chunks of pieces
 pieces-agree : (ws : List Bool) (options : CsvReadOptions) (schema : List Field) (file : List ℕ) (i given : ℕ) (ps : List (List (List AnyValue))) → length ws ≤ length schema → AllWide (length schema) ps
     → chunks_of_pieces options (chosen ws schema) file i given (map (map (chosen ws)) ps) ≡ narrowed_chunks (source_wanted options ws) (chunks_of_pieces options schema file i given ps)
-unfolding AllWide
 pieces-agree ws options schema file i given [] few w = refl
 pieces-agree ws options schema file i given (p ∷ ps) few w =
     let frame = frame-chosen ws options schema file given p few w.0 in
@@ -313,7 +299,6 @@ if-agree options ws false all own s h = refl
 -- what goes on behind the rows of a file
 go-agree : (options : CsvReadOptions) (ws : List Bool) (n : ℕ) (read named : Result (List (List AnyValue)) Stop) (all own : List (List AnyValue) → CsvChunks) → RowsAgree Elsewhere ws n read named → StopsElsewhere (go_on read all).stop
     → ((rows : List (List AnyValue)) → Wide n rows → StopsElsewhere (all rows).stop → own (map (chosen ws) rows) ≡ wanted_chunks options ws (all rows)) → go_on named own ≡ wanted_chunks options ws (go_on read all)
-unfolding RowsAgree
 go-agree options ws n (Err stop) named all own h s more = rw (h s) refl
 go-agree options ws n (Ok rows) named all own h s more = rw h.0 (more rows h.1 s)
 
