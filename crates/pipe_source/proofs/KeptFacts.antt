@@ -357,9 +357,9 @@ pub kept-none : (what : Reading) (k : KeptText) → IsSourcePlace what k.at → 
 kept-none what k at y t s c l = record {
   files = at.files;
   rows = [];
-  placed = rw (y, t, s, c, l) (record { read = refl; size = refl; within = omega arith });
+  placed = rw (y, t, c, s, l) (record { read = refl; size = refl; within = omega arith });
   layout = rw y tt;
-  starts = rw (t, s, c, l) (record { within = omega arith; each = λ j h. absurd (omega (arith, h)); all = omega arith });
+  starts = rw (t, c, s, l) (record { within = omega arith; each = λ j h. absurd (omega (arith, h)); all = omega arith });
   few_rows = omega (arith, at.rows, l);
   few_chunks = omega (arith, at.chunks, l);
   numbered = λ some. absurd (omega (arith, some, l));
