@@ -1,5 +1,6 @@
 -- Columns that are found by their names, beside those that stand in order.
-use Rattle.std.proofs.Common.{◌≡◌, ◌∙◌, ◌≤◌, ◌<◌, ◌+◌, ◌-◌, ◌^◌, ◌%◌, ◌==◌, ◌&&◌, ◌++◌, ℕ, zero, suc, Bool, true, false, List, [], ◌∷◌, length, map, take, drop, get_or, nat_lt, Option, Some, None, ⊤, option_map, Result, Ok, Err, refl, sym, ap, subst, arith, append_assoc, eq-eqb, if◌then◌else◌}
+use Rattle.std.proofs.Common.{◌≡◌, ◌∙◌, ◌≤◌, ◌<◌, ◌+◌, ◌-◌, ◌^◌, ◌%◌, ◌==◌, ◌&&◌, ◌++◌, ℕ, zero, suc, Bool, true, false, List, [], ◌∷◌, length, map, take, drop, get_or, nat_lt, Option, Some, None, option_map, Result, Ok, Err, refl, sym, ap, subst, arith, append_assoc, eq-eqb, if◌then◌else◌}
+use Rattle.std.specs.Bool.{⊤}
 use Rattle.std.specs.Option.{ok_or}
 use Rattle.std.specs.List.{range_with_len, drop-map}
 use Rattle.std.specs.Str.{bytes_eq}
@@ -50,6 +51,10 @@ header-names (f ∷ fs) (t ∷ ts) h =
     let parts = and_parts (bytes_eq f.name t) (is_header fs ts) h in
     λ i. sym (same-name f.name t parts.0) i ∷ header-names fs ts parts.1 i
 
+-- a column that has its place, and those behind it
+place-step : (f c : ℕ) (x : Field) (xs : List Field) (names : List (List ℕ)) (p : ℕ) (ps all : List ℕ) → place_of x.name 0 names ≡ Some p → places_of f (c + 1) xs names ≡ Ok ps → all ≡ p ∷ ps → places_of f c (x ∷ xs) names ≡ Ok all
+place-step f c x xs names p ps all h e g = rw (h, e, g) refl
+
 -- of columns that have places the wanted ones have the wanted places
 places-chosen : (ws : List Bool) (file column f c : ℕ) (cs : List Field) (names : List (List ℕ)) (places : List ℕ) → places_of file column cs names ≡ Ok places → places_of f c (chosen ws cs) names ≡ Ok (chosen ws places)
 places-chosen ws file column f c [] names places e =
@@ -58,14 +63,14 @@ places-chosen ws file column f c [] names places e =
 places-chosen [] file column f c (x ∷ xs) names places e =
     let parts = after-ok (ok_or (place_of x.name 0 names) (not_once file column)) (places_of file (column + 1) xs names) places e in
     let here = placed-ok (place_of x.name 0 names) (not_once file column) parts.0 parts.2 in
-    rw (parts.4, here, places-chosen [] file (column + 1) f (c + 1) xs names parts.1 parts.3) refl
+    place-step f c x xs names parts.0 parts.1 places here (places-chosen [] file (column + 1) f (c + 1) xs names parts.1 parts.3) parts.4
 places-chosen (true ∷ ws) file column f c (x ∷ xs) names places e =
     let parts = after-ok (ok_or (place_of x.name 0 names) (not_once file column)) (places_of file (column + 1) xs names) places e in
     let here = placed-ok (place_of x.name 0 names) (not_once file column) parts.0 parts.2 in
-    rw (parts.4, here, places-chosen ws file (column + 1) f (c + 1) xs names parts.1 parts.3) refl
+    place-step f c x (chosen ws xs) names parts.0 (chosen ws parts.1) (chosen (true ∷ ws) places) here (places-chosen ws file (column + 1) f (c + 1) xs names parts.1 parts.3) (ap (chosen (true ∷ ws)) parts.4)
 places-chosen (false ∷ ws) file column f c (x ∷ xs) names places e =
     let parts = after-ok (ok_or (place_of x.name 0 names) (not_once file column)) (places_of file (column + 1) xs names) places e in
-    rw parts.4 (places-chosen ws file (column + 1) f c xs names parts.1 parts.3)
+    places-chosen ws file (column + 1) f c xs names parts.1 parts.3 ∙ ap (λ (t : List ℕ). Ok (chosen (false ∷ ws) t)) (sym parts.4)
 
 -- ---- fields
 
