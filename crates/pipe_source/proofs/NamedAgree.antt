@@ -152,7 +152,7 @@ RowsAgree P ws n (Err m) r = P m → r ≡ Err m
 -- one more row in front
 row-in-front : (ws : List Bool) (n : ℕ) (a b : Result (List AnyValue) Misfit) (rest named : Result (List (List AnyValue)) Misfit) → Agrees (chosen ws) a b → ((vs : List AnyValue) → a ≡ Ok vs → length vs ≡ n) → RowsAgree IsOfRow ws n rest named → RowsAgree IsOfRow ws n (after a rest) (after b named)
 row-in-front ws n (Err m) b rest named h w r = λ s. rw (h s) refl
-row-in-front ws n (Ok vs) b (Ok rows) named h w r = (rw (h, r.0) refl, w vs refl, r.1)
+row-in-front ws n (Ok vs) b (Ok rows) named h w r = (rw (h, r.0) refl, (w vs refl, r.1))
 row-in-front ws n (Ok vs) b (Err m) named h w r = λ s. rw (h, r s) refl
 
 -- all rows agree
