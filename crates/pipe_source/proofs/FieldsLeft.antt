@@ -111,7 +111,7 @@ length-cut text low [] = refl
 length-cut text low (e ∷ es) = ap (λ n. suc n) (length-cut text (e + 1) es)
 
 -- the first i of a list of more are i
-length-front : (n : ℕ) (xs : List ℕ) → n ≤ length xs → length (take n xs) ≡ n
+pub length-front : (n : ℕ) (xs : List ℕ) → n ≤ length xs → length (take n xs) ≡ n
 length-front n xs h = omega (arith, length-take n xs)
 
 -- a record in the text of another number of fields is no row

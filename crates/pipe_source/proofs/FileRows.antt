@@ -1,11 +1,11 @@
 -- Where a file stops, and what is left of files behind those that were passed.
-use Rattle.std.proofs.Common.{◌≡◌, ◌∙◌, ◌≤◌, ◌<◌, ◌+◌, ◌^◌, ℕ, List, [], ◌∷◌, length, take, drop, true, false, nat_lt, Option, Some, None, Result, Ok, Err, refl, sym, ap, arith, subst}
+use Rattle.std.proofs.Common.{◌≡◌, ◌∙◌, ◌≤◌, ◌<◌, ◌+◌, ◌^◌, ℕ, List, [], ◌∷◌, length, take, drop, Bool, true, false, nat_lt, Option, Some, None, Result, Ok, Err, refl, sym, ap, arith, subst}
 use Rattle.std.proofs.lemmas.Bool.Decides.{nat_tests}
 use Rattle.std.proofs.lemmas.List.{length-drop, length-take, nil_from_length}
 use Rattle.pipe_columns.specs.declared.any_value.AnyValue.{AnyValue}
 use Rattle.pipe_columns.specs.declared.schema.Field.{Field}
 use Rattle.pipe_columns.specs.Pieces.{pieces}
-use Rattle.pipe_csv.specs.CsvRows.{Misfit}
+use Rattle.pipe_csv.specs.CsvRows.{Misfit, missing}
 use Rattle.pipe_csv.specs.CsvError.{StopsBy}
 use Rattle.pipe_csv.specs.declared.csv_error.CsvError.{CsvError}
 use Rattle.pipe_csv.specs.declared.csv_error.CsvError.TheVariants as ce
@@ -14,7 +14,8 @@ use Rattle.pipe_io.specs.Files.{Files, HasNoFile, IsLarger, IsWhole, file_of}
 use Rattle.pipe_io.specs.declared.whole_file.TheConstants.{MOST_FILE_BYTES}
 use Rattle.pipe_source.specs.declared.read_options.CsvReadOptions.{CsvReadOptions}
 use Rattle.pipe_source.specs.declared.source_place.SourcePlace.{SourcePlace}
-use Rattle.pipe_source.specs.CsvChunks.{CsvChunks, Stop, behind, chunks_of_pieces, chunks_then, csv_chunks_from, file_chunks, file_rows, go_on, is_any_wanted, is_numbered, misfit, no_more, numbered_rows, source_frame, text_rows, too_large, wanted_after}
+use Rattle.pipe_source.specs.ByName.{chunks_by, file_rows_by, text_rows_by}
+use Rattle.pipe_source.specs.CsvChunks.{CsvChunks, Stop, behind, chunks_of_pieces, chunks_then, file_chunks, go_on, is_any_wanted, is_numbered, misfit, no_more, numbered_rows, source_frame, too_large, wanted_after}
 use Rattle.pipe_source.specs.Reader.{StopsAt, stopped}
 use Rattle.pipe_source.specs.Rows.{StopsFile, StopsTold}
 use Rattle.std.specs.Prelude.{◌%◌}
@@ -22,23 +23,28 @@ use Rattle.std.specs.Prelude.{◌%◌}
 -- ---- a file
 
 -- a file that isn't there
-pub told-missing : (told : Option Files) (name : List ℕ) (options : CsvReadOptions) (schema : List Field) (at : SourcePlace) → HasNoFile told name → StopsTold (ce.Missing at.file) options schema at told name
-told-missing None name options schema at h = tt
-told-missing (Some files) name options schema at h = rw h refl
+pub told-missing : (told : Option Files) (name : List ℕ) (by_name : Bool) (options : CsvReadOptions) (schema : List Field) (at : SourcePlace) → HasNoFile told name → StopsTold (ce.Missing at.file) by_name options schema at told name
+told-missing None name by_name options schema at h = tt
+told-missing (Some files) name by_name options schema at h = ap (file_rows_by by_name options schema at) h ∙ no-file by_name where
+  no-file : (b : Bool) → file_rows_by b options schema at None ≡ Err (misfit (missing at.file))
+  no-file false = refl
+  no-file true = refl
 
 -- a file that is too large
-large-stops : (options : CsvReadOptions) (schema : List Field) (at : SourcePlace) (text : List ℕ) → MOST_FILE_BYTES < length text → file_rows options schema at (Some text) ≡ Err too_large
-large-stops options schema at text h = let large : nat_lt MOST_FILE_BYTES (length text) ≡ true = grind (arith, nat_tests) in rw large refl
+large-stops : (by_name : Bool) (options : CsvReadOptions) (schema : List Field) (at : SourcePlace) (text : List ℕ) → MOST_FILE_BYTES < length text → file_rows_by by_name options schema at (Some text) ≡ Err too_large
+large-stops false options schema at text h = let large : nat_lt MOST_FILE_BYTES (length text) ≡ true = grind (arith, nat_tests) in rw large refl
+large-stops true options schema at text h = let large : nat_lt MOST_FILE_BYTES (length text) ≡ true = grind (arith, nat_tests) in rw large refl
 
 -- where files are told
-pub told-large : (told : Option Files) (name : List ℕ) (options : CsvReadOptions) (schema : List Field) (at : SourcePlace) → IsLarger told name MOST_FILE_BYTES → StopsTold ce.TooLarge options schema at told name
-told-large None name options schema at h = tt
-told-large (Some files) name options schema at h = ap (file_rows options schema at) h.1 ∙ large-stops options schema at h.0 h.2
+pub told-large : (told : Option Files) (name : List ℕ) (by_name : Bool) (options : CsvReadOptions) (schema : List Field) (at : SourcePlace) → IsLarger told name MOST_FILE_BYTES → StopsTold ce.TooLarge by_name options schema at told name
+told-large None name by_name options schema at h = tt
+told-large (Some files) name by_name options schema at h = ap (file_rows_by by_name options schema at) h.1 ∙ large-stops by_name options schema at h.0 h.2
 
 -- a file that isn't too large has the wanted rows of its text
-small-rows : (options : CsvReadOptions) (schema : List Field) (at : SourcePlace) (text : List ℕ) → length text ≤ MOST_FILE_BYTES
-    → file_rows options schema at (Some text) ≡ numbered_rows options.row_index at.rows (text_rows at.file (wanted_after options.n_rows at.rows) schema text)
-small-rows options schema at text h = let small : nat_lt MOST_FILE_BYTES (length text) ≡ false = grind (arith, nat_tests) in rw small refl
+small-rows : (by_name : Bool) (options : CsvReadOptions) (schema : List Field) (at : SourcePlace) (text : List ℕ) → length text ≤ MOST_FILE_BYTES
+    → file_rows_by by_name options schema at (Some text) ≡ numbered_rows options.row_index at.rows (text_rows_by by_name at.file (wanted_after options.n_rows at.rows) schema text)
+small-rows false options schema at text h = let small : nat_lt MOST_FILE_BYTES (length text) ≡ false = grind (arith, nat_tests) in rw small refl
+small-rows true options schema at text h = let small : nat_lt MOST_FILE_BYTES (length text) ≡ false = grind (arith, nat_tests) in rw small refl
 
 -- a misfit stays one
 misfit-kept : (index : Option (List ℕ × ℕ)) (given : ℕ) (read : Result (List (List AnyValue)) Misfit) (m : Misfit) → read ≡ Err m → numbered_rows index given read ≡ Err (misfit m)
@@ -55,12 +61,12 @@ error-kept ce.Memory index given read s = tt
 error-kept (ce.Missing file) index given read s = absurd s
 
 -- where files are told, an error of a text that was read whole
-pub told-misfit : (e : CsvError) (told : Option Files) (name : List ℕ) (options : CsvReadOptions) (schema : List Field) (at : SourcePlace) (text : List ℕ)
-    → IsWhole told name text → length text ≤ MOST_FILE_BYTES → StopsBy e (text_rows at.file (wanted_after options.n_rows at.rows) schema text) → StopsTold e options schema at told name
-told-misfit e None name options schema at text w h s = tt
-told-misfit e (Some files) name options schema at text w h s =
+pub told-misfit : (e : CsvError) (told : Option Files) (name : List ℕ) (by_name : Bool) (options : CsvReadOptions) (schema : List Field) (at : SourcePlace) (text : List ℕ)
+    → IsWhole told name text → length text ≤ MOST_FILE_BYTES → StopsBy e (text_rows_by by_name at.file (wanted_after options.n_rows at.rows) schema text) → StopsTold e by_name options schema at told name
+told-misfit e None name by_name options schema at text w h s = tt
+told-misfit e (Some files) name by_name options schema at text w h s =
     let P : Result (List (List AnyValue)) Stop → Type 0 = λ t. StopsFile e t in
-    let read : file_rows options schema at (file_of files name) ≡ numbered_rows options.row_index at.rows (text_rows at.file (wanted_after options.n_rows at.rows) schema text) = ap (file_rows options schema at) w ∙ small-rows options schema at text h in
+    let read : file_rows_by by_name options schema at (file_of files name) ≡ numbered_rows options.row_index at.rows (text_rows_by by_name at.file (wanted_after options.n_rows at.rows) schema text) = ap (file_rows_by by_name options schema at) w ∙ small-rows by_name options schema at text h in
     subst P (sym read) (error-kept e options.row_index at.rows _ s)
 
 -- rows that can't be numbered
@@ -72,16 +78,16 @@ numbers-stay : (index : Option (List ℕ × ℕ)) (given : ℕ) (read : Result (
 numbers-stay index given read rows e h = rw (e, h) refl
 
 -- where files are told, rows of a text that was read whole can't be numbered
-pub told-numbers : (told : Option Files) (name : List ℕ) (options : CsvReadOptions) (schema : List Field) (at : SourcePlace) (text : List ℕ) (rows : List (List AnyValue)) (count : ℕ)
-    → IsWhole told name text → length text ≤ MOST_FILE_BYTES → text_rows at.file (wanted_after options.n_rows at.rows) schema text ≡ Ok rows → length rows ≡ count → is_numbered options.row_index at.rows count ≡ false → StopsTold ce.TooLarge options schema at told name
-told-numbers None name options schema at text rows count w h r n b = tt
-told-numbers (Some files) name options schema at text rows count w h r n b =
-    ap (file_rows options schema at) w ∙ small-rows options schema at text h ∙ numbers-pass options.row_index at.rows _ rows r (ap (is_numbered options.row_index at.rows) n ∙ b)
+pub told-numbers : (told : Option Files) (name : List ℕ) (by_name : Bool) (options : CsvReadOptions) (schema : List Field) (at : SourcePlace) (text : List ℕ) (rows : List (List AnyValue)) (count : ℕ)
+    → IsWhole told name text → length text ≤ MOST_FILE_BYTES → text_rows_by by_name at.file (wanted_after options.n_rows at.rows) schema text ≡ Ok rows → length rows ≡ count → is_numbered options.row_index at.rows count ≡ false → StopsTold ce.TooLarge by_name options schema at told name
+told-numbers None name by_name options schema at text rows count w h r n b = tt
+told-numbers (Some files) name by_name options schema at text rows count w h r n b =
+    ap (file_rows_by by_name options schema at) w ∙ small-rows by_name options schema at text h ∙ numbers-pass options.row_index at.rows _ rows r (ap (is_numbered options.row_index at.rows) n ∙ b)
 
 -- the rows of a text that was read whole and can be numbered
-pub text-wanted : (options : CsvReadOptions) (schema : List Field) (at : SourcePlace) (text : List ℕ) (rows : List (List AnyValue)) (count : ℕ)
-    → length text ≤ MOST_FILE_BYTES → text_rows at.file (wanted_after options.n_rows at.rows) schema text ≡ Ok rows → length rows ≡ count → is_numbered options.row_index at.rows count ≡ true → file_rows options schema at (Some text) ≡ Ok rows
-text-wanted options schema at text rows count h r n b = small-rows options schema at text h ∙ numbers-stay options.row_index at.rows _ rows r (ap (is_numbered options.row_index at.rows) n ∙ b)
+pub text-wanted : (by_name : Bool) (options : CsvReadOptions) (schema : List Field) (at : SourcePlace) (text : List ℕ) (rows : List (List AnyValue)) (count : ℕ)
+    → length text ≤ MOST_FILE_BYTES → text_rows_by by_name at.file (wanted_after options.n_rows at.rows) schema text ≡ Ok rows → length rows ≡ count → is_numbered options.row_index at.rows count ≡ true → file_rows_by by_name options schema at (Some text) ≡ Ok rows
+text-wanted by_name options schema at text rows count h r n b = small-rows by_name options schema at text h ∙ numbers-stay options.row_index at.rows _ rows r (ap (is_numbered options.row_index at.rows) n ∙ b)
 
 -- ---- files
 
@@ -93,51 +99,55 @@ behind-none options at =
     ap (λ (n : ℕ). let p : SourcePlace = record { file = at.file + 1; chunks = n; rows = at.rows + 0 } in p) a ∙ ap (λ (n : ℕ). let p : SourcePlace = record { file = at.file + 1; chunks = at.chunks; rows = n } in p) b
 
 -- the next file of some names, of which rows are wanted
-next-file : (options : CsvReadOptions) (schema : List Field) (files : Files) (at : SourcePlace) (names rest : List (List ℕ)) (name : List ℕ) → names ≡ name ∷ rest → is_any_wanted (wanted_after options.n_rows at.rows) ≡ true
-    → csv_chunks_from options schema files at names ≡ go_on (file_rows options schema at (file_of files name)) (λ rows. chunks_then (file_chunks options schema name at rows) (csv_chunks_from options schema files (behind options at rows) rest))
-next-file options schema files at names rest name e h = rw (e, h) refl
+next-file : (by_name : Bool) (options : CsvReadOptions) (schema : List Field) (files : Files) (at : SourcePlace) (names rest : List (List ℕ)) (name : List ℕ) → names ≡ name ∷ rest → is_any_wanted (wanted_after options.n_rows at.rows) ≡ true
+    → chunks_by by_name options schema files at names ≡ go_on (file_rows_by by_name options schema at (file_of files name)) (λ rows. chunks_then (file_chunks options schema name at rows) (chunks_by by_name options schema files (behind options at rows) rest))
+next-file false options schema files at names rest name e h = rw (e, h) refl
+next-file true options schema files at names rest name e h = rw (e, h) refl
 
 -- a file that has rows
-pub next-rows : (options : CsvReadOptions) (schema : List Field) (files : Files) (at : SourcePlace) (names rest : List (List ℕ)) (name : List ℕ) (rows : List (List AnyValue)) → names ≡ name ∷ rest → is_any_wanted (wanted_after options.n_rows at.rows) ≡ true → file_rows options schema at (file_of files name) ≡ Ok rows
-    → csv_chunks_from options schema files at names ≡ chunks_then (file_chunks options schema name at rows) (csv_chunks_from options schema files (behind options at rows) rest)
-next-rows options schema files at names rest name rows e h r =
-    let more : List (List AnyValue) → CsvChunks = λ rows. chunks_then (file_chunks options schema name at rows) (csv_chunks_from options schema files (behind options at rows) rest) in
-    next-file options schema files at names rest name e h ∙ ap (λ (t : Result (List (List AnyValue)) Stop). go_on t more) r
+pub next-rows : (by_name : Bool) (options : CsvReadOptions) (schema : List Field) (files : Files) (at : SourcePlace) (names rest : List (List ℕ)) (name : List ℕ) (rows : List (List AnyValue)) → names ≡ name ∷ rest → is_any_wanted (wanted_after options.n_rows at.rows) ≡ true → file_rows_by by_name options schema at (file_of files name) ≡ Ok rows
+    → chunks_by by_name options schema files at names ≡ chunks_then (file_chunks options schema name at rows) (chunks_by by_name options schema files (behind options at rows) rest)
+next-rows by_name options schema files at names rest name rows e h r =
+    let more : List (List AnyValue) → CsvChunks = λ rows. chunks_then (file_chunks options schema name at rows) (chunks_by by_name options schema files (behind options at rows) rest) in
+    next-file by_name options schema files at names rest name e h ∙ ap (λ (t : Result (List (List AnyValue)) Stop). go_on t more) r
 
 -- a file that stops
-next-stops : (options : CsvReadOptions) (schema : List Field) (files : Files) (at : SourcePlace) (names rest : List (List ℕ)) (name : List ℕ) (stop : Stop) → names ≡ name ∷ rest → is_any_wanted (wanted_after options.n_rows at.rows) ≡ true → file_rows options schema at (file_of files name) ≡ Err stop → csv_chunks_from options schema files at names ≡ stopped stop
-next-stops options schema files at names rest name stop e h r =
-    let more : List (List AnyValue) → CsvChunks = λ rows. chunks_then (file_chunks options schema name at rows) (csv_chunks_from options schema files (behind options at rows) rest) in
-    next-file options schema files at names rest name e h ∙ ap (λ (t : Result (List (List AnyValue)) Stop). go_on t more) r
+next-stops : (by_name : Bool) (options : CsvReadOptions) (schema : List Field) (files : Files) (at : SourcePlace) (names rest : List (List ℕ)) (name : List ℕ) (stop : Stop) → names ≡ name ∷ rest → is_any_wanted (wanted_after options.n_rows at.rows) ≡ true → file_rows_by by_name options schema at (file_of files name) ≡ Err stop → chunks_by by_name options schema files at names ≡ stopped stop
+next-stops by_name options schema files at names rest name stop e h r =
+    let more : List (List AnyValue) → CsvChunks = λ rows. chunks_then (file_chunks options schema name at rows) (chunks_by by_name options schema files (behind options at rows) rest) in
+    next-file by_name options schema files at names rest name e h ∙ ap (λ (t : Result (List (List AnyValue)) Stop). go_on t more) r
 
 -- a file without rows is passed
-pub next-passed : (options : CsvReadOptions) (schema : List Field) (files : Files) (at : SourcePlace) (names rest : List (List ℕ)) (name : List ℕ) (rows : List (List AnyValue)) → names ≡ name ∷ rest → is_any_wanted (wanted_after options.n_rows at.rows) ≡ true → file_rows options schema at (file_of files name) ≡ Ok rows → length rows ≡ 0
-    → csv_chunks_from options schema files at names ≡ csv_chunks_from options schema files (record { file = at.file + 1; chunks = at.chunks; rows = at.rows }) rest
-next-passed options schema files at names rest name rows e h r n =
+pub next-passed : (by_name : Bool) (options : CsvReadOptions) (schema : List Field) (files : Files) (at : SourcePlace) (names rest : List (List ℕ)) (name : List ℕ) (rows : List (List AnyValue)) → names ≡ name ∷ rest → is_any_wanted (wanted_after options.n_rows at.rows) ≡ true → file_rows_by by_name options schema at (file_of files name) ≡ Ok rows → length rows ≡ 0
+    → chunks_by by_name options schema files at names ≡ chunks_by by_name options schema files (record { file = at.file + 1; chunks = at.chunks; rows = at.rows }) rest
+next-passed by_name options schema files at names rest name rows e h r n =
     let none : rows ≡ [] = nil_from_length rows n in
-    next-rows options schema files at names rest name rows e h r
-    ∙ ap (λ (t : List (List AnyValue)). chunks_then (file_chunks options schema name at t) (csv_chunks_from options schema files (behind options at t) rest)) none
-    ∙ ap (λ (p : SourcePlace). csv_chunks_from options schema files p rest) (behind-none options at)
+    next-rows by_name options schema files at names rest name rows e h r
+    ∙ ap (λ (t : List (List AnyValue)). chunks_then (file_chunks options schema name at t) (chunks_by by_name options schema files (behind options at t) rest)) none
+    ∙ ap (λ (p : SourcePlace). chunks_by by_name options schema files p rest) (behind-none options at)
 
 -- an error of the next file is where the files stop
-pub error-stops : (e : CsvError) (options : CsvReadOptions) (schema : List Field) (files : Files) (at : SourcePlace) (names rest : List (List ℕ)) (name : List ℕ) → names ≡ name ∷ rest → is_any_wanted (wanted_after options.n_rows at.rows) ≡ true
-    → StopsFile e (file_rows options schema at (file_of files name)) → StopsAt e (csv_chunks_from options schema files at names)
-error-stops (ce.Header file) options schema files at names rest name h w s = next-stops options schema files at names rest name _ h w s
-error-stops (ce.Width file row) options schema files at names rest name h w s = next-stops options schema files at names rest name _ h w s
-error-stops (ce.Field file row column) options schema files at names rest name h w s = next-stops options schema files at names rest name _ h w s
-error-stops ce.Input options schema files at names rest name h w s = tt
-error-stops ce.TooLarge options schema files at names rest name h w s = next-stops options schema files at names rest name _ h w s
-error-stops ce.Memory options schema files at names rest name h w s = tt
-error-stops (ce.Missing file) options schema files at names rest name h w s = next-stops options schema files at names rest name _ h w s
+pub error-stops : (e : CsvError) (by_name : Bool) (options : CsvReadOptions) (schema : List Field) (files : Files) (at : SourcePlace) (names rest : List (List ℕ)) (name : List ℕ) → names ≡ name ∷ rest → is_any_wanted (wanted_after options.n_rows at.rows) ≡ true
+    → StopsFile e (file_rows_by by_name options schema at (file_of files name)) → StopsAt e (chunks_by by_name options schema files at names)
+error-stops (ce.Header file) by_name options schema files at names rest name h w s = next-stops by_name options schema files at names rest name _ h w s
+error-stops (ce.Width file row) by_name options schema files at names rest name h w s = next-stops by_name options schema files at names rest name _ h w s
+error-stops (ce.Field file row column) by_name options schema files at names rest name h w s = next-stops by_name options schema files at names rest name _ h w s
+error-stops ce.Input by_name options schema files at names rest name h w s = tt
+error-stops ce.TooLarge by_name options schema files at names rest name h w s = next-stops by_name options schema files at names rest name _ h w s
+error-stops ce.Memory by_name options schema files at names rest name h w s = tt
+error-stops (ce.Missing file) by_name options schema files at names rest name h w s = next-stops by_name options schema files at names rest name _ h w s
 
 -- no name is left
-pub names-over : (options : CsvReadOptions) (schema : List Field) (files : Files) (at : SourcePlace) (names : List (List ℕ)) → names ≡ [] → csv_chunks_from options schema files at names ≡ no_more
-names-over options schema files at names e = rw e refl
+pub names-over : (by_name : Bool) (options : CsvReadOptions) (schema : List Field) (files : Files) (at : SourcePlace) (names : List (List ℕ)) → names ≡ [] → chunks_by by_name options schema files at names ≡ no_more
+names-over false options schema files at names e = rw e refl
+names-over true options schema files at names e = rw e refl
 
 -- no row is wanted
-pub none-wanted : (options : CsvReadOptions) (schema : List Field) (files : Files) (at : SourcePlace) (names : List (List ℕ)) → is_any_wanted (wanted_after options.n_rows at.rows) ≡ false → csv_chunks_from options schema files at names ≡ no_more
-none-wanted options schema files at [] h = refl
-none-wanted options schema files at (name ∷ names) h = rw h refl
+pub none-wanted : (by_name : Bool) (options : CsvReadOptions) (schema : List Field) (files : Files) (at : SourcePlace) (names : List (List ℕ)) → is_any_wanted (wanted_after options.n_rows at.rows) ≡ false → chunks_by by_name options schema files at names ≡ no_more
+none-wanted false options schema files at [] h = refl
+none-wanted false options schema files at (name ∷ names) h = rw h refl
+none-wanted true options schema files at [] h = refl
+none-wanted true options schema files at (name ∷ names) h = rw h refl
 
 -- ---- chunks
 

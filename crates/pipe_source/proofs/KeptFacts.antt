@@ -13,13 +13,17 @@ use Rattle.pipe_csv.specs.CsvRows.{Misfit, read_rows}
 use Rattle.pipe_io.specs.Files.{Files}
 use Rattle.pipe_io.specs.declared.whole_file.TheConstants.{MOST_FILE_BYTES}
 use Rattle.pipe_scan.specs.Records.{Records, records_at}
-use Rattle.pipe_source.specs.CsvChunks.{CsvChunks, chunks_then, file_rows, is_any_wanted, is_numbered, numbered_rows, wanted_after}
+use Rattle.pipe_source.specs.ByName.{file_rows_by}
+use Rattle.pipe_source.specs.CsvChunks.{CsvChunks, chunks_then, is_any_wanted, is_numbered, numbered_rows, wanted_after}
 use Rattle.pipe_source.specs.Found.{IsFound, file_at}
 use Rattle.pipe_source.specs.Next.{IsTextOfNext}
 use Rattle.pipe_source.specs.declared.file_text.FileText.{FileText}
-use Rattle.pipe_source.specs.Kept.{AreNumbered, AreStartsFrom, IsAdvanced, HasRowsLeft, IsSourcePlace, IsFitReading, chunks_at, cursor_of, given_chunk, name_kept, piece_at, place_behind, rows_kept, kept_state}
+use Rattle.pipe_source.specs.Kept.{AreNumbered, AreWantedBy, AreStartsFrom, IsAdvanced, HasRowsLeft, IsSourcePlace, IsFitReading, chunks_at, cursor_of, given_chunk, name_kept, piece_at, place_behind, rows_kept, kept_state}
 use Rattle.pipe_source.specs.Reader.{ReaderState, chunks_left}
-use Rattle.pipe_source.specs.Rows.{AreRowsAt, AreStarts, IsStart}
+use Rattle.pipe_source.specs.LaidRows.{AreLaidAt}
+use Rattle.pipe_source.specs.Layout.{IsWholeLayout, laid, LayoutFits}
+use Rattle.pipe_source.specs.Rows.{AreStarts, IsStart}
+use Rattle.pipe_source.specs.declared.layout.Layout.{Layout}
 use Rattle.pipe_source.specs.declared.kept_text.KeptText.{KeptText}
 use Rattle.pipe_source.specs.declared.read_options.CsvReadOptions.{CsvReadOptions}
 use Rattle.pipe_source.specs.declared.reading.Reading.{Reading}
@@ -38,8 +42,12 @@ numbers-kept index given (Ok own) rows e = by (is_numbered index given (length o
   by false h = let stop = rw h at e in cc
 
 -- the wanted rows of a file are numbered
-pub file-numbered : (options : CsvReadOptions) (schema : List Field) (at : SourcePlace) (text : List ℕ) (rows : List (List AnyValue)) → file_rows options schema at (Some text) ≡ Ok rows → is_numbered options.row_index at.rows (length rows) ≡ true
-file-numbered options schema at text rows e = by (nat_lt MOST_FILE_BYTES (length text)) refl where
+pub file-numbered : (by_name : Bool) (options : CsvReadOptions) (schema : List Field) (at : SourcePlace) (text : List ℕ) (rows : List (List AnyValue)) → file_rows_by by_name options schema at (Some text) ≡ Ok rows → is_numbered options.row_index at.rows (length rows) ≡ true
+file-numbered false options schema at text rows e = by (nat_lt MOST_FILE_BYTES (length text)) refl where
+  by : (t : Bool) → nat_lt MOST_FILE_BYTES (length text) ≡ t → is_numbered options.row_index at.rows (length rows) ≡ true
+  by true h = let stop = rw h at e in cc
+  by false h = let read = rw h at e in numbers-kept options.row_index at.rows _ rows read
+file-numbered true options schema at text rows e = by (nat_lt MOST_FILE_BYTES (length text)) refl where
   by : (t : Bool) → nat_lt MOST_FILE_BYTES (length text) ≡ t → is_numbered options.row_index at.rows (length rows) ≡ true
   by true h = let stop = rw h at e in cc
   by false h = let read = rw h at e in numbers-kept options.row_index at.rows _ rows read
@@ -81,11 +89,11 @@ starts-first text at size count starts some s =
     }
 
 -- its rows stand there
-pub rows-first : (schema : List Field) (text : List ℕ) (at size count : ℕ) (starts : List ℕ) (rows : List (List AnyValue)) → 0 < count → AreStarts text at size count starts → AreRowsAt schema text at count rows → AreRowsAt schema text (get_or starts 0 0) count rows
-rows-first schema text at size count starts rows some s a =
+pub rows-first : (layout : Option Layout) (schema : List Field) (text : List ℕ) (at size count : ℕ) (starts : List ℕ) (rows : List (List AnyValue)) → 0 < count → AreStarts text at size count starts → AreLaidAt layout schema text at count rows → AreLaidAt layout schema text (get_or starts 0 0) count rows
+rows-first layout schema text at size count starts rows some s a =
     let start = start-first text at size count starts some s in
     record {
-      read = ap (λ (t : Records). read_rows 1 1 schema (take count t)) (behind-none text at size (get_or starts 0 0) start) ∙ a.read;
+      read = ap (λ (t : Records). read_rows 1 1 schema (take count (laid layout t))) (behind-none text at size (get_or starts 0 0) start) ∙ a.read;
       size = a.size;
       within = start.within;
     }
@@ -100,15 +108,15 @@ chunk-there text size left n starts chunk s h =
     omega (arith, s.within)
 
 -- the rows of a chunk stand at its start
-pub piece-placed : (schema : List Field) (text : List ℕ) (size left n count : ℕ) (starts : List ℕ) (chunk : ℕ) (rows : List (List AnyValue))
-    → AreStartsFrom text size left starts chunk → AreRowsAt schema text (get_or starts chunk 0) left rows → n * size < left → count ≡ min (left - n * size) size
-    → AreRowsAt schema text (get_or starts (chunk + n) 0) count (piece_at size n rows)
-piece-placed schema text size left n count starts chunk rows s a h c =
+pub piece-placed : (layout : Option Layout) (schema : List Field) (text : List ℕ) (size left n count : ℕ) (starts : List ℕ) (chunk : ℕ) (rows : List (List AnyValue))
+    → AreStartsFrom text size left starts chunk → AreLaidAt layout schema text (get_or starts chunk 0) left rows → n * size < left → count ≡ min (left - n * size) size
+    → AreLaidAt layout schema text (get_or starts (chunk + n) 0) count (piece_at size n rows)
+piece-placed layout schema text size left n count starts chunk rows s a h c =
     let start = (s.each n (chunk-there text size left n starts chunk s h)).1 in
-    let back = back-placed (n * size) left schema text (get_or starts chunk 0) (get_or starts (chunk + n) 0) rows a (omega arith) start.behind start.within in
-    let front = front-placed count (left - n * size) schema text (get_or starts (chunk + n) 0) (drop (n * size) rows) back (omega arith) in
+    let back = back-placed (n * size) left layout schema text (get_or starts chunk 0) (get_or starts (chunk + n) 0) rows a (omega arith) start.behind start.within in
+    let front = front-placed count (left - n * size) layout schema text (get_or starts (chunk + n) 0) (drop (n * size) rows) back (omega arith) in
     let same : take count (drop (n * size) rows) ≡ piece_at size n rows = first-rows count (left - n * size) size (drop (n * size) rows) _ refl c back.size in
-    subst (λ (t : List (List AnyValue)). AreRowsAt schema text (get_or starts (chunk + n) 0) count t) same front
+    subst (λ (t : List (List AnyValue)). AreLaidAt layout schema text (get_or starts (chunk + n) 0) count t) same front
 
 -- and are numbered
 pub piece-numbered : (index : Option (List ℕ × ℕ)) (given left before count : ℕ) → before + count ≤ left → is_numbered index given left ≡ true → is_numbered index (given + before) count ≡ true
@@ -116,25 +124,32 @@ piece-numbered index given left before count h e = numbered-fewer index (given +
 
 -- ---- the next file
 
+-- a layout that was found is fit, and all columns are wanted
+whole-layout : (schema : List Field) (wanted : List Bool) (by_name : Bool) (layout : Option Layout) → AreWantedBy by_name wanted → LayoutFits schema by_name layout → IsWholeLayout schema wanted layout
+whole-layout schema wanted by_name None all fit = tt
+whole-layout schema wanted false (Some l) all fit = cc
+whole-layout schema wanted true (Some l) all fit = (fit.1, all)
+
 -- a text that was found is what is kept of it
-pub text-next : (what : Reading) (told : Option Files) (last : SourcePlace) (i : ℕ) (f : FileText) → IsFitReading what → IsSourcePlace what last → IsFound what.options what.schema told what.names.items last i f
-    → is_any_wanted (wanted_after what.options.n_rows last.rows) ≡ true → IsTextOfNext what told last (record { at = file_at last i; text = f.text; starts = f.starts; chunk = 0; left = f.count })
+pub text-next : (what : Reading) (told : Option Files) (last : SourcePlace) (i : ℕ) (f : FileText) → IsFitReading what → IsSourcePlace what last → IsFound what.by_name what.options what.schema told what.names.items last i f
+    → is_any_wanted (wanted_after what.options.n_rows last.rows) ≡ true → IsTextOfNext what told last (record { at = file_at last i; layout = f.layout; text = f.text; starts = f.starts; chunk = 0; left = f.count })
 text-next what told last i f reading place h wanted =
-    let placed : AreRowsAt what.schema f.text.items (get_or f.starts.items 0 0) f.count h.loaded.rows = rows-first what.schema f.text.items f.begin what.options.chunk_size f.count f.starts.items h.loaded.rows h.some h.loaded.starts h.loaded.placed in
+    let placed : AreLaidAt f.layout what.schema f.text.items (get_or f.starts.items 0 0) f.count h.loaded.rows = rows-first f.layout what.schema f.text.items f.begin what.options.chunk_size f.count f.starts.items h.loaded.rows h.some h.loaded.starts h.loaded.placed in
     record {
       kept = record {
         files = omega (arith, h.within);
         rows = h.loaded.rows;
         placed = placed;
+        layout = whole-layout what.schema what.wanted.items what.by_name f.layout reading.named h.loaded.fit;
         starts = starts-first f.text.items f.begin what.options.chunk_size f.count f.starts.items h.some h.loaded.starts;
         few_rows = omega (arith, place.rows, h.from, h.loaded.few);
         few_chunks = omega (arith, place.chunks, h.from, h.loaded.few);
-        numbered = λ some. subst (λ (n : ℕ). AreNumbered what.options.row_index last.rows n) h.loaded.placed.size (file-numbered what.options what.schema (file_at last i) f.text.items h.loaded.rows h.loaded.wanted);
+        numbered = λ some. subst (λ (n : ℕ). AreNumbered what.options.row_index last.rows n) h.loaded.placed.size (file-numbered what.by_name what.options what.schema (file_at last i) f.text.items h.loaded.rows h.loaded.wanted);
       };
       some = h.some;
       rows = refl;
       chunks = refl;
-      same = found-left told what.options what.schema what.wanted.items what.names.items last i f _ h (rows-seen what.schema f.text.items (get_or f.starts.items 0 0) f.count h.loaded.rows placed) wanted;
+      same = found-left told what.by_name what.options what.schema what.wanted.items what.names.items last i f _ h (rows-seen f.layout what.schema f.text.items (get_or f.starts.items 0 0) f.count h.loaded.rows placed) wanted;
     }
 
 -- ---- behind some chunks
@@ -174,13 +189,13 @@ start-within text size left n starts chunk false e s =
     omega (arith, get-past starts (chunk + n) past)
 
 -- the rows behind some chunks, from the start of the next
-rows-behind : (schema : List Field) (text : List ℕ) (size left n : ℕ) (starts : List ℕ) (chunk : ℕ) (rows : List (List AnyValue)) (some : Bool) → nat_lt (n * size) left ≡ some
-    → AreStartsFrom text size left starts chunk → AreRowsAt schema text (get_or starts chunk 0) left rows → AreRowsAt schema text (get_or starts (chunk + n) 0) (left - n * size) (drop (n * size) rows)
-rows-behind schema text size left n starts chunk rows true e s a =
+rows-behind : (layout : Option Layout) (schema : List Field) (text : List ℕ) (size left n : ℕ) (starts : List ℕ) (chunk : ℕ) (rows : List (List AnyValue)) (some : Bool) → nat_lt (n * size) left ≡ some
+    → AreStartsFrom text size left starts chunk → AreLaidAt layout schema text (get_or starts chunk 0) left rows → AreLaidAt layout schema text (get_or starts (chunk + n) 0) (left - n * size) (drop (n * size) rows)
+rows-behind layout schema text size left n starts chunk rows true e s a =
     let some : n * size < left = grind (arith, nat_tests) in
     let start = (s.each n (chunk-there text size left n starts chunk s some)).1 in
-    back-placed (n * size) left schema text (get_or starts chunk 0) (get_or starts (chunk + n) 0) rows a (omega arith) start.behind start.within
-rows-behind schema text size left n starts chunk rows false e s a =
+    back-placed (n * size) left layout schema text (get_or starts chunk 0) (get_or starts (chunk + n) 0) rows a (omega arith) start.behind start.within
+rows-behind layout schema text size left n starts chunk rows false e s a =
     let none : left ≤ n * size = grind (arith, nat_tests) in
     let zero_left : left - n * size ≡ 0 = omega arith in
     let no_rows : drop (n * size) rows ≡ [] = drop_all (n * size) rows (omega (arith, a.size)) in
@@ -213,12 +228,12 @@ no-rows what k e = rw e refl
 
 pub some-rows : (what : Reading) (k : KeptText) → HasRowsLeft what k → 0 < k.left → 0 < length (rows_kept what k)
 some-rows what k kept h =
-    let seen = rows-seen what.schema k.text.items (cursor_of k) k.left kept.rows kept.placed in
+    let seen = rows-seen k.layout what.schema k.text.items (cursor_of k) k.left kept.rows kept.placed in
     subst (λ (rows : List (List AnyValue)). 0 < length rows) (sym seen) (omega (arith, h, kept.placed.size))
 
 -- its rows behind some chunks
-placed-behind : (what : Reading) (n : ℕ) (old new : KeptText) → (k : HasRowsLeft what old) → IsAdvanced what.options.chunk_size n old new → AreRowsAt what.schema new.text.items (cursor_of new) new.left (drop (n * what.options.chunk_size) k.rows)
-placed-behind what n old new k a = rw (a.text, a.starts, a.chunk, a.left) (rows-behind what.schema old.text.items what.options.chunk_size old.left n old.starts.items old.chunk k.rows _ refl k.starts k.placed)
+placed-behind : (what : Reading) (n : ℕ) (old new : KeptText) → (k : HasRowsLeft what old) → IsAdvanced what.options.chunk_size n old new → AreLaidAt new.layout what.schema new.text.items (cursor_of new) new.left (drop (n * what.options.chunk_size) k.rows)
+placed-behind what n old new k a = rw (a.layout, a.text, a.starts, a.chunk, a.left) (rows-behind old.layout what.schema old.text.items what.options.chunk_size old.left n old.starts.items old.chunk k.rows _ refl k.starts k.placed)
 
 -- what is kept behind some chunks
 pub kept-behind : (what : Reading) (n : ℕ) (old new : KeptText) → IsFitReading what → HasRowsLeft what old → IsAdvanced what.options.chunk_size n old new → old.chunk + n ≤ length old.starts.items → HasRowsLeft what new
@@ -229,6 +244,7 @@ kept-behind what n old new reading k a h =
       files = omega (arith, k.files, a.file);
       rows = drop (n * size) k.rows;
       placed = placed-behind what n old new k a;
+      layout = rw a.layout k.layout;
       starts = rw (a.text, a.starts, a.chunk, a.left) (starts-behind old.text.items size old.left n old.starts.items old.chunk reading.size k.starts h);
       few_rows = omega (arith, k.few_rows, a.file, a.rows, a.left);
       few_chunks = omega (arith, k.few_chunks, a.file, a.chunks, a.left, few);
@@ -244,7 +260,7 @@ kept-behind what n old new reading k a h =
 
 -- a reader's state over given rows
 abbrev state_at : Reading → SourcePlace → List ℕ → List (List AnyValue) → ReaderState
-state_at what at file rows = record { schema = what.schema; wanted = what.wanted.items; options = what.options; at = at; file = file; rows = rows; names = drop at.file what.names.items }
+state_at what at file rows = record { by_name = what.by_name; schema = what.schema; wanted = what.wanted.items; options = what.options; at = at; file = file; rows = rows; names = drop at.file what.names.items }
 
 -- the place behind the rows of so many chunks
 abbrev place_after : SourcePlace → ℕ → ℕ → List (List AnyValue) → SourcePlace
@@ -264,7 +280,7 @@ one-goes files what at file rows n p h =
     let here : SourcePlace = place_after at size n rows in
     let many : length (take (n * size) rows) ≡ n * size = omega (arith, length-take (n * size) rows) in
     let more : (n + 1) * size ≡ n * size + size = add-mul n 1 size ∙ ap (λ i. n * size + i) (one-mul size) in
-    let first = first-goes files what.options what.schema what.wanted.items here file (drop at.file what.names.items) rest p (omega (arith, length-drop (n * size) rows)) in
+    let first = first-goes files what.by_name what.options what.schema what.wanted.items here file (drop at.file what.names.items) rest p (omega (arith, length-drop (n * size) rows)) in
     let behind : drop size rest ≡ drop ((n + 1) * size) rows = drop-sum (n * size) size ((n + 1) * size) rows (sym more) in
     let count : at.rows + length (take (n * size) rows) + length (take size rest) ≡ at.rows + length (take ((n + 1) * size) rows) = omega (arith, length-take (n * size) rows, length-take size rest, length-drop (n * size) rows, length-take ((n + 1) * size) rows, more) in
     let chunks : at.chunks + n + 1 ≡ at.chunks + (n + 1) = omega arith in
@@ -306,8 +322,8 @@ pub chunks-given : (files : Files) (what : Reading) (n : ℕ) (old new : KeptTex
 chunks-given files what n old new reading k a h =
     let size : ℕ = what.options.chunk_size in
     let file : List ℕ = name_kept what old in
-    let before : rows_kept what old ≡ k.rows = rows-seen what.schema old.text.items (cursor_of old) old.left k.rows k.placed in
-    let after : rows_kept what new ≡ drop (n * size) k.rows = rows-seen what.schema new.text.items (cursor_of new) new.left (drop (n * size) k.rows) (placed-behind what n old new k a) in
+    let before : rows_kept what old ≡ k.rows = rows-seen old.layout what.schema old.text.items (cursor_of old) old.left k.rows k.placed in
+    let after : rows_kept what new ≡ drop (n * size) k.rows = rows-seen new.layout what.schema new.text.items (cursor_of new) new.left (drop (n * size) k.rows) (placed-behind what n old new k a) in
     let some = starts-some old.text.items size old.left n old.starts.items old.chunk k.starts h in
     let go = chunks-go files what old.at file (rows_kept what old) n reading.size (λ i l. rw (before, k.placed.size) (some i l)) in
     let rows : drop (n * size) (rows_kept what old) ≡ rows_kept what new = ap (drop (n * size)) before ∙ sym after in
@@ -320,7 +336,7 @@ chunks-given files what n old new reading k a h =
 pub chunk-more : (what : Reading) (k : KeptText) → HasRowsLeft what k → 0 < length (rows_kept what k) → k.chunk + 1 ≤ length k.starts.items
 chunk-more what k kept some =
     let size : ℕ = what.options.chunk_size in
-    let left : 0 < k.left = omega (arith, kept.placed.size, ap length (rows-seen what.schema k.text.items (cursor_of k) k.left kept.rows kept.placed), some) in
+    let left : 0 < k.left = omega (arith, kept.placed.size, ap length (rows-seen k.layout what.schema k.text.items (cursor_of k) k.left kept.rows kept.placed), some) in
     let first : 0 * size < k.left = rw (zero-mul size) left in
     omega (arith, chunk-there k.text.items size k.left 0 k.starts.items k.chunk kept.starts first)
 
@@ -337,9 +353,18 @@ more-at f (x ∷ xs) first each =
     ∙ ap (λ t. t ++ xs) (sym front) ∙ rest ∙ ap (λ k. map f (range_with_len 0 k)) (omega arith)
 
 -- nothing is left of no text
-pub kept-none : (what : Reading) (k : KeptText) → IsSourcePlace what k.at → k.text.items ≡ [] → k.starts.items ≡ [] → k.chunk ≡ 0 → k.left ≡ 0 → HasRowsLeft what k
-kept-none what k at t s c l = search rules
+pub kept-none : (what : Reading) (k : KeptText) → IsSourcePlace what k.at → k.layout ≡ None → k.text.items ≡ [] → k.starts.items ≡ [] → k.chunk ≡ 0 → k.left ≡ 0 → HasRowsLeft what k
+kept-none what k at y t s c l = record {
+  files = at.files;
+  rows = [];
+  placed = rw (y, t, c, s, l) (record { read = refl; size = refl; within = omega arith });
+  layout = rw y tt;
+  starts = rw (t, c, s, l) (record { within = omega arith; each = λ j h. absurd (omega (arith, h)); all = omega arith });
+  few_rows = omega (arith, at.rows, l);
+  few_chunks = omega (arith, at.chunks, l);
+  numbered = λ some. absurd (omega (arith, some, l));
+}
 
 -- nor before any file
-pub kept-start : (what : Reading) (k : KeptText) → k.at ≡ record { file = 0; chunks = 0; rows = 0 } → k.text.items ≡ [] → k.starts.items ≡ [] → k.chunk ≡ 0 → k.left ≡ 0 → HasRowsLeft what k
-kept-start what k a t s c l = kept-none what k (subst (IsSourcePlace what) (sym a) (record { files = omega arith; rows = omega arith; chunks = omega arith })) t s c l
+pub kept-start : (what : Reading) (k : KeptText) → k.at ≡ record { file = 0; chunks = 0; rows = 0 } → k.layout ≡ None → k.text.items ≡ [] → k.starts.items ≡ [] → k.chunk ≡ 0 → k.left ≡ 0 → HasRowsLeft what k
+kept-start what k a y t s c l = kept-none what k (subst (IsSourcePlace what) (sym a) (record { files = omega arith; rows = omega arith; chunks = omega arith })) y t s c l

@@ -17,4 +17,7 @@ pub mod ChunksFit
 pub mod PieceRows
 pub mod PlainReads
 pub mod CheckedRows
+pub mod LayoutFacts
+pub mod LaidFacts
+pub mod NamedAgree
 pub mod QuotedFacts

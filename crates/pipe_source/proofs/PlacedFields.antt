@@ -84,7 +84,7 @@ values-chosen ws values n e =
     ∙ ap (chosen ws) (ap (λ (m : ℕ). map (λ place. get_or values place av.Null) (range_with_len 0 m)) (sym e) ∙ all_values values 0 (λ place. get_or values place av.Null) (λ i l. let z : 0 + i ≡ i = omega arith in rw z refl))
 
 -- of lists of one length as many are wanted
-same-count : {A B : Type 0} (ws : List Bool) (xs : List A) (ys : List B) → length xs ≡ length ys → length (chosen ws xs) ≡ length (chosen ws ys)
+pub same-count : {A B : Type 0} (ws : List Bool) (xs : List A) (ys : List B) → length xs ≡ length ys → length (chosen ws xs) ≡ length (chosen ws ys)
 same-count [] xs ys e = e
 same-count (w ∷ ws) [] [] e = refl
 same-count (w ∷ ws) [] (y ∷ ys) e = absurd (omega (arith, e))

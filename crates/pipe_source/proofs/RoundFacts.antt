@@ -116,7 +116,7 @@ read-or-none what told last before now count old new h same gone = by old.left r
       let g = gone e in
       let place : IsSourcePlace what new.at = subst (IsSourcePlace what) (sym g.at) h.place in
       record {
-        kept = kept-none what new place g.text g.starts g.chunk g.left;
+        kept = kept-none what new place g.layout g.text g.starts g.chunk g.left;
         more = h.more;
         pushed = h.pushed;
         some = h.some;
@@ -233,8 +233,8 @@ past-given : (files : Files) (what : Reading) (k : KeptText) (n : ℕ) → IsFit
 past-given files what k n reading kept e =
     let size : ℕ = what.options.chunk_size in
     let enough : k.left ≤ n * size = subst (λ i. k.left ≤ i * size) (sym e) kept.starts.all in
-    let past : KeptText = record { at = place_past k; text = k.text; starts = k.starts; chunk = k.chunk + n; left = 0 } in
-    let advanced : IsAdvanced size n k past = record { text = refl; starts = refl; chunk = refl; left = omega arith; file = refl; chunks = omega arith; rows = omega arith } in
+    let past : KeptText = record { at = place_past k; layout = k.layout; text = k.text; starts = k.starts; chunk = k.chunk + n; left = 0 } in
+    let advanced : IsAdvanced size n k past = record { layout = refl; text = refl; starts = refl; chunk = refl; left = omega arith; file = refl; chunks = omega arith; rows = omega arith } in
     chunks-given files what n k past reading kept advanced (omega (arith, kept.starts.within)) ∙ ap (chunks_then (chunks_at what k n)) (behind-all files what n k past kept advanced e)
 
 -- a round over the text and the files behind it

@@ -1,7 +1,8 @@
 -- The rows of a text: its header, the rows that are wanted, and their pieces.
 use Rattle.std.proofs.Common.{◌≡◌, ◌∙◌, ◌≤◌, ◌+◌, ◌-◌, ◌^◌, ◌==◌, ℕ, zero, suc, List, [], ◌∷◌, length, take, drop, Bool, true, false, Option, Some, None, unwrap_or, Result, Ok, Err, refl, sym, ap, arith}
 use Rattle.std.specs.Option.{ok_or}
-use Rattle.std.proofs.lemmas.List.{length-drop, length-take, take_all}
+use Rattle.std.proofs.lemmas.List.{length-drop, length-map, length-take, take_all}
+use Rattle.std.specs.List.{drop-map}
 use Rattle.csv.specs.Reading.{default_config, records, strip_bom}
 use Rattle.csv.specs.declared.parser.State.TheVariants as st
 use Rattle.pipe_columns.specs.declared.any_value.AnyValue.{AnyValue}
@@ -15,7 +16,10 @@ use Rattle.pipe_scan.specs.Records.{Records, records_at}
 use Rattle.pipe_scan.specs.Row.{Takes}
 use Rattle.pipe_scan.proofs.RecordList.{length-records}
 use Rattle.pipe_source.specs.CsvChunks.{text_rows, wanted_of, wanted_rows}
+use Rattle.pipe_source.specs.LaidRows.{AreLaidAt}
+use Rattle.pipe_source.specs.Layout.{laid, picked}
 use Rattle.pipe_source.specs.Rows.{AreRowsAt}
+use Rattle.pipe_source.specs.declared.layout.Layout.{Layout}
 
 -- a text has no more records from a place on than bytes
 pub records-few : (text : List ℕ) (at : ℕ) → length (records_at text at) ≤ length text
@@ -86,7 +90,23 @@ rows-placed file most count fs text at rows e n h =
       within = h;
     }
 
+-- so do those of which some fields are read
+pub laid-placed : (file most count : ℕ) (l : Layout) (fs : List Field) (text : List ℕ) (at : ℕ) (rows : List (List AnyValue)) → read_rows file 1 fs (take most (laid (Some l) (records_at text at))) ≡ Ok rows → length rows ≡ count → at ≤ length text → AreLaidAt (Some l) fs text at count rows
+laid-placed file most count l fs text at rows e n h =
+    let recs : Records = laid (Some l) (records_at text at) in
+    let size : length rows ≡ length (take most recs) = length-rows file 1 fs (take most recs) rows e in
+    let same : take count recs ≡ take most recs = ap (λ (k : ℕ). take k recs) (sym n ∙ size) ∙ take-front most recs in
+    record {
+      read = ap (read_rows 1 1 fs) same ∙ rows-anywhere file 1 1 1 fs (take most recs) rows e;
+      size = n;
+      within = h;
+    }
+
 -- there are no more of them than bytes
+pub laid-few : (file most count : ℕ) (l : Layout) (fs : List Field) (text : List ℕ) (at : ℕ) (rows : List (List AnyValue)) → read_rows file 1 fs (take most (laid (Some l) (records_at text at))) ≡ Ok rows → length rows ≡ count → count ≤ length text
+laid-few file most count l fs text at rows e n =
+    omega (arith, length-rows file 1 fs (take most (laid (Some l) (records_at text at))) rows e, n, length-take most (laid (Some l) (records_at text at)), length-map (records_at text at) (picked l), records-few text at)
+
 pub count-few : (file most count : ℕ) (fs : List Field) (text : List ℕ) (at : ℕ) (rows : List (List AnyValue)) → read_rows file 1 fs (take most (records_at text at)) ≡ Ok rows → length rows ≡ count → count ≤ length text
 count-few file most count fs text at rows e n = omega (arith, length-rows file 1 fs (take most (records_at text at)) rows e, n, length-take most (records_at text at), records-few text at)
 
@@ -125,18 +145,24 @@ drop-take (suc n) (suc m) [] h = nothing (m - n) where
     none (suc j) = refl
 drop-take (suc n) (suc m) (r ∷ rs) h = let same : suc m - suc n ≡ m - n = omega arith in rw same (drop-take n m rs (omega arith))
 
+-- what is read of the others
+laid-drop : (layout : Option Layout) (n : ℕ) (recs : Records) → laid layout (drop n recs) ≡ drop n (laid layout recs)
+laid-drop None n recs = refl
+laid-drop (Some l) n recs = sym (drop-map (picked l) n recs)
+
 -- the first of some rows in a text
-pub front-placed : (n left : ℕ) (fs : List Field) (text : List ℕ) (at : ℕ) (rows : List (List AnyValue)) → AreRowsAt fs text at left rows → n ≤ left → AreRowsAt fs text at n (take n rows)
-front-placed n left fs text at rows a h = record {
-  read = ap (read_rows 1 1 fs) (sym (take-take n left (records_at text at) h)) ∙ front-reads n 1 1 fs (take left (records_at text at)) rows a.read;
+pub front-placed : (n left : ℕ) (layout : Option Layout) (fs : List Field) (text : List ℕ) (at : ℕ) (rows : List (List AnyValue)) → AreLaidAt layout fs text at left rows → n ≤ left → AreLaidAt layout fs text at n (take n rows)
+front-placed n left layout fs text at rows a h = record {
+  read = ap (read_rows 1 1 fs) (sym (take-take n left (laid layout (records_at text at)) h)) ∙ front-reads n 1 1 fs (take left (laid layout (records_at text at))) rows a.read;
   size = omega (arith, length-take n rows, a.size);
   within = a.within;
 }
 
 -- the others, from where they begin
-pub back-placed : (n left : ℕ) (fs : List Field) (text : List ℕ) (at next : ℕ) (rows : List (List AnyValue)) → AreRowsAt fs text at left rows → n ≤ left → records_at text next ≡ drop n (records_at text at) → next ≤ length text → AreRowsAt fs text next (left - n) (drop n rows)
-back-placed n left fs text at next rows a h e w = record {
-  read = ap (λ (t : Records). read_rows 1 1 fs (take (left - n) t)) e ∙ ap (read_rows 1 1 fs) (sym (drop-take n left (records_at text at) h)) ∙ back-reads n 1 1 fs (take left (records_at text at)) rows a.read;
+pub back-placed : (n left : ℕ) (layout : Option Layout) (fs : List Field) (text : List ℕ) (at next : ℕ) (rows : List (List AnyValue)) → AreLaidAt layout fs text at left rows → n ≤ left → records_at text next ≡ drop n (records_at text at) → next ≤ length text → AreLaidAt layout fs text next (left - n) (drop n rows)
+back-placed n left layout fs text at next rows a h e w = record {
+  read = ap (λ (t : Records). read_rows 1 1 fs (take (left - n) t)) (ap (laid layout) e ∙ laid-drop layout n (records_at text at))
+      ∙ ap (read_rows 1 1 fs) (sym (drop-take n left (laid layout (records_at text at)) h)) ∙ back-reads n 1 1 fs (take left (laid layout (records_at text at))) rows a.read;
   size = omega (arith, length-drop n rows, a.size);
   within = w;
 }

@@ -1,5 +1,5 @@
 -- Of the proofs alone: what a reader keeps of the file that it read last.
-use Rattle.std.specs.Prelude.{◌≡◌, ◌≤◌, ◌<◌, ◌+◌, ◌-◌, ◌*◌, ◌%◌, ◌^◌, ℕ, Bool, List, [], length, map, take, drop, get_or, true, Option, Some, None}
+use Rattle.std.specs.Prelude.{◌≡◌, ◌≤◌, ◌<◌, ◌+◌, ◌-◌, ◌*◌, ◌%◌, ◌^◌, ℕ, Bool, true, false, List, [], length, map, take, drop, get_or, Option, Some, None, ⊤}
 use Rattle.std.specs.List.{range_with_len}
 use Rattle.pipe_columns.specs.declared.any_value.AnyValue.{AnyValue}
 use Rattle.pipe_columns.specs.declared.data_chunk.DataChunk.{DataChunk}
@@ -9,7 +9,9 @@ use Rattle.pipe_io.specs.declared.whole_file.TheConstants.{MOST_FILE_BYTES}
 use Rattle.pipe_scan.specs.Records.{records_at}
 use Rattle.pipe_source.specs.CsvChunks.{is_numbered, source_frame, source_wanted}
 use Rattle.pipe_source.specs.Reader.{ReaderState}
-use Rattle.pipe_source.specs.Rows.{AreRowsAt, IsStart, record_rows}
+use Rattle.pipe_source.specs.LaidRows.{AreLaidAt}
+use Rattle.pipe_source.specs.Layout.{IsWholeLayout, laid}
+use Rattle.pipe_source.specs.Rows.{IsStart, record_rows}
 use Rattle.pipe_source.specs.declared.kept_text.KeptText.{KeptText}
 use Rattle.pipe_source.specs.declared.read_options.CsvReadOptions.{CsvReadOptions}
 use Rattle.pipe_source.specs.declared.reading.Reading.{Reading}
@@ -26,11 +28,17 @@ abbrev pub IsKeptSchema : List Field → List Bool → Option (List Field) → T
 IsKeptSchema schema wanted None = wanted ≡ []
 IsKeptSchema schema wanted (Some kept) = kept ≡ chosen wanted schema
 
+-- of columns that are found by their names all are wanted
+abbrev pub AreWantedBy : Bool → List Bool → Type 0
+AreWantedBy false wanted = ⊤
+AreWantedBy true wanted = wanted ≡ []
+
 -- what is read has chunks of some rows, and wants no column past its schema
 pub record IsFitReading (what : Reading) : Type 0 where
   pub size : 0 < what.options.chunk_size
   pub kept : IsKeptSchema what.schema what.wanted.items what.kept
   pub few : length what.wanted.items ≤ length what.schema
+  pub named : AreWantedBy what.by_name what.wanted.items
 
 -- a place in files that have few rows and few chunks
 pub record IsSourcePlace (what : Reading) (at : SourcePlace) : Type 0 where
@@ -41,6 +49,7 @@ pub record IsSourcePlace (what : Reading) (at : SourcePlace) : Type 0 where
 -- at a place behind all rows of its file
 abbrev pub state_behind : Reading → SourcePlace → ReaderState
 state_behind what at = record {
+  by_name = what.by_name;
   schema = what.schema;
   wanted = what.wanted.items;
   options = what.options;
@@ -58,7 +67,8 @@ cursor_of k = get_or k.starts.items k.chunk 0
 
 -- the rows that are left of a text
 abbrev pub rows_kept : Reading → KeptText → List (List AnyValue)
-rows_kept what k = record_rows what.schema (take k.left (records_at k.text.items (cursor_of k)))
+rows_kept what k =
+    record_rows what.schema (take k.left (laid k.layout (records_at k.text.items (cursor_of k))))
 
 -- the name of its file
 abbrev pub name_kept : Reading → KeptText → List ℕ
@@ -67,6 +77,7 @@ name_kept what k = get_or what.names.items (k.at.file - 1) []
 -- what a reader has still to give
 abbrev pub kept_state : Reading → KeptText → ReaderState
 kept_state what k = record {
+  by_name = what.by_name;
   schema = what.schema;
   wanted = what.wanted.items;
   options = what.options;
@@ -88,7 +99,8 @@ pub record AreStartsFrom
 pub record HasRowsLeft (what : Reading) (k : KeptText) : Type 0 where
   pub files : k.at.file ≤ length what.names.items
   pub rows : List (List AnyValue)
-  pub placed : AreRowsAt what.schema k.text.items (cursor_of k) k.left rows
+  pub placed : AreLaidAt k.layout what.schema k.text.items (cursor_of k) k.left rows
+  pub layout : IsWholeLayout what.schema what.wanted.items k.layout
   pub starts : AreStartsFrom k.text.items what.options.chunk_size k.left k.starts.items k.chunk
   pub few_rows : k.at.rows + k.left ≤ k.at.file * MOST_FILE_BYTES
   pub few_chunks : k.at.chunks + k.left ≤ k.at.file * MOST_FILE_BYTES
@@ -134,6 +146,7 @@ chunks_at what k n = map (kept_chunk what k) (range_with_len 0 n)
 
 -- what is left of a text behind so many chunks of it
 pub record IsAdvanced (size n : ℕ) (old new : KeptText) : Type 0 where
+  pub layout : new.layout ≡ old.layout
   pub text : new.text ≡ old.text
   pub starts : new.starts ≡ old.starts
   pub chunk : new.chunk ≡ old.chunk + n
@@ -146,6 +159,7 @@ pub record IsAdvanced (size n : ℕ) (old new : KeptText) : Type 0 where
 pub record IsGone (old new : KeptText) : Type 0 where
   pub over : old.left ≡ 0
   pub at : new.at ≡ old.at
+  pub layout : new.layout ≡ None
   pub text : new.text.items ≡ []
   pub starts : new.starts.items ≡ []
   pub chunk : new.chunk ≡ 0

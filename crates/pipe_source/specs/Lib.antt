@@ -1,7 +1,13 @@
 pub mod CsvChunks
+pub mod NamedRows
+pub mod NamedChunks
+pub mod ByName
+pub mod InOrder
 pub mod Reader
 pub mod Worked
 pub mod Rows
+pub mod Layout
+pub mod LaidRows
 pub mod Quoted
 pub mod Starts
 pub mod Kept

@@ -8,14 +8,16 @@ use Rattle.pipe_csv.specs.declared.csv_error.CsvError.{CsvError}
 use Rattle.pipe_csv.specs.declared.csv_error.CsvError.TheVariants as csv_error
 use Rattle.pipe_io.specs.Files.{Files}
 use Rattle.pipe_io.specs.declared.whole_file.TheConstants.{MOST_FILE_BYTES}
-use Rattle.pipe_source.specs.CsvChunks.{CsvChunks, Stop, behind, chunks_then, csv_chunks_from, file_chunks, misfit, wanted_chunks, no_more, too_large, wanted_fields}
+use Rattle.pipe_source.specs.ByName.{chunks_by}
+use Rattle.pipe_source.specs.CsvChunks.{CsvChunks, Stop, behind, chunks_then, file_chunks, misfit, wanted_chunks, no_more, too_large, wanted_fields}
 use Rattle.pipe_source.specs.declared.read_options.CsvReadOptions.{CsvReadOptions}
 use Rattle.pipe_source.specs.declared.source_place.SourcePlace.{SourcePlace}
 
 -- what a reader of files still has to give: the rows that are left of the file that it read last,
 -- with that file's name and their place, and the names of the files behind it; and which columns of
--- the schema are wanted
+-- the schema are wanted, and whether its columns are found by their names
 pub record ReaderState : Type 0 where
+  pub by_name : Bool
   pub schema : List Field
   pub wanted : List Bool
   pub options : CsvReadOptions
@@ -32,7 +34,7 @@ given_fields r = wanted_fields r.options r.schema r.wanted
 abbrev pub whole_left : Files → ReaderState → CsvChunks
 whole_left files r =
     chunks_then (file_chunks r.options r.schema r.file r.at r.rows)
-    (csv_chunks_from r.options r.schema files (behind r.options r.at r.rows) r.names)
+    (chunks_by r.by_name r.options r.schema files (behind r.options r.at r.rows) r.names)
 
 -- the chunks that are left of files, of their wanted columns, and where they stop
 abbrev pub chunks_left : Files → ReaderState → CsvChunks

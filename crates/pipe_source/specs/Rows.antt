@@ -1,5 +1,5 @@
 -- Of the proofs alone: rows that stand in a text, and what reading them tells.
-use Rattle.std.specs.Prelude.{◌≡◌, ◌≤◌, ◌<◌, ◌*◌, ◌-◌, ◌^◌, ℕ, Bool, true, false, List, [], ◌∷◌, length, take, drop, get_or, Option, Some, unwrap_or, Result, Ok, Err, IfSome, ⊤}
+use Rattle.std.specs.Prelude.{◌≡◌, ◌≤◌, ◌<◌, ◌*◌, ◌-◌, ◌^◌, ℕ, Bool, true, false, List, [], ◌∷◌, length, take, drop, get_or, Option, Some, None, unwrap_or, Result, Ok, Err, IfSome, ⊤}
 use Rattle.pipe_columns.specs.declared.any_value.AnyValue.{AnyValue}
 use Rattle.pipe_columns.specs.declared.schema.Field.{Field}
 use Rattle.narrow_columns.specs.Wanted.{chosen}
@@ -11,7 +11,10 @@ use Rattle.pipe_csv.specs.declared.csv_error.CsvError.TheVariants as csv_error
 use Rattle.pipe_io.specs.Files.{Files, IsWhole, file_of}
 use Rattle.pipe_io.specs.declared.whole_file.TheConstants.{MOST_FILE_BYTES}
 use Rattle.pipe_scan.specs.Records.{records_at}
-use Rattle.pipe_source.specs.CsvChunks.{Stop, file_rows, misfit, text_rows, too_large}
+use Rattle.pipe_source.specs.ByName.{file_rows_by}
+use Rattle.pipe_source.specs.CsvChunks.{Stop, misfit, text_rows, too_large}
+use Rattle.pipe_source.specs.LaidRows.{AreLaidAt}
+use Rattle.pipe_source.specs.Layout.{LayoutFits}
 use Rattle.pipe_source.specs.declared.read_options.CsvReadOptions.{CsvReadOptions}
 use Rattle.pipe_source.specs.declared.source_place.SourcePlace.{SourcePlace}
 use Rattle.pipe_source.specs.declared.file_text.FileText.{FileText}
@@ -24,12 +27,9 @@ record_rows schema records = those (read_rows 1 1 schema records) where
   those (Err m) = []
 
 -- the records of a text from a place on begin with so many rows
-pub record AreRowsAt
-    (schema : List Field) (text : List ℕ) (at count : ℕ) (rows : List (List AnyValue))
-    : Type 0 where
-  pub read : read_rows 1 1 schema (take count (records_at text at)) ≡ Ok rows
-  pub size : length rows ≡ count
-  pub within : at ≤ length text
+abbrev pub AreRowsAt :
+    List Field → List ℕ → ℕ → ℕ → List (List AnyValue) → Type 0
+AreRowsAt schema text at count rows = AreLaidAt None schema text at count rows
 
 -- the records behind n of those from a place of a text on begin at another place
 pub record IsStart (text : List ℕ) (at n start : ℕ) : Type 0 where
@@ -50,12 +50,13 @@ HasRowsFrom file schema text begin = (wanted : Option ℕ)
 
 -- a text that was read whole and looked over has the wanted rows of its file
 pub record IsLoaded
-    (options : CsvReadOptions) (schema : List Field) (at : SourcePlace)
+    (by_name : Bool) (options : CsvReadOptions) (schema : List Field) (at : SourcePlace)
     (told : Option Files) (name : List ℕ) (f : FileText) : Type 0 where
   pub rows : List (List AnyValue)
   pub whole : IsWhole told name f.text.items
-  pub wanted : file_rows options schema at (Some f.text.items) ≡ Ok rows
-  pub placed : AreRowsAt schema f.text.items f.begin f.count rows
+  pub wanted : file_rows_by by_name options schema at (Some f.text.items) ≡ Ok rows
+  pub placed : AreLaidAt f.layout schema f.text.items f.begin f.count rows
+  pub fit : LayoutFits schema by_name f.layout
   pub starts : AreStarts f.text.items f.begin options.chunk_size f.count f.starts.items
   pub few : f.count ≤ MOST_FILE_BYTES
 
@@ -89,9 +90,9 @@ StopsFile csv_error.Memory read = ⊤
 
 -- where files are told, an error names where the file of a name stops
 abbrev pub StopsTold :
-    CsvError → CsvReadOptions → List Field → SourcePlace → Option Files → List ℕ → Type 0
-StopsTold e options schema at told name =
-    IfSome told (λ files. StopsFile e (file_rows options schema at (file_of files name)))
+    CsvError → Bool → CsvReadOptions → List Field → SourcePlace → Option Files → List ℕ → Type 0
+StopsTold e by_name options schema at told name =
+    IfSome told (λ files. StopsFile e (file_rows_by by_name options schema at (file_of files name)))
 
 -- the first of some records reads, if there is one
 abbrev pub FirstReads : ℕ → ℕ → List Field → List (List (List ℕ)) → Type 0

@@ -28,3 +28,10 @@ plain_options n = record { chunk_size = n; n_rows = None; row_index = None; incl
 abbrev pub two_files : Files
 two_files =
     (codes "a.csv", codes "k,v\n1,5\n2,6\n") ∷ (codes "b.csv", codes "k,v\n1,7\n9,9\n") ∷ []
+
+-- three files with a number k and a number v, each in an order of its own, two beside another column
+abbrev pub swapped_files : Files
+swapped_files =
+    (codes "a", codes "k,v\n1,5\n")
+    ∷ (codes "b", codes "v,w,k\r\n7,x,1\r\n,\"y,\",9\r\n")
+    ∷ (codes "c", 239 ∷ 187 ∷ 191 ∷ codes "\"v\",\"k\"\n6,2\n8,3\n") ∷ []

@@ -6,6 +6,7 @@ ghost use Rattle.pipe_columns.specs.Frame.{FitsSchema};
 ghost use Rattle.pipe_io.specs.Files.{Files};
 ghost use Rattle.pipe_io.specs.Tried.{AreTried, TriedFront};
 ghost use Rattle.pipe_source.specs.CsvChunks.{chunks_then, csv_chunks, wanted_chunks, no_more, source_fields};
+ghost use Rattle.pipe_source.specs.NamedChunks.{named_chunks};
 ghost use Rattle.pipe_source.specs.Next.{IsLoadedNext};
 ghost use Rattle.pipe_source.specs.Rounds.{StopsWithin};
 ghost use Rattle.pipe_source.specs.Reader.{AreFew, Gives, StopsAt, given_fields, chunks_left};
@@ -71,6 +72,7 @@ impl ChunkReader {
     {
         ChunkReader {
             what: Reading {
+                by_name: false,
                 schema,
                 wanted: Vec::new(alloc),
                 kept: None,
@@ -106,6 +108,7 @@ impl ChunkReader {
         let kept = chosen_schema(alloc, &wanted, schema.fields())?;
         Ok(ChunkReader {
             what: Reading {
+                by_name: false,
                 schema,
                 wanted,
                 kept: Some(kept),
@@ -115,6 +118,37 @@ impl ChunkReader {
             text: KeptText::none(alloc, START),
             spent: Vec::new(alloc),
         })
+    }
+
+    /// No file is read yet. In each file the columns are found by their names, in its own header, which has
+    /// each of them once; its other fields are no matter.
+    pub fn by_name(
+        alloc: Global,
+        names: Vec<Text>,
+        columns: Schema,
+        options: CsvReadOptions,
+    ) -> ChunkReader
+        requires size { 0 < options.chunk_size }
+        ensures left { (files : Files)
+            → chunks_left files result ≡ named_chunks files names.items columns options }
+        ensures names { result.names ≡ names.items }
+        ensures schema { result.schema ≡ columns }
+        ensures options { result.options ≡ options }
+        ensures fields { given_fields result ≡ source_fields options columns }
+        ensures place { result.at ≡ record { file = 0; chunks = 0; rows = 0 } }
+    {
+        ChunkReader {
+            what: Reading {
+                by_name: true,
+                schema: columns,
+                wanted: Vec::new(alloc),
+                kept: None,
+                options,
+                names,
+            },
+            text: KeptText::none(alloc, START),
+            spent: Vec::new(alloc),
+        }
     }
 
     /// Reads on to the next file that has wanted rows, where the one before has none left.

@@ -7,6 +7,7 @@ ghost use Rattle.pipe_columns.specs.declared.source.SourceResult.TheVariants as 
 ghost use Rattle.pipe_io.specs.Tried.{AreTried, TriedFront};
 ghost use Rattle.pipe_csv.specs.declared.csv_error.CsvError.TheVariants as csv_error;
 ghost use Rattle.pipe_source.specs.CsvChunks.{chunks_then, csv_chunks, wanted_chunks, no_more};
+ghost use Rattle.pipe_source.specs.NamedChunks.{named_chunks};
 ghost use Rattle.pipe_source.specs.Reader.{StopsAt, chunks_left};
 ghost use Rattle.pipe_source.specs.Rounds.{StopsWithin};
 ghost use Rattle.pipe_source.specs.Source.{AreLeft, GivesOne};
@@ -81,6 +82,32 @@ impl<'a, I: InputFiles> CsvSource<'a, I> {
             input,
             reader,
         })
+    }
+
+    /// No file is begun yet. In each file the columns are found by their names, in its own header, which
+    /// has each of them once; its other fields are no matter.
+    pub fn by_name(
+        alloc: Global,
+        input: &'a mut I,
+        names: Vec<Text>,
+        columns: Schema,
+        options: CsvReadOptions,
+    ) -> CsvSource<'a, I>
+        requires size { 0 < options.chunk_size }
+        ensures same_input { result.input.ghost_name ≡ input.entry.ghost_name }
+        ensures told { I.told result.input.now ≡ I.told input.old }
+        ensures faults { I.faults result.input.now ≡ I.faults input.old }
+        ensures tried { I.tried result.input.now ≡ I.tried input.old }
+        ensures names { result.reader.names ≡ names.items }
+        ensures left { IfSome (I.told input.old) (λ files.
+            chunks_left files result.reader ≡ named_chunks files names.items columns options) }
+    {
+        let reader = ChunkReader::by_name(alloc, names, columns, options);
+        CsvSource {
+            alloc,
+            input,
+            reader,
+        }
     }
 
     /// The next so many chunks, as so many calls of `get_batches` would give them, read side by

@@ -12,6 +12,7 @@ ghost use Rattle.pipe_source.specs.Rows.{IsLoaded, StopsTold};
 
 use crate::file_text::FileText;
 use crate::looks::Looks;
+use crate::named_look::look_by;
 use crate::read_options::CsvReadOptions;
 use crate::source_place::SourcePlace;
 use pipe_columns::{Field, Text};
@@ -79,15 +80,16 @@ fn load_file<I: InputFiles, L: Looks>(
     at: SourcePlace,
     fields: &[Field],
     options: &CsvReadOptions,
+    by_name: bool,
 ) -> Result<FileText, CsvError>
     requires ready { L.ready }
     requires few { at.rows ≤ 2 ^ 100 }
     requires size { 0 < options.now.chunk_size }
     ensures told { I.told input.new ≡ I.told input.old }
     ensures loaded { IfOk result
-        (λ f. IsLoaded options.now fields.now at (I.told input.old) name.now f) }
+        (λ f. IsLoaded by_name options.now fields.now at (I.told input.old) name.now f) }
     ensures stop { IfErr result
-        (λ e. StopsTold e options.now fields.now at (I.told input.old) name.now) }
+        (λ e. StopsTold e by_name options.now fields.now at (I.told input.old) name.now) }
     ensures tried { I.tried input.new ≡ I.tried input.old ++ name.now ∷ [] }
     ensures cause { HasCause (I.faults input.old) (I.faults input.new)
         (IsErrOf result csv_error.Input) }
@@ -101,7 +103,9 @@ fn load_file<I: InputFiles, L: Looks>(
     };
     let wanted = wanted_after(options.n_rows, at.rows);
     let size = options.chunk_size;
-    let (begin, count, starts) = match looks.look(alloc, &text, fields, at.file, wanted, size) {
+    let file = at.file;
+    let looked = look_by(looks, by_name, alloc, &text, fields, file, wanted, size);
+    let (layout, begin, count, starts) = match looked {
         Ok(found) => found,
         Err(error) => return Err(error),
     };
@@ -109,6 +113,7 @@ fn load_file<I: InputFiles, L: Looks>(
         return Err(CsvError::TooLarge);
     }
     Ok(FileText {
+        layout,
         text,
         begin,
         count,
@@ -125,6 +130,7 @@ pub(crate) fn find_rows<I: InputFiles, L: Looks>(
     last: SourcePlace,
     fields: &[Field],
     options: &CsvReadOptions,
+    by_name: bool,
 ) -> Result<Option<(usize, FileText)>, CsvError>
     requires ready { L.ready }
     requires few { last.rows ≤ 2 ^ 100 }
@@ -132,9 +138,9 @@ pub(crate) fn find_rows<I: InputFiles, L: Looks>(
     requires wanted { is_any_wanted (wanted_after options.now.n_rows last.rows) ≡ true }
     ensures told { I.told input.new ≡ I.told input.old }
     ensures found { IfOk result (λ o.
-        Finds options.now fields.now (I.told input.old) names.now last o) }
+        Finds by_name options.now fields.now (I.told input.old) names.now last o) }
     ensures stop { IfErr result (λ e.
-        StopsFrom e options.now fields.now (I.told input.old) names.now last) }
+        StopsFrom e by_name options.now fields.now (I.told input.old) names.now last) }
     ensures tried { TriedFront (I.tried input.old) (I.tried input.new) (drop last.file names.now) }
     ensures gone { IfOk result (λ o. IfSome o (λ found. AreTried (I.tried input.old)
         (I.tried input.new) (drop last.file names.now) (drop (found.0 + 1) names.now))) }
@@ -147,7 +153,7 @@ pub(crate) fn find_rows<I: InputFiles, L: Looks>(
             chunks: last.chunks,
             rows: last.rows,
         };
-        match load_file(looks, alloc, input, &names[i], at, fields, options) {
+        match load_file(looks, alloc, input, &names[i], at, fields, options, by_name) {
             Ok(found) => {
                 if found.count > 0 {
                     return Ok(Some((i, found)));

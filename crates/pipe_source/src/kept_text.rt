@@ -1,16 +1,18 @@
 //! What a reader keeps of the file that it read last.
 
-ghost use Rattle.std.specs.Prelude.{[], ◌≡◌, ◌≤◌, ◌<◌, ◌+◌, ◌-◌, ◌*◌, ◌^◌, length};
+ghost use Rattle.std.specs.Prelude.{[], None, ◌≡◌, ◌≤◌, ◌<◌, ◌+◌, ◌-◌, ◌*◌, ◌^◌, length};
 ghost use Rattle.pipe_source.specs.Kept.{IsAdvanced, IsGone};
 
+use crate::layout::Layout;
 use crate::source_place::SourcePlace;
 use std::alloc::Global;
 
-/// The text of a file, where each chunk of it begins, which chunk comes next, how many rows are
+/// Where the columns of a file stand, if they are found by their names, its text, where each chunk of it begins, which chunk comes next, how many rows are
 /// left, and the place of the next one.
 #[derive(Drop)]
 pub(crate) struct KeptText {
     pub(crate) at: SourcePlace,
+    pub(crate) layout: Option<Layout>,
     pub(crate) text: Vec<u8>,
     pub(crate) starts: Vec<usize>,
     pub(crate) chunk: usize,
@@ -21,6 +23,7 @@ impl KeptText {
     /// No text, at a place.
     pub(crate) fn none(alloc: Global, at: SourcePlace) -> KeptText
         ensures at { result.at ≡ at }
+        ensures layout { result.layout ≡ None }
         ensures text { result.text.items ≡ [] }
         ensures starts { result.starts.items ≡ [] }
         ensures chunk { result.chunk ≡ 0 }
@@ -28,6 +31,7 @@ impl KeptText {
     {
         KeptText {
             at,
+            layout: None,
             text: Vec::new(alloc),
             starts: Vec::new(alloc),
             chunk: 0,

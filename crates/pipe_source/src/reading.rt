@@ -13,9 +13,9 @@ use crate::column_fill::{column_fills, values_of};
 use crate::file_load::{find_rows, wanted_after};
 use crate::file_text::FileText;
 use crate::kept_text::KeptText;
+use crate::laid_push::push_laid_rows;
 use crate::looks::Looks;
 use crate::read_options::CsvReadOptions;
-use crate::row_push::push_rows;
 use crate::source_columns::make_chunk;
 use crate::source_place::SourcePlace;
 use pipe_columns::{DataChunk, Field, Schema, Text};
@@ -26,10 +26,11 @@ use std::alloc::Global;
 /// A column gets room for so many values at most before they are there.
 const MOST_ROOM: usize = 65536;
 
-/// The names of files, their schema, which of its columns are wanted and the schema of these where
-/// they aren't all, and how the files are read.
+/// The names of files, whether columns are found by their names, their schema, which of its columns are
+/// wanted and the schema of these where they aren't all, and how the files are read.
 #[derive(Drop)]
 pub(crate) struct Reading {
+    pub(crate) by_name: bool,
     pub(crate) schema: Schema,
     pub(crate) wanted: Vec<bool>,
     pub(crate) kept: Option<Schema>,
@@ -77,9 +78,20 @@ impl Reading {
         }
         let fields = self.schema.fields();
         let names = &self.names;
-        match find_rows(looks, alloc, input, names, last, fields, &self.options) {
+        let by_name = self.by_name;
+        match find_rows(
+            looks,
+            alloc,
+            input,
+            names,
+            last,
+            fields,
+            &self.options,
+            by_name,
+        ) {
             Ok(Some((place, found))) => {
                 let FileText {
+                    layout,
                     text,
                     begin: _,
                     count,
@@ -91,6 +103,7 @@ impl Reading {
                         chunks: last.chunks,
                         rows: last.rows,
                     },
+                    layout,
                     text,
                     starts,
                     chunk: 0,
@@ -131,7 +144,10 @@ impl Reading {
         let mut fills = column_fills(alloc, spent, first, kept.len(), count.min(MOST_ROOM))?;
         let bytes = &text.text;
         let wanted = &self.wanted;
-        push_rows(alloc, &mut fills, bytes, begin, count, fields, wanted)?;
+        let layout = &text.layout;
+        push_laid_rows(
+            alloc, &mut fills, bytes, begin, count, fields, wanted, layout,
+        )?;
         let columns = values_of(alloc, fills)?;
         let file = &self.names[text.at.file - 1];
         let chunk = make_chunk(alloc, &self.options, at, file, kept, columns, count)?;

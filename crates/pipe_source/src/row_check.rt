@@ -125,7 +125,7 @@ fn have_texts(fields: &[Field]) -> bool {
 
 /// Whether the bytes of a text are known to be ASCII: it is looked through where some field is a text and all
 /// its rows are wanted.
-fn is_known_ascii(text: &[u8], fields: &[Field], most: usize) -> bool
+pub(crate) fn is_known_ascii(text: &[u8], fields: &[Field], most: usize) -> bool
     ensures { IsTrue result → IsAscii text.now }
 {
     most == usize::MAX && have_texts(fields) && text.is_ascii()

@@ -27,7 +27,12 @@ use std::alloc::Global;
 
 /// Where the field at a place begins and ends in the text.
 #[inline(always)]
-fn field_bounds(text: &[u8], start: usize, ends: &[usize], place: usize) -> (usize, usize)
+pub(crate) fn field_bounds(
+    text: &[u8],
+    start: usize,
+    ends: &[usize],
+    place: usize,
+) -> (usize, usize)
     requires order { InOrder (length text.now) start ends.now }
     requires place { place < length ends.now }
     ensures field { slice_index_or (cut text.now start ends.now) place []

@@ -12,6 +12,8 @@ mod made;
 #[cfg(test)]
 mod memory_tests;
 #[cfg(test)]
+mod named_tests;
+#[cfg(test)]
 mod piece_tests;
 #[cfg(test)]
 mod reader_tests;

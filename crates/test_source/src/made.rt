@@ -12,8 +12,8 @@ pub(crate) type Named = (&'static str, &'static str);
 
 /// Which files are there and which are read, of which columns; how many rows are a chunk and how many
 /// are wanted in all; the first number of a row, where they are numbered; whether they have their
-/// file's name; which columns are wanted, where it is said; which input call fails; and what size is
-/// told of each file in the place of its own.
+/// file's name; whether columns are found by their names; which are wanted, where it is said; which
+/// input call fails; and what size is told of each file in the place of its own.
 #[derive(Clone, Copy)]
 pub(crate) struct Asked {
     pub files: &'static [Named],
@@ -23,6 +23,7 @@ pub(crate) struct Asked {
     pub limit: Option<usize>,
     pub first_number: Option<u32>,
     pub has_path: bool,
+    pub by_name: bool,
     pub wanted: Option<&'static [bool]>,
     pub failing: Option<u64>,
     pub told: Option<usize>,
@@ -37,6 +38,7 @@ pub(crate) const PLAIN: Asked = Asked {
     limit: None,
     first_number: None,
     has_path: false,
+    by_name: false,
     wanted: None,
     failing: None,
     told: None,
@@ -170,6 +172,9 @@ pub(crate) fn reader_of(alloc: Global, asked: &Asked) -> Result<ChunkReader, Fai
     if options.chunk_size == 0 || wanted.len() > schema.fields().len() {
         return Err("other columns".into());
     }
+    if asked.by_name {
+        return Ok(ChunkReader::by_name(alloc, names, schema, options));
+    }
     if asked.wanted.is_none() {
         return Ok(ChunkReader::new(alloc, names, schema, options));
     }
@@ -190,6 +195,9 @@ pub(crate) fn source_of<'a, I: InputFiles>(
     } = parts_of(alloc, asked)?;
     if options.chunk_size == 0 || wanted.len() > schema.fields().len() {
         return Err("other columns".into());
+    }
+    if asked.by_name {
+        return Ok(CsvSource::by_name(alloc, input, names, schema, options));
     }
     if asked.wanted.is_none() {
         return Ok(CsvSource::new(alloc, input, names, schema, options));

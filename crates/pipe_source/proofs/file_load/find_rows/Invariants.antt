@@ -11,5 +11,5 @@ invariant-loop-i g l =
       told : input.told l.input ≡ input.told l.fn.input;
       later : input.faults l.fn.input ≤ input.faults l.input;
       tried : AreTried (input.tried l.fn.input) (input.tried l.input) (drop l.last.file l.names) (drop l.i l.names);
-      passed : ArePassed l.options l.fields (input.told l.fn.input) l.names l.last l.i;
+      passed : ArePassed l.by_name l.options l.fields (input.told l.fn.input) l.names l.last l.i;
     }

@@ -1,11 +1,13 @@
-use Rattle.std.proofs.Common.{◌≡◌, ◌-◌, length, refl, sym, subst, arith, Some, None}
+use Rattle.std.proofs.Common.{◌≡◌, ◌-◌, length, refl, sym, subst, arith, Some, None, IfSome}
 use Rattle.pipe_io.specs.Tried.{TriedFront}
 use Rattle.pipe_io.proofs.TriedFacts.{front-none}
 use Rattle.pipe_source.specs.Kept.{IsSourcePlace, state_behind}
+use Rattle.pipe_source.specs.CsvChunks.{no_more}
+use Rattle.pipe_source.specs.Reader.{chunks_left}
 use Rattle.pipe_source.specs.ReadOn.{HasReadOn}
 use Rattle.pipe_source.specs.declared.source_place.SourcePlace.{SourcePlace}
 use Rattle.pipe_source.proofs.KeptFacts.{chunks-below, kept-behind, rows-below}
-use Rattle.pipe_source.proofs.RoundFacts.{chunks-fit, length-given, place-past, place_past, round-fits, round-given, round-none, round-stops, some-left, told-first, within-all, within-left}
+use Rattle.pipe_source.proofs.RoundFacts.{chunks-fit, length-given, over-none, place-past, place_past, round-fits, round-given, round-none, round-stops, some-left, told-first, within-all, within-left}
 use Rattle.pipe_source.proofs.chunk_reader.ChunkReader.get_round.Goals as goal
 
 pub invariant_of-self-then-some-count : goal.invariant_of-self-then-some-count
@@ -83,6 +85,17 @@ returns-in-Ok-None-clause-given g c =
     let read = rw c.in-Ok-None.field-0-is at c.in-Ok-None.ensures.read in
     let on : HasReadOn what told (place_past text) c.in-Ok.chunks.items c.read_on.new.chunks.items None = subst (λ (p : SourcePlace). HasReadOn what told p c.in-Ok.chunks.items c.read_on.new.chunks.items None) c.place_behind-last.ensures read in
     rw (← c.self.view_is) (round-none told what c.min-some.result text c.advance-in-Ok-None.new.self c.in-Ok.chunks.items c.read_on.new.chunks.items c.self.invariant.0 c.self.invariant.1 c.advance-in-Ok-None.ensures all c.in-Ok.ensures on)
+
+pub returns-in-Ok-None-clause-over : goal.returns-in-Ok-None-clause-over
+returns-in-Ok-None-clause-over g c = λ fewer.
+    let what = c.self.inside.what in
+    let text = c.self.inside.text in
+    let told = g.I.InputFiles.told c.args.input.now in
+    let some = some-left text c.chunks_left.result c.min-some.result c.args.count c.min-some.ensures c.chunks_left.ensures in
+    let all : c.min-some.result ≡ length text.starts.items - text.chunk = omega (arith, some, c.if-some-count.false) in
+    let over = rw c.in-Ok-None.field-0-is at c.in-Ok-None.ensures.over in
+    let past = subst (λ (p : SourcePlace). IfSome told (λ files. chunks_left files (state_behind what p) ≡ no_more)) c.place_behind-last.ensures (over fewer) in
+    over-none told what c.min-some.result text c.advance-in-Ok-None.new.self c.self.invariant.1 c.advance-in-Ok-None.ensures all past
 
 pub returns-in-Ok-None-clause-fit : goal.returns-in-Ok-None-clause-fit
 returns-in-Ok-None-clause-fit g c =

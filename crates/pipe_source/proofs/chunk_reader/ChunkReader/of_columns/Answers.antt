@@ -5,4 +5,4 @@ use Rattle.pipe_source.proofs.chunk_reader.ChunkReader.of_columns.Goals as goal
 pub invariant_of-result : goal.invariant_of-result
 invariant_of-result c =
     let none = c.none.ensures in
-    (search rules, kept-start _ c.none.result none.at none.text none.starts none.chunk none.left)
+    (search rules, kept-start _ c.none.result none.at none.layout none.text none.starts none.chunk none.left)
