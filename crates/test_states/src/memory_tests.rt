@@ -1,7 +1,7 @@
 //! Calls that want memory.
 
 use crate::asked::{hold, sum_and_first, three_rows, two_rows};
-use crate::saved_tests::{ask, is_of_both};
+use crate::saved_tests::{Asks, ask, is_of_both};
 use pipe_aggs::CheckedQuery;
 use pipe_columns::DataChunk;
 use pipe_saving::{SaveError, save};
@@ -23,7 +23,7 @@ fn saved_of(
 }
 
 /// Whether the state of two chunks is the known one.
-fn is_right(alloc: Global, query: &CheckedQuery<'_>) -> Result<bool, Fail> {
+pub(crate) fn is_right(alloc: Global, query: &CheckedQuery<'_>) -> Result<bool, Fail> {
     let chunks = vec![in alloc; three_rows(alloc)?, two_rows(alloc)?]?;
     let file = saved_of(alloc, query, &chunks)?;
     Ok(is_of_both(&file))
@@ -32,5 +32,5 @@ fn is_right(alloc: Global, query: &CheckedQuery<'_>) -> Result<bool, Fail> {
 #[test]
 fn state_of_two_chunks(rt: HostRuntime) -> Result<(), Fail> {
     let query = sum_and_first(rt.alloc())?;
-    hold(ask(rt.alloc(), &query, is_right))
+    hold(ask(rt.alloc(), &query, Asks::Memory))
 }

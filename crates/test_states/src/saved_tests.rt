@@ -1,6 +1,7 @@
 //! States that are saved of chunks.
 
 use crate::asked::{chunk_of, hold, sum_and_first, three_rows, two_rows};
+use crate::memory_tests::is_right;
 use pipe_aggs::{CheckedQuery, Query};
 use pipe_columns::{AnyValue, DataChunk, Place};
 use pipe_saving::{SaveError, save};
@@ -8,14 +9,33 @@ use pipe_states::{StateFile, StateRow, write_state};
 use std::alloc::Global;
 use std::test::Fail;
 
-/// Asks a test of the checked query.
-pub(crate) fn ask(
-    alloc: Global,
-    query: &Query,
-    test: fn(Global, &CheckedQuery<'_>) -> Result<bool, Fail>,
-) -> Result<bool, Fail> {
+/// What is asked of a query.
+#[derive(Clone, Copy)]
+pub(crate) enum Asks {
+    /// The text of the state of three rows.
+    Text,
+    /// The rows of the state of two chunks.
+    Rows,
+    /// Refusals.
+    Refusals,
+    /// The rows again, where memory may be wanting.
+    Memory,
+}
+
+/// Whether what is asked of a checked query is so.
+fn is_so(alloc: Global, query: &CheckedQuery<'_>, asks: Asks) -> Result<bool, Fail> {
+    match asks {
+        Asks::Text => has_text(alloc, query),
+        Asks::Rows => has_rows(alloc, query),
+        Asks::Refusals => is_told(alloc, query),
+        Asks::Memory => is_right(alloc, query),
+    }
+}
+
+/// Whether what is asked of a query is so.
+pub(crate) fn ask(alloc: Global, query: &Query, asks: Asks) -> Result<bool, Fail> {
     match query.check(alloc) {
-        Ok(checked) => test(alloc, &checked),
+        Ok(checked) => is_so(alloc, &checked, asks),
         Err(_) => Err("Query::check wants memory".into()),
     }
 }
@@ -114,17 +134,17 @@ fn is_told(alloc: Global, query: &CheckedQuery<'_>) -> Result<bool, Fail> {
 #[test]
 fn text_of_three_rows(rt: HostRuntime) -> Result<(), Fail> {
     let query = sum_and_first(rt.alloc())?;
-    hold(ask(rt.alloc(), &query, has_text))
+    hold(ask(rt.alloc(), &query, Asks::Text))
 }
 
 #[test]
 fn rows_of_two_chunks(rt: HostRuntime) -> Result<(), Fail> {
     let query = sum_and_first(rt.alloc())?;
-    hold(ask(rt.alloc(), &query, has_rows))
+    hold(ask(rt.alloc(), &query, Asks::Rows))
 }
 
 #[test]
 fn refusals(rt: HostRuntime) -> Result<(), Fail> {
     let query = sum_and_first(rt.alloc())?;
-    hold(ask(rt.alloc(), &query, is_told))
+    hold(ask(rt.alloc(), &query, Asks::Refusals))
 }
