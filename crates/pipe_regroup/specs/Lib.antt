@@ -1,0 +1,4 @@
+pub mod Rules
+pub mod Groups
+pub mod Regrouping
+pub mod Frames
