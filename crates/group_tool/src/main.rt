@@ -8,8 +8,10 @@ use pipe_global::OpenGate;
 use pipe_io::{RealFiles, RealOutput};
 use std::alloc::{AllocError, Global};
 use std::env::{self, Env};
+use std::hash::RandomState;
 use std::io::{self, ErrorKind};
 use std::process::ExitCode;
+use std::random::RandomSource;
 use tool_answer::{report_untaken, run_tool};
 use tool_stores::ProgramStores;
 
@@ -42,15 +44,32 @@ fn first_block(alloc: Global) -> Result<Vec<u8>, AllocError> {
     Vec::with_capacity(alloc, FIRST_BLOCK)
 }
 
+/// What the program is given: its words, and keys of the system's random source under which tables hash.
+#[derive(Drop)]
+struct Given {
+    words: Vec<Text>,
+    hash_keys: RandomState,
+}
+
+/// What the program is given, or why it can't be had. Where the random source gives nothing, that is told
+/// as want of memory: a run never goes on under keys that others may know.
+fn given(rt: &(impl Env + RandomSource + Alloc<A = Global>)) -> Result<Given, ErrorKind> {
+    let words = words_of(rt)?;
+    match RandomState::new(rt) {
+        Ok(hash_keys) => Ok(Given { words, hash_keys }),
+        Err(_) => Err(ErrorKind::OutOfMemory),
+    }
+}
+
 fn main(rt: HostRuntime) -> ExitCode {
     let alloc = rt.alloc();
     drop(first_block(alloc));
     let mut messages = RealOutput::new(rt.stderr());
-    let status = match words_of(&rt) {
-        Ok(words) => {
+    let status = match given(&rt) {
+        Ok(Given { words, hash_keys }) => {
             let mut input = RealFiles::new(&rt, rt.stdin());
             let mut output = RealOutput::new(io::writer(&rt));
-            let mut maker = ProgramStores::new(&rt, alloc);
+            let mut maker = ProgramStores::new(&rt, alloc, Some(hash_keys));
             let end = run_tool(
                 &rt,
                 alloc,

@@ -66,12 +66,13 @@ impl<'a> CheckedQuery<'a> {
         }
     }
 
-    /// Has tables of its groups hash under these keys where the values of many rows have one hash.
-    /// Until then they do under fixed keys, so that a run can be repeated. No answer depends on them.
-    pub fn hash_under(&mut self, keys: RandomState)
+    /// Has tables of its groups hash under these keys where the keys of many groups have one hash. With
+    /// none, as before this call, they hash under fixed ones, so that a run can be repeated. No answer
+    /// depends on them.
+    pub fn hash_under(&mut self, keys: Option<RandomState>)
         ensures { self.new ≡ self.old }
     {
-        self.hash_keys = Some(keys);
+        self.hash_keys = keys;
     }
 
     /// The keys under which tables hash, none where they are the fixed ones.

@@ -19,7 +19,7 @@ const ROW_LIMIT: usize = 1 << 62;
 
 /// A core that tests each chunk before it takes it, and that keeps how the writing ended.
 #[derive(Drop)]
-pub(crate) struct GuardedCore<W: SinkWriter> {
+pub struct GuardedCore<W: SinkWriter> {
     core: WriterCore<W>,
     ended: bool,
     fault: Option<WriteError>,
@@ -36,7 +36,7 @@ fn is_writable<W: SinkWriter>(writer: &W, frame: &DataFrame) -> bool
 
 impl<W: SinkWriter> GuardedCore<W> {
     /// A core that takes calls.
-    pub(crate) fn new(core: WriterCore<W>) -> GuardedCore<W>
+    pub fn new(core: WriterCore<W>) -> GuardedCore<W>
         requires { IsOpen core.calls }
         ensures core { result.core ≡ core }
         ensures open { result.ended ≡ false }
@@ -52,7 +52,7 @@ impl<W: SinkWriter> GuardedCore<W> {
     /// Takes a chunk that fits, and drops one that doesn't. Once the writing has ended it takes
     /// none.
     #[tactic(auto, using(crate::proofs::TellsFacts::tells_on, crate::proofs::TellsFacts::tells_fault))]
-    pub(crate) fn take(&mut self, chunk: DataChunk) -> SinkResult
+    pub fn take(&mut self, chunk: DataChunk) -> SinkResult
         ensures answer { (result ≡ sink_result.Finished) ↔ IsTrue self.new.ended }
         ensures ended { IsTrue self.old.ended → self.new ≡ self.old }
         ensures dropped { ¬ IsWritable (W.fields (W.format self.old.core.writer)) chunk.frame
@@ -73,6 +73,10 @@ impl<W: SinkWriter> GuardedCore<W> {
         ensures refused { self.old.ended ≡ false → IsTrue self.new.ended
             → is_some self.new.fault ≡ true }
         ensures format { W.format self.new.core.writer ≡ W.format self.old.core.writer }
+        ensures kept { (self.new.core.maintain_order ≡ self.old.core.maintain_order)
+            × (self.new.core.morsels ≡ self.old.core.morsels) }
+        ensures tells { is_some (W.told self.new.core.writer)
+            ≡ is_some (W.told self.old.core.writer) }
         ensures since { (n : ℕ) → TellsSince n (W.faults self.old.core.writer) self.old.fault
             → TellsSince n (W.faults self.new.core.writer) self.new.fault }
     {
@@ -94,7 +98,7 @@ impl<W: SinkWriter> GuardedCore<W> {
 
     /// Finishes the writing, unless it has ended.
     #[tactic(auto, using(crate::proofs::TellsFacts::tells_on, crate::proofs::TellsFacts::tells_fault))]
-    pub(crate) fn finish(&mut self)
+    pub fn finish(&mut self)
         ensures ended { IsTrue self.new.ended }
         ensures already { IsTrue self.old.ended → self.new ≡ self.old }
         ensures whole { self.old.ended ≡ false → self.new.fault ≡ None
@@ -108,6 +112,8 @@ impl<W: SinkWriter> GuardedCore<W> {
             → TellsFront (W.told self.new.core.writer) since
             (W.text (W.format self.old.core.writer) (rows_of_chunks
             (write_order chunks self.old.core.morsels self.old.core.maintain_order))) }
+        ensures tells { is_some (W.told self.new.core.writer)
+            ≡ is_some (W.told self.old.core.writer) }
         ensures since { (n : ℕ) → TellsSince n (W.faults self.old.core.writer) self.old.fault
             → TellsSince n (W.faults self.new.core.writer) self.new.fault }
     {
@@ -120,8 +126,15 @@ impl<W: SinkWriter> GuardedCore<W> {
         }
     }
 
+    /// Whether the writing has ended.
+    pub fn ended(&self) -> bool
+        ensures { result ≡ self.now.ended }
+    {
+        self.ended
+    }
+
     /// How the writing went so far.
-    pub(crate) fn result(&self) -> Result<(), WriteError>
+    pub fn result(&self) -> Result<(), WriteError>
         ensures ok { (result ≡ Ok tt) ↔ (self.now.fault ≡ None) }
         ensures fault { IfErr result (λ e. self.now.fault ≡ Some e) }
         ensures output { IsErrOf result write_error.Output
@@ -135,7 +148,7 @@ impl<W: SinkWriter> GuardedCore<W> {
     }
 
     /// The writer, without what waits.
-    pub(crate) fn into_writer(self) -> W
+    pub fn into_writer(self) -> W
         ensures { result ≡ self.core.writer }
     {
         let GuardedCore { core, .. } = self;

@@ -14,5 +14,6 @@ mod writer_core;
 pub use csv_sink::{CsvSink, CsvWriterOptions};
 pub use files_sender::FilesSender;
 pub use files_sink::FilesSink;
+pub use guarded_core::GuardedCore;
 pub use json_sink::{JsonSink, JsonWriterOptions};
 pub use writer_core::WriterCore;

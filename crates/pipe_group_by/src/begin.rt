@@ -16,6 +16,7 @@ use pipe_plan::{Limits, SpillAction};
 use pipe_run::{GenericRun, PipeError};
 use pipe_spill::SpillStore;
 use std::alloc::Global;
+use std::hash::RandomState;
 use std::sync::Wait;
 
 impl<'a, S: SpillStore + Drop + Send> GroupByRun<'a, S> {
@@ -51,14 +52,17 @@ impl<'a, S: SpillStore + Drop + Send> GroupByRun<'a, S> {
             (suits_keys limits.now.sink (key_types (query_tree query.now))) e.0) }
         ensures back { IfErr result (λ e. e.1.items ≡ stores.items) }
     {
-        GroupByRun::begun(rt, alloc, query, limits, actions, Vec::new(alloc), stores)
+        let rules = Vec::new(alloc);
+        GroupByRun::begun(rt, alloc, None, query, limits, actions, rules, stores)
     }
 
     /// Such a run in which each worker has a rule: the action that follows each of its turns past its
-    /// list. Another number of rules than of workers is refused with `Limits` too.
+    /// list. Another number of rules than of workers is refused with `Limits` too. Its tables hash under
+    /// keys (`CheckedQuery::hash_under`), on which nothing that it answers depends.
     pub fn begin_by_rules<H: Wait>(
         rt: &H,
         alloc: Global,
+        hash_keys: Option<RandomState>,
         query: &'a Query,
         limits: &Limits,
         actions: Vec<Vec<SpillAction>>,
@@ -91,13 +95,14 @@ impl<'a, S: SpillStore + Drop + Send> GroupByRun<'a, S> {
         if rules.len() != limits.workers {
             return Err((PipeError::Limits, stores));
         }
-        GroupByRun::begun(rt, alloc, query, limits, actions, rules, stores)
+        GroupByRun::begun(rt, alloc, hash_keys, query, limits, actions, rules, stores)
     }
 
     /// Such a run with any number of rules.
     fn begun<H: Wait>(
         rt: &H,
         alloc: Global,
+        hash_keys: Option<RandomState>,
         query: &'a Query,
         limits: &Limits,
         actions: Vec<Vec<SpillAction>>,
@@ -126,14 +131,14 @@ impl<'a, S: SpillStore + Drop + Send> GroupByRun<'a, S> {
         ensures back { IfErr result (λ e. e.1.items ≡ stores.items) }
     {
         if !is_generic(limits.sink) {
-            return match TypedRun::begin(alloc, query, limits, actions, rules, stores) {
+            return match TypedRun::begin(alloc, hash_keys, query, limits, actions, rules, stores) {
                 Ok(run) => Ok(GroupByRun {
                     kind: Kind::Typed(run),
                 }),
                 Err(refusal) => Err(refusal),
             };
         }
-        match GenericRun::begin(rt, alloc, query, limits, actions, rules, stores) {
+        match GenericRun::begin(rt, alloc, hash_keys, query, limits, actions, rules, stores) {
             Ok(run) => Ok(GroupByRun {
                 kind: Kind::Generic(run),
             }),

@@ -18,6 +18,7 @@ use pipe_run::{PipeError, checked_query, copy_of};
 use pipe_sinks::{PausedSink, SinkRun};
 use pipe_spill::SpillStore;
 use std::alloc::{AllocError, Global};
+use std::hash::RandomState;
 
 /// Sinks that took nothing, as many as there are workers.
 fn unused_sinks(
@@ -40,9 +41,11 @@ fn unused_sinks(
 }
 
 impl<'a, S: SpillStore + Drop> TypedRun<'a, S> {
-    /// A run before its first chunk. The stores come back as they were where it is refused.
+    /// A run before its first chunk, whose sinks hash under keys. The stores come back as they were where
+    /// it is refused.
     pub(crate) fn begin(
         alloc: Global,
+        hash_keys: Option<RandomState>,
         query: &'a Query,
         limits: &Limits,
         actions: Vec<Vec<SpillAction>>,
@@ -71,10 +74,11 @@ impl<'a, S: SpillStore + Drop> TypedRun<'a, S> {
             (suits_keys limits.now.sink (key_types (query_tree query.now))) e.0) }
         ensures back { IfErr result (λ e. e.1.items ≡ stores.items) }
     {
-        let query = match checked_query(alloc, query, limits, actions.len(), &stores) {
+        let mut query = match checked_query(alloc, query, limits, actions.len(), &stores) {
             Ok(checked) => checked,
             Err(error) => return Err((error, stores)),
         };
+        query.hash_under(hash_keys);
         let sinks = match unused_sinks(alloc, &query, limits.workers, limits.partitions) {
             Ok(sinks) => sinks,
             Err(AllocError) => return Err((PipeError::Memory, stores)),

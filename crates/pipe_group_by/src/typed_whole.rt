@@ -34,7 +34,7 @@ pub(crate) fn run_typed<S: SpillStore + Drop, H: Threads + Sync>(
       stores = stores_seen S.held S.told S.faults S.sure S.path stores.items;
     }) chunks.items result.0 (stores_seen S.held S.told S.faults S.sure S.path result.1.items) }
 {
-    let run = match TypedRun::begin(alloc, query, limits, actions, rules, stores) {
+    let run = match TypedRun::begin(alloc, None, query, limits, actions, rules, stores) {
         Ok(run) => run,
         Err((error, stores)) => return (Err(error), stores),
     };

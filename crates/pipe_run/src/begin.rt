@@ -21,6 +21,7 @@ use pipe_plan::{Limits, SpillAction};
 use pipe_spill::SpillStore;
 use pipe_workers::PausedWorker;
 use std::alloc::{AllocError, Global};
+use std::hash::RandomState;
 use std::snapshot::Snapshot;
 use std::sync::Wait;
 
@@ -59,12 +60,13 @@ pub fn checked_query<'a, S: SpillStore + Drop>(
 }
 
 impl<'a, S: SpillStore + Drop + Send> GenericRun<'a, S> {
-    /// A run before its first chunk, one partition for each store. It is refused with `Limits` where the
-    /// limits don't fit, with `Query` where the query has a fault, or with `Memory`; the stores come
-    /// back as they were.
+    /// A run before its first chunk, one partition for each store, whose tables hash under keys
+    /// (`CheckedQuery::hash_under`). It is refused with `Limits` where the limits don't fit, with `Query`
+    /// where the query has a fault, or with `Memory`; the stores come back as they were.
     pub fn begin<H: Wait>(
         rt: &H,
         alloc: Global,
+        hash_keys: Option<RandomState>,
         query: &'a Query,
         limits: &Limits,
         actions: Vec<Vec<SpillAction>>,
@@ -91,10 +93,11 @@ impl<'a, S: SpillStore + Drop + Send> GenericRun<'a, S> {
             (suits_keys limits.now.sink (key_types (query_tree query.now))) e.0) }
         ensures back { IfErr result (λ e. e.1.items ≡ stores.items) }
     {
-        let checked = match checked_query(alloc, query, limits, actions.len(), &stores) {
+        let mut checked = match checked_query(alloc, query, limits, actions.len(), &stores) {
             Ok(checked) => checked,
             Err(error) => return Err((error, stores)),
         };
+        checked.hash_under(hash_keys);
         match GenericRun::before_chunks(rt, alloc, checked, limits, actions, rules, stores) {
             Ok(run) => Ok(run),
             Err((AllocError, stores)) => Err((PipeError::Memory, stores)),

@@ -43,11 +43,11 @@ entries_hold P (r ∷ rs) k h = by (is_eq (tuple_cmp r.key k)) refl (entries_hol
   by false f rest = rw f rest
 
 -- a place is that of a row of a key
-abbrev IsOfRow : List Row → List AnyValue → Place → Type 0
+abbrev pub IsOfRow : List Row → List AnyValue → Place → Type 0
 IsOfRow rs k p = IsOf (λ (r : Row). r.place) (λ (r : Row). r.key) rs k p
 
 -- an entry of a key is that of a row
-row-of-entry : (rs : List Row) (k : List AnyValue) (e : Place × List AnyValue) → Has e (rows_at rs k) → IsOfRow rs k e.0
+pub row-of-entry : (rs : List Row) (k : List AnyValue) (e : Place × List AnyValue) → Has e (rows_at rs k) → IsOfRow rs k e.0
 row-of-entry [] k e m = absurd m
 row-of-entry (r ∷ rs) k e m = by (is_eq (tuple_cmp r.key k)) refl m (row-of-entry rs k e) where
   more : IsOfRow rs k e.0 → IsOfRow (r ∷ rs) k e.0
@@ -63,24 +63,24 @@ row-of-entry (r ∷ rs) k e m = by (is_eq (tuple_cmp r.key k)) refl m (row-of-en
 -- ---- the places of state rows
 
 -- the first entry is one of the entries
-first-has : (es : Entries) (e : Place × List AnyValue) → first_entry es ≡ Some e → (f : Place × List AnyValue) × Has f es × (f.0 ≡ place_of (first_entry es))
+pub first-has : (es : Entries) (e : Place × List AnyValue) → first_entry es ≡ Some e → (f : Place × List AnyValue) × Has f es × (f.0 ≡ place_of (first_entry es))
 first-has [] e g = cc
 first-has (x ∷ xs) e g = let h = first-holds (x ∷ xs) in (_, has-from_Contains (x ∷ xs) _ h.within, refl)
 
 -- and so is the last
-last-has : (es : Entries) (e : Place × List AnyValue) → first_entry es ≡ Some e → (f : Place × List AnyValue) × Has f es × (f.0 ≡ place_of (last_entry es))
+pub last-has : (es : Entries) (e : Place × List AnyValue) → first_entry es ≡ Some e → (f : Place × List AnyValue) × Has f es × (f.0 ≡ place_of (last_entry es))
 last-has [] e g = cc
 last-has (x ∷ xs) e g = let h = last-holds (x ∷ xs) in (_, has-from_Contains (x ∷ xs) _ h.within, refl)
 
 -- the least place of a key is that of one of its rows
-first-stands : (rs : List Row) (k : List AnyValue) → Has k (keys_of rs) → IsOfRow rs k (place_of (first_entry (rows_at rs k)))
+pub first-stands : (rs : List Row) (k : List AnyValue) → Has k (keys_of rs) → IsOfRow rs k (place_of (first_entry (rows_at rs k)))
 first-stands rs k m =
     let some = has_entry rs k m in
     let found = first-has (rows_at rs k) some.0 some.1 in
     subst (IsOfRow rs k) found.2 (row-of-entry rs k found.0 found.1)
 
 -- and so is the greatest
-last-stands : (rs : List Row) (k : List AnyValue) → Has k (keys_of rs) → IsOfRow rs k (place_of (last_entry (rows_at rs k)))
+pub last-stands : (rs : List Row) (k : List AnyValue) → Has k (keys_of rs) → IsOfRow rs k (place_of (last_entry (rows_at rs k)))
 last-stands rs k m =
     let some = has_entry rs k m in
     let found = last-has (rows_at rs k) some.0 some.1 in
@@ -89,7 +89,7 @@ last-stands rs k m =
 -- ---- state rows
 
 -- what entries come to is fair
-fair_row : (first end : ℕ) (q : QueryTree) (k : List AnyValue) (es : Entries) (e : Place × List AnyValue) → first_entry es ≡ Some e → All (λ x. IsPlaceIn first end x.0) es → IsFairRow first end (row_of_entries q k es)
+pub fair_row : (first end : ℕ) (q : QueryTree) (k : List AnyValue) (es : Entries) (e : Place × List AnyValue) → first_entry es ≡ Some e → All (λ x. IsPlaceIn first end x.0) es → IsFairRow first end (row_of_entries q k es)
 fair_row first end q k [] e f h = cc
 fair_row first end q k (x ∷ xs) e f h =
     let least = first-holds (x ∷ xs) in
@@ -102,7 +102,7 @@ fair_row first end q k (x ∷ xs) e f h =
     }
 
 -- so are state rows of keys
-fair_rows : (first end : ℕ) (q : QueryTree) (rs : List Row) (ks : List (List AnyValue)) → All (λ r. IsPlaceIn first end r.place) rs → ((k : List AnyValue) → Has k ks → Has k (keys_of rs))
+pub fair_rows : (first end : ℕ) (q : QueryTree) (rs : List Row) (ks : List (List AnyValue)) → All (λ r. IsPlaceIn first end r.place) rs → ((k : List AnyValue) → Has k ks → Has k (keys_of rs))
     → All (IsFairRow first end) (map (state_row q rs) ks)
 fair_rows first end q rs [] p h = All-nil (IsFairRow first end)
 fair_rows first end q rs (k ∷ ks) p h =
@@ -111,7 +111,7 @@ fair_rows first end q rs (k ∷ ks) p h =
     (fair_rows first end q rs ks p (λ x m. h x (inr m)))
 
 -- their rows are as many as the lists of their entries have
-rows_joined : (q : QueryTree) (rs : List Row) (ks : List (List AnyValue)) → sum_by (λ r. r.rows) (map (state_row q rs) ks) ≡ length (joined (map (rows_at rs) ks))
+pub rows_joined : (q : QueryTree) (rs : List Row) (ks : List (List AnyValue)) → sum_by (λ r. r.rows) (map (state_row q rs) ks) ≡ length (joined (map (rows_at rs) ks))
 rows_joined q rs [] = refl
 rows_joined q rs (k ∷ ks) =
     sum_by-cons (λ (r : StateRow). r.rows) (state_row q rs k) (map (state_row q rs) ks)
@@ -119,7 +119,7 @@ rows_joined q rs (k ∷ ks) =
     ∙ sym (length-append (rows_at rs k) (joined (map (rows_at rs) ks)))
 
 -- each entry passes a test that all pass
-count-all : {X : Type 0} (xs : List X) → count_by (λ x. true) xs ≡ length xs
+pub count-all : {X : Type 0} (xs : List X) → count_by (λ x. true) xs ≡ length xs
 count-all [] = refl
 count-all (x ∷ xs) = let one = count-cons (λ y. true) x xs in let rest = count-all xs in omega arith
 
@@ -134,7 +134,7 @@ rows-few q rs =
     omega arith
 
 -- places in a range that a program can hold
-places-in : (first end : ℕ) (rs : List Row) → All (λ r. IsWithin first end r.place) rs → All (λ r. r.place.row < 2 ^ 32) rs → All (λ r. IsPlaceIn first end r.place) rs
+pub places-in : (first end : ℕ) (rs : List Row) → All (λ r. IsWithin first end r.place) rs → All (λ r. r.place.row < 2 ^ 32) rs → All (λ r. IsPlaceIn first end r.place) rs
 places-in first end [] h j = All-nil (λ (r : Row). IsPlaceIn first end r.place)
 places-in first end (r ∷ rs) h j =
     All-cons (λ (s : Row). IsPlaceIn first end s.place) r rs
@@ -142,7 +142,7 @@ places-in first end (r ∷ rs) h j =
     (places-in first end rs (All-tail (λ (s : Row). IsWithin first end s.place) r rs h) (All-tail (λ (s : Row). s.place.row < 2 ^ 32) r rs j))
 
 -- the keys of state rows are the tuples
-keys-of : (q : QueryTree) (rs : List Row) (ks : List (List AnyValue)) → map (λ r. r.key) (map (state_row q rs) ks) ≡ ks
+pub keys-of : (q : QueryTree) (rs : List Row) (ks : List (List AnyValue)) → map (λ r. r.key) (map (state_row q rs) ks) ≡ ks
 keys-of q rs [] = refl
 keys-of q rs (k ∷ ks) = ap (λ (l : List (List AnyValue)). k ∷ l) (keys-of q rs ks)
 

@@ -24,14 +24,14 @@ use Rattle.pipe_states.specs.StateText.{high_half, low_half, saved_agg, saved_ag
 
 -- what is saved of an aggregate: the types of its results, those of what is saved, what is saved of
 -- the results in front, and which results it can give
-record Form : Type 0 where
+pub record Form : Type 0 where
   results : List DataType
   saves : List DataType
   saved : List AnyValue → List AnyValue
   given : ℕ → AnyValue → AnyValue → Bool
 
 -- that of a kind over values of a type
-abbrev form_of_kind : Kind → DataType → Form
+abbrev pub form_of_kind : Kind → DataType → Form
 form_of_kind k t = record {
   results = map (λ f. f.dtype) (agg_fields [] k t);
   saves = saved_types k t;
@@ -40,11 +40,11 @@ form_of_kind k t = record {
 }
 
 -- and that of a running aggregate
-abbrev form_of : AggregateFunction → Form
+abbrev pub form_of : AggregateFunction → Form
 form_of f = record { results = result_types_of f; saves = saved_types_of f; saved = saved_of f; given = gives f }
 
 -- they are one where the kind has a running aggregate
-forms_alike : (k : Kind) (t : DataType) → suited k t ≡ true → form_of_kind k t ≡ form_of (function_for k t)
+pub forms_alike : (k : Kind) (t : DataType) → suited k t ≡ true → form_of_kind k t ≡ form_of (function_for k t)
 forms_alike kind.sum dt.Boolean h = refl
 forms_alike kind.sum dt.Int8 h = refl
 forms_alike kind.sum dt.Int16 h = refl
@@ -107,11 +107,11 @@ value_at-drop (suc j) i [] = refl
 value_at-drop (suc j) i (v ∷ vs) = value_at-drop j i vs ∙ ap (value_at (v ∷ vs)) {x = suc (j + i)} {y = suc j + i} (omega arith)
 
 -- the first value from a position on
-value_here : (j : ℕ) (vs : List AnyValue) → value_at vs j ≡ value_at (drop j vs) 0
+pub value_here : (j : ℕ) (vs : List AnyValue) → value_at vs j ≡ value_at (drop j vs) 0
 value_here j vs = ap (value_at vs) {x = j} {y = j + 0} (omega arith) ∙ sym (value_at-drop j 0 vs)
 
 -- what is saved of a mean that is none of texts
-both_here : (j : ℕ) (vs : List AnyValue)
+pub both_here : (j : ℕ) (vs : List AnyValue)
     → high_half (value_at vs j) ∷ low_half (value_at vs j) ∷ value_at vs (j + 1) ∷ []
     ≡ high_half (value_at (drop j vs) 0) ∷ low_half (value_at (drop j vs) 0) ∷ value_at (drop j vs) (0 + 1) ∷ []
 both_here j vs =
@@ -120,7 +120,7 @@ both_here j vs =
     λ i. high_half (here i) ∷ low_half (here i) ∷ next i ∷ []
 
 -- what is saved of a mean from a position on
-mean_here : (t : DataType) (j : ℕ) (vs : List AnyValue) → saved_mean t j vs ≡ saved_mean t 0 (drop j vs)
+pub mean_here : (t : DataType) (j : ℕ) (vs : List AnyValue) → saved_mean t j vs ≡ saved_mean t 0 (drop j vs)
 mean_here dt.Boolean j vs = both_here j vs
 mean_here dt.Int8 j vs = both_here j vs
 mean_here dt.Int16 j vs = both_here j vs
@@ -135,7 +135,7 @@ mean_here dt.Date j vs = both_here j vs
 mean_here dt.String j vs = ap (λ v. v ∷ []) (value_here j vs)
 
 -- and of any aggregate
-saved_here : (k : Kind) (t : DataType) (j : ℕ) (vs : List AnyValue) → saved_agg k t j vs ≡ saved_agg k t 0 (drop j vs)
+pub saved_here : (k : Kind) (t : DataType) (j : ℕ) (vs : List AnyValue) → saved_agg k t j vs ≡ saved_agg k t 0 (drop j vs)
 saved_here kind.sum t j vs = ap (λ v. v ∷ []) (value_here j vs)
 saved_here kind.mean t j vs = mean_here t j vs
 saved_here kind.min t j vs = ap (λ v. v ∷ []) (value_here j vs)

@@ -42,14 +42,14 @@ typed-append (t ∷ ts) us [] ys h k = absurd h
 typed-append (t ∷ ts) us (x ∷ xs) ys h k = (h.0, typed-append ts us xs ys h.1 k)
 
 -- as many values as types
-typed-length : (ts : List DataType) (xs : List AnyValue) → AreOfTypes ts xs → length xs ≡ length ts
+pub typed-length : (ts : List DataType) (xs : List AnyValue) → AreOfTypes ts xs → length xs ≡ length ts
 typed-length [] [] h = refl
 typed-length [] (x ∷ xs) h = absurd h
 typed-length (t ∷ ts) [] h = absurd h
 typed-length (t ∷ ts) (x ∷ xs) h = let rest = typed-length ts xs h.1 in omega arith
 
 -- the number of output columns is that of their types
-columns-length : (k : Kind) (t : DataType) → length (map (λ f. f.dtype) (agg_fields [] k t)) ≡ column_count k t
+pub columns-length : (k : Kind) (t : DataType) → length (map (λ f. f.dtype) (agg_fields [] k t)) ≡ column_count k t
 columns-length k t = by (agg_fields [] k t) where
   by : (fields : List Field) → length (map (λ (f : Field). f.dtype) fields) ≡ length fields
   by [] = refl
@@ -89,11 +89,11 @@ pub record HasGood (schema : List Field) (aggs : List AggTree) (j : ℕ) (r : St
   pub can : can_give_all j schema aggs r.rows r.results ≡ true
 
 -- what a column of a state row has: a value of a type
-abbrev FitAt : DataType → ℕ → StateRow → Type 0
+abbrev pub FitAt : DataType → ℕ → StateRow → Type 0
 FitAt t j r = Fit t (value_at r.results j)
 
 -- a column taken off
-take_one : (schema : List Field) (aggs : List AggTree) (t : DataType) (j : ℕ) (r : StateRow) (front back : List AnyValue) → length front ≡ j → r.results ≡ front ++ back
+pub take_one : (schema : List Field) (aggs : List AggTree) (t : DataType) (j : ℕ) (r : StateRow) (front back : List AnyValue) → length front ≡ j → r.results ≡ front ++ back
     → AreOfTypes (t ∷ types_of schema aggs) back → All HasUtf8 back → can_give_all (j + 1) schema aggs r.rows r.results ≡ true → FitAt t j r × HasGood schema aggs (j + 1) r
 take_one schema aggs t j r front [] f e h u c = absurd h
 take_one schema aggs t j r front (v ∷ back) f e h u c =
@@ -111,7 +111,7 @@ take_one schema aggs t j r front (v ∷ back) f e h u c =
     )
 
 -- two columns taken off
-take_two : (schema : List Field) (aggs : List AggTree) (t u : DataType) (j : ℕ) (r : StateRow) (front back : List AnyValue) → length front ≡ j → r.results ≡ front ++ back
+pub take_two : (schema : List Field) (aggs : List AggTree) (t u : DataType) (j : ℕ) (r : StateRow) (front back : List AnyValue) → length front ≡ j → r.results ≡ front ++ back
     → AreOfTypes (t ∷ u ∷ types_of schema aggs) back → All HasUtf8 back → can_give_all (j + 2) schema aggs r.rows r.results ≡ true → FitAt t j r × HasGood schema aggs (j + 2) r
 take_two schema aggs t u j r front [] f e h w c = absurd h
 take_two schema aggs t u j r front (v ∷ []) f e h w c = absurd h.1
@@ -130,19 +130,19 @@ take_two schema aggs t u j r front (v ∷ x ∷ back) f e h w c =
     )
 
 -- what a state row has of one aggregate: a least or greatest, first or last value of the type
-abbrev FitOf : Kind → DataType → ℕ → StateRow → Type 0
+abbrev pub FitOf : Kind → DataType → ℕ → StateRow → Type 0
 FitOf kind.min t j r = FitAt t j r
 FitOf kind.max t j r = FitAt t j r
 FitOf kind.first t j r = FitAt t j r
 FitOf kind.last t j r = FitAt t j r
 FitOf k t j r = Unit {0}
 
-record HasOne (k : Kind) (t : DataType) (j : ℕ) (r : StateRow) : Type 0 where
+pub record HasOne (k : Kind) (t : DataType) (j : ℕ) (r : StateRow) : Type 0 where
   fit : FitOf k t j r
   can : can_give k t r.rows (value_at r.results j) (value_at r.results (j + 1)) ≡ true
 
 -- an aggregate taken off
-take_agg : (schema : List Field) (aggs : List AggTree) (k : Kind) (t : DataType) (j : ℕ) (r : StateRow) (front back : List AnyValue) → length front ≡ j → r.results ≡ front ++ back
+pub take_agg : (schema : List Field) (aggs : List AggTree) (k : Kind) (t : DataType) (j : ℕ) (r : StateRow) (front back : List AnyValue) → length front ≡ j → r.results ≡ front ++ back
     → AreOfTypes (map (λ f. f.dtype) (agg_fields [] k t) ++ types_of schema aggs) back → All HasUtf8 back → can_give_all (j + column_count k t) schema aggs r.rows r.results ≡ true
     → FitOf k t j r × HasGood schema aggs (j + column_count k t) r
 take_agg schema aggs kind.sum t j r front back f e h u c = (tt, (take_one schema aggs _ j r front back f e h u c).1)
@@ -166,14 +166,14 @@ take_agg schema aggs kind.count t j r front back f e h u c = (tt, (take_one sche
 take_agg schema aggs kind.len t j r front back f e h u c = (tt, (take_one schema aggs dt.UInt32 j r front back f e h u c).1)
 
 -- so a state row has the first aggregate
-has_one : (schema : List Field) (a : AggTree) (aggs : List AggTree) (j : ℕ) (r : StateRow) → HasGood schema (a ∷ aggs) j r → HasOne a.kind (input_type schema a.input) j r
+pub has_one : (schema : List Field) (a : AggTree) (aggs : List AggTree) (j : ℕ) (r : StateRow) → HasGood schema (a ∷ aggs) j r → HasOne a.kind (input_type schema a.input) j r
 has_one schema a aggs j r h =
     let t : DataType = input_type schema a.input in
     let parts = both_true (can_give a.kind t r.rows (value_at r.results j) (value_at r.results (j + 1))) (can_give_all (j + column_count a.kind t) schema aggs r.rows r.results) h.can in
     record { fit = (take_agg schema aggs a.kind t j r h.front h.back h.long h.results h.typed h.utf8 parts.1).0; can = parts.0 }
 
 -- and the others behind it
-has_rest : (schema : List Field) (a : AggTree) (aggs : List AggTree) (j : ℕ) (r : StateRow) → HasGood schema (a ∷ aggs) j r → HasGood schema aggs (j + column_count a.kind (input_type schema a.input)) r
+pub has_rest : (schema : List Field) (a : AggTree) (aggs : List AggTree) (j : ℕ) (r : StateRow) → HasGood schema (a ∷ aggs) j r → HasGood schema aggs (j + column_count a.kind (input_type schema a.input)) r
 has_rest schema a aggs j r h =
     let t : DataType = input_type schema a.input in
     let parts = both_true (can_give a.kind t r.rows (value_at r.results j) (value_at r.results (j + 1))) (can_give_all (j + column_count a.kind t) schema aggs r.rows r.results) h.can in
@@ -182,12 +182,12 @@ has_rest schema a aggs j r h =
 -- ---- counts of state rows
 
 -- the number in a count
-abbrev count_in : AnyValue → ℕ
+abbrev pub count_in : AnyValue → ℕ
 count_in (av.Int (pos n)) = n
 count_in v = 0
 
 -- a count within is its number
-within-is : (n : ℕ) (v : AnyValue) → is_count_within n v ≡ true → (addend v ≡ pos (count_in v)) × (count_in v ≤ n)
+pub within-is : (n : ℕ) (v : AnyValue) → is_count_within n v ≡ true → (addend v ≡ pos (count_in v)) × (count_in v ≤ n)
 within-is n (av.Int (pos m)) e = (refl, leb-true m n e)
 within-is n (av.Int (negsuc m)) e = cc
 within-is n av.Null e = cc
@@ -195,7 +195,7 @@ within-is n (av.Boolean b) e = cc
 within-is n (av.Text s) e = cc
 
 -- a number is one
-number-is : (n : ℕ) (v : AnyValue) → is_number n v ≡ true → (addend v ≡ pos (count_in v)) × (count_in v ≡ n)
+pub number-is : (n : ℕ) (v : AnyValue) → is_number n v ≡ true → (addend v ≡ pos (count_in v)) × (count_in v ≡ n)
 number-is n (av.Int (pos m)) e = (refl, eqb-true m n e)
 number-is n (av.Int (negsuc m)) e = cc
 number-is n av.Null e = cc
@@ -203,11 +203,11 @@ number-is n (av.Boolean b) e = cc
 number-is n (av.Text s) e = cc
 
 -- the counts in a column
-abbrev counts_at : ℕ → List StateRow → ℕ
+abbrev pub counts_at : ℕ → List StateRow → ℕ
 counts_at j rows = sum_by (λ r. count_in (value_at r.results j)) rows
 
 -- they add up
-counts-sum : (j : ℕ) (rows : List StateRow) → All (λ r. addend (value_at r.results j) ≡ pos (count_in (value_at r.results j))) rows → exact_sum (results_at j rows) ≡ pos (counts_at j rows)
+pub counts-sum : (j : ℕ) (rows : List StateRow) → All (λ r. addend (value_at r.results j) ≡ pos (count_in (value_at r.results j))) rows → exact_sum (results_at j rows) ≡ pos (counts_at j rows)
 counts-sum j [] h = refl
 counts-sum j (r ∷ rows) h =
     exact_sum-cons (value_at r.results j) (results_at j rows)
@@ -220,7 +220,7 @@ counts-sum j (r ∷ rows) h =
     together m n = omega (arith, ints)
 
 -- and are no more than the rows
-counts-within : (j : ℕ) (rows : List StateRow) → All (λ r. count_in (value_at r.results j) ≤ r.rows) rows → counts_at j rows ≤ sum_by (λ r. r.rows) rows
+pub counts-within : (j : ℕ) (rows : List StateRow) → All (λ r. count_in (value_at r.results j) ≤ r.rows) rows → counts_at j rows ≤ sum_by (λ r. r.rows) rows
 counts-within j [] h = omega arith
 counts-within j (r ∷ rows) h =
     let here = All-head (λ (s : StateRow). count_in (value_at s.results j) ≤ s.rows) r rows h in
@@ -230,7 +230,7 @@ counts-within j (r ∷ rows) h =
     omega arith
 
 -- numbers of rows are as many
-counts-are : (j : ℕ) (rows : List StateRow) → All (λ r. count_in (value_at r.results j) ≡ r.rows) rows → counts_at j rows ≡ sum_by (λ r. r.rows) rows
+pub counts-are : (j : ℕ) (rows : List StateRow) → All (λ r. count_in (value_at r.results j) ≡ r.rows) rows → counts_at j rows ≡ sum_by (λ r. r.rows) rows
 counts-are j [] h = refl
 counts-are j (r ∷ rows) h =
     let here = All-head (λ (s : StateRow). count_in (value_at s.results j) ≡ s.rows) r rows h in
@@ -242,12 +242,12 @@ counts-are j (r ∷ rows) h =
 -- ---- means of state rows
 
 -- the halves of a mean of a state row
-record HalvesAt (j : ℕ) (r : StateRow) : Type 0 where
+pub record HalvesAt (j : ℕ) (r : StateRow) : Type 0 where
   within : is_count_within r.rows (value_at r.results (j + 1)) ≡ true
   suits : does_sum_suit (value_at r.results j) (value_at r.results (j + 1)) ≡ true
 
 -- what a sum and a count that go together are: null and 0, or a number and a count
-suit-small : (v w : AnyValue) → does_sum_suit v w ≡ true → IsSmall (addend v) (count_in w)
+pub suit-small : (v w : AnyValue) → does_sum_suit v w ≡ true → IsSmall (addend v) (count_in w)
 suit-small av.Null (av.Int (pos n)) e = subst (IsSmall (pos 0)) (sym (eqb-true n 0 e)) small-none
 suit-small av.Null (av.Int (negsuc n)) e = cc
 suit-small av.Null av.Null e = cc
@@ -262,7 +262,7 @@ suit-small (av.Boolean b) w e = cc
 suit-small (av.Text s) w e = cc
 
 -- so the sum of sums is small
-sums-small : (j : ℕ) (rows : List StateRow) → All (HalvesAt j) rows → IsSmall (exact_sum (results_at j rows)) (counts_at (j + 1) rows)
+pub sums-small : (j : ℕ) (rows : List StateRow) → All (HalvesAt j) rows → IsSmall (exact_sum (results_at j rows)) (counts_at (j + 1) rows)
 sums-small j [] h = small-none
 sums-small j (r ∷ rows) h =
     let rest = sums-small j rows (All-tail (HalvesAt j) r rows h) in
@@ -272,7 +272,7 @@ sums-small j (r ∷ rows) h =
     (small-both (addend (value_at r.results j)) (exact_sum (results_at j rows)) (count_in (value_at r.results (j + 1))) (counts_at (j + 1) rows) here rest))
 
 -- a sum that is there has a count
-suit-some : (v w : AnyValue) → does_sum_suit v w ≡ true → is_null v ≡ false → 0 < count_in w
+pub suit-some : (v w : AnyValue) → does_sum_suit v w ≡ true → is_null v ≡ false → 0 < count_in w
 suit-some av.Null w e n = cc
 suit-some (av.Int z) (av.Int (pos m)) e n = positive m (both_true (not (m == 0)) (nat_le (unsigned_abs z) (m * 2 ^ 64)) e).0 where
   positive : (m : ℕ) → not (m == 0) ≡ true → 0 < m
@@ -286,7 +286,7 @@ suit-some (av.Boolean b) w e n = cc
 suit-some (av.Text s) w e n = cc
 
 -- and one that is null has none
-suit-none : (v w : AnyValue) → does_sum_suit v w ≡ true → is_null v ≡ true → count_in w ≡ 0
+pub suit-none : (v w : AnyValue) → does_sum_suit v w ≡ true → is_null v ≡ true → count_in w ≡ 0
 suit-none av.Null (av.Int (pos m)) e n = eqb-true m 0 e
 suit-none av.Null (av.Int (negsuc m)) e n = cc
 suit-none av.Null av.Null e n = refl
@@ -297,7 +297,7 @@ suit-none (av.Boolean b) w e n = cc
 suit-none (av.Text s) w e n = cc
 
 -- where no sum is there, no count is
-none-counted : (j : ℕ) (rows : List StateRow) → All (HalvesAt j) rows → present (results_at j rows) ≡ [] → counts_at (j + 1) rows ≡ 0
+pub none-counted : (j : ℕ) (rows : List StateRow) → All (HalvesAt j) rows → present (results_at j rows) ≡ [] → counts_at (j + 1) rows ≡ 0
 none-counted j [] h e = refl
 none-counted j (r ∷ rows) h e = by (is_null (value_at r.results j)) refl (none-counted j rows (All-tail (HalvesAt j) r rows h)) where
   by : (b : Bool) → is_null (value_at r.results j) ≡ b → (present (results_at j rows) ≡ [] → counts_at (j + 1) rows ≡ 0) → counts_at (j + 1) (r ∷ rows) ≡ 0
@@ -309,7 +309,7 @@ none-counted j (r ∷ rows) h e = by (is_null (value_at r.results j)) refl (none
   by false f next = let g = rw f at e in cc
 
 -- and where one is, one is
-some-counted : (j : ℕ) (rows : List StateRow) (x : AnyValue) (xs : List AnyValue) → All (HalvesAt j) rows → present (results_at j rows) ≡ x ∷ xs → 0 < counts_at (j + 1) rows
+pub some-counted : (j : ℕ) (rows : List StateRow) (x : AnyValue) (xs : List AnyValue) → All (HalvesAt j) rows → present (results_at j rows) ≡ x ∷ xs → 0 < counts_at (j + 1) rows
 some-counted j [] x xs h e = cc
 some-counted j (r ∷ rows) x xs h e = by (is_null (value_at r.results j)) refl (some-counted j rows x xs (All-tail (HalvesAt j) r rows h)) where
   by : (b : Bool) → is_null (value_at r.results j) ≡ b → (present (results_at j rows) ≡ x ∷ xs → 0 < counts_at (j + 1) rows) → 0 < counts_at (j + 1) (r ∷ rows)
@@ -323,7 +323,7 @@ some-counted j (r ∷ rows) x xs h e = by (is_null (value_at r.results j)) refl 
       omega arith
 
 -- so the halves of means are halves
-halves-regrouped : (j n : ℕ) (rows : List StateRow) → All (HalvesAt j) rows → sum_by (λ r. r.rows) rows ≡ n → n < 2 ^ 32
+pub halves-regrouped : (j n : ℕ) (rows : List StateRow) → All (HalvesAt j) rows → sum_by (λ r. r.rows) rows ≡ n → n < 2 ^ 32
     → AreHalves (sum_if_any (present (results_at j rows))) (counts_at (j + 1) rows) n
 halves-regrouped j n rows h e few =
     let le = counts-within (j + 1) rows (All-weaker (HalvesAt j) (λ r. count_in (value_at r.results (j + 1)) ≤ r.rows) (λ r g. (within-is r.rows (value_at r.results (j + 1)) g.within).1) rows h) in
@@ -332,7 +332,7 @@ halves-regrouped j n rows h e few =
 -- ---- one aggregate
 
 -- the halves of a mean over values of a type but texts
-halves-of : (j : ℕ) (t : DataType) (rows : List StateRow) → ((r : StateRow) → can_give kind.mean t r.rows (value_at r.results j) (value_at r.results (j + 1)) ≡ is_count_within r.rows (value_at r.results (j + 1)) && does_sum_suit (value_at r.results j) (value_at r.results (j + 1)))
+pub halves-of : (j : ℕ) (t : DataType) (rows : List StateRow) → ((r : StateRow) → can_give kind.mean t r.rows (value_at r.results j) (value_at r.results (j + 1)) ≡ is_count_within r.rows (value_at r.results (j + 1)) && does_sum_suit (value_at r.results j) (value_at r.results (j + 1)))
     → All (HasOne kind.mean t j) rows → All (HalvesAt j) rows
 halves-of j t rows c h =
     All-weaker (HasOne kind.mean t j) (HalvesAt j)
@@ -340,11 +340,11 @@ halves-of j t rows c h =
     rows h
 
 -- the column of counts is its number
-count-column : (j : ℕ) (rows : List StateRow) → All (λ r. addend (value_at r.results j) ≡ pos (count_in (value_at r.results j))) rows → av.Int (exact_sum (results_at j rows)) ≡ counted (counts_at j rows)
+pub count-column : (j : ℕ) (rows : List StateRow) → All (λ r. addend (value_at r.results j) ≡ pos (count_in (value_at r.results j))) rows → av.Int (exact_sum (results_at j rows)) ≡ counted (counts_at j rows)
 count-column j rows h = ap av.Int (counts-sum j rows h)
 
 -- what a mean makes of state rows is good
-mean-regrouped : (j n : ℕ) (t : DataType) (rows : List StateRow) → n < 2 ^ 32 → sum_by (λ r. r.rows) rows ≡ n → All (HasOne kind.mean t j) rows → IsGood kind.mean t n (regrouped_agg kind.mean t j rows)
+pub mean-regrouped : (j n : ℕ) (t : DataType) (rows : List StateRow) → n < 2 ^ 32 → sum_by (λ r. r.rows) rows ≡ n → All (HasOne kind.mean t j) rows → IsGood kind.mean t n (regrouped_agg kind.mean t j rows)
 mean-regrouped j n t rows few e h = by t h where
   out : (t : DataType) → All (HalvesAt j) rows → IsGood kind.mean t n (mean_values t (sum_if_any (present (results_at j rows))) (av.Int (exact_sum (results_at (j + 1) rows))))
   out t g =
@@ -367,7 +367,7 @@ mean-regrouped j n t rows few e h = by t h where
   by dt.String g = texts-good n
 
 -- what an aggregate makes of state rows is good
-regrouped-good : (k : Kind) (t : DataType) (j n : ℕ) (rows : List StateRow) → n < 2 ^ 32 → sum_by (λ r. r.rows) rows ≡ n → All (HasOne k t j) rows → IsGood k t n (regrouped_agg k t j rows)
+pub regrouped-good : (k : Kind) (t : DataType) (j n : ℕ) (rows : List StateRow) → n < 2 ^ 32 → sum_by (λ r. r.rows) rows ≡ n → All (HasOne k t j) rows → IsGood k t n (regrouped_agg k t j rows)
 regrouped-good kind.sum t j n rows few e h = totals-good t n (results_at j rows)
 regrouped-good kind.mean t j n rows few e h = mean-regrouped j n t rows few e h
 regrouped-good kind.min t j n rows few e h = least-good t n (results_at j rows) (All-map (Fit t) (λ (r : StateRow). value_at r.results j) rows (All-weaker (HasOne kind.min t j) (FitAt t j) (λ r g. g.fit) rows h))

@@ -42,17 +42,17 @@ use Rattle.pipe_states.proofs.ValueFacts.{exact_sum-cons}
 -- ---- means
 
 -- a number with a sign of up to 64 bits
-signed-small : (b : ℕ) (n : ℤ) → 2 ^ b ≤ 2 ^ 64 → is_signed b n ≡ true → IsSmall n 1
+pub signed-small : (b : ℕ) (n : ℤ) → 2 ^ b ≤ 2 ^ 64 → is_signed b n ≡ true → IsSmall n 1
 signed-small b (pos n) le e = let h = ltb-true n (2 ^ b) e in record { above = omega (arith, ints); below = omega (arith, ints) }
 signed-small b (negsuc n) le e = let h = ltb-true n (2 ^ b) e in record { above = omega (arith, ints); below = omega (arith, ints) }
 
 -- and one without
-unsigned-small : (b : ℕ) (n : ℤ) → 2 ^ b ≤ 2 ^ 64 → is_unsigned b n ≡ true → IsSmall n 1
+pub unsigned-small : (b : ℕ) (n : ℤ) → 2 ^ b ≤ 2 ^ 64 → is_unsigned b n ≡ true → IsSmall n 1
 unsigned-small b (pos n) le e = let h = ltb-true n (2 ^ b) e in record { above = omega (arith, ints); below = omega (arith, ints) }
 unsigned-small b (negsuc n) le e = cc
 
 -- a number of a type that has a mean
-number-small : (t : DataType) (n : ℤ) → suited kind.mean t ≡ true → fits_number n t ≡ true → IsSmall n 1
+pub number-small : (t : DataType) (n : ℤ) → suited kind.mean t ≡ true → fits_number n t ≡ true → IsSmall n 1
 number-small dt.Boolean n s e = cc
 number-small dt.Int8 n s e = signed-small 7 n (omega arith) e
 number-small dt.Int16 n s e = signed-small 15 n (omega arith) e
@@ -67,7 +67,7 @@ number-small dt.Date n s e = cc
 number-small dt.String n s e = cc
 
 -- values of such a type have a small sum
-values-small : (t : DataType) (vs : List AnyValue) → suited kind.mean t ≡ true → All (Fit t) vs → IsSmall (exact_sum vs) (length (present vs))
+pub values-small : (t : DataType) (vs : List AnyValue) → suited kind.mean t ≡ true → All (Fit t) vs → IsSmall (exact_sum vs) (length (present vs))
 values-small t [] s h = small-none
 values-small t (v ∷ vs) s h = subst (λ (z : ℤ). IsSmall z (length (present (v ∷ vs)))) (sym (exact_sum-cons v vs)) (by v (All-head (Fit t) v vs h).fits (values-small t vs s (All-tail (Fit t) v vs h))) where
   one-more : (n : ℕ) → 1 + n ≡ suc n
@@ -90,7 +90,7 @@ values-small t (v ∷ vs) s h = subst (λ (z : ℤ). IsSmall z (length (present 
   by (av.Text x) f rest = subst (IsSmall (pos 0 +ℤ exact_sum vs)) (one-more (length (present vs))) (small-both (pos 0) (exact_sum vs) 1 (length (present vs)) zero-small rest)
 
 -- values that are no null are no more than all
-present-few : (vs : List AnyValue) → length (present vs) ≤ length vs
+pub present-few : (vs : List AnyValue) → length (present vs) ≤ length vs
 present-few [] = omega arith
 present-few (av.Null ∷ vs) = let rest = present-few vs in omega arith
 present-few (av.Boolean b ∷ vs) = let rest = present-few vs in omega arith
@@ -98,7 +98,7 @@ present-few (av.Int n ∷ vs) = let rest = present-few vs in omega arith
 present-few (av.Text s ∷ vs) = let rest = present-few vs in omega arith
 
 -- the halves of their mean
-halves-saved : (t : DataType) (vs : List AnyValue) (n : ℕ) → suited kind.mean t ≡ true → All (Fit t) vs → length vs ≡ n → n < 2 ^ 32 → AreHalves (sum_if_any (present vs)) (length (present vs)) n
+pub halves-saved : (t : DataType) (vs : List AnyValue) (n : ℕ) → suited kind.mean t ≡ true → All (Fit t) vs → length vs ≡ n → n < 2 ^ 32 → AreHalves (sum_if_any (present vs)) (length (present vs)) n
 halves-saved t vs n s h e few =
     let le = present-few vs in
     sum-halves vs (length (present vs)) n (λ none. ap length none) (λ x xs some. positive x xs some) (values-small t vs s h) (omega arith) few
@@ -109,12 +109,12 @@ halves-saved t vs n s h e few =
 -- ---- one aggregate
 
 -- as many values as entries
-values-length : (es : List (Place × AnyValue)) → length (values_in es) ≡ length es
+pub values-length : (es : List (Place × AnyValue)) → length (values_in es) ≡ length es
 values-length [] = refl
 values-length (e ∷ es) = let rest = values-length es in omega arith
 
 -- what an aggregate gives of values of its type is good
-agg-good : (k : Kind) (t : DataType) (n : ℕ) (es : List (Place × AnyValue)) → suited k t ≡ true → All (λ e. Fit t e.1) es → length es ≡ n → n < 2 ^ 32 → IsGood k t n (agg k t es)
+pub agg-good : (k : Kind) (t : DataType) (n : ℕ) (es : List (Place × AnyValue)) → suited k t ≡ true → All (λ e. Fit t e.1) es → length es ≡ n → n < 2 ^ 32 → IsGood k t n (agg k t es)
 agg-good kind.sum t n es s h e few = total-good t n (values_in es)
 agg-good kind.mean t n es s h e few = by t (mean-good t (sum_if_any (present (values_in es))) (length (present (values_in es))) n (halves-saved t (values_in es) n s (All-map (Fit t) (λ (x : Place × AnyValue). x.1) es h) (values-length es ∙ e) few) few) where
   by : (u : DataType) → IsGood kind.mean u n (mean_values u (sum_if_any (present (values_in es))) (counted (length (present (values_in es))))) → IsGood kind.mean u n (agg kind.mean u es)
@@ -144,7 +144,7 @@ abbrev pub fed_types : List Field → List AggTree → List DataType
 fed_types schema aggs = map (λ a. input_type schema a.input) aggs
 
 -- from the input at position i on, an entry has inputs of some aggregates
-record HasInputs (schema : List Field) (aggs : List AggTree) (i : ℕ) (e : Place × List AnyValue) : Type 0 where
+pub record HasInputs (schema : List Field) (aggs : List AggTree) (i : ℕ) (e : Place × List AnyValue) : Type 0 where
   front : List AnyValue
   back : List AnyValue
   long : length front ≡ i
@@ -153,7 +153,7 @@ record HasInputs (schema : List Field) (aggs : List AggTree) (i : ℕ) (e : Plac
   utf8 : All HasUtf8 back
 
 -- so it has the first
-input_first : (schema : List Field) (a : AggTree) (aggs : List AggTree) (i : ℕ) (e : Place × List AnyValue) → HasInputs schema (a ∷ aggs) i e → Fit (input_type schema a.input) (value_at e.1 i)
+pub input_first : (schema : List Field) (a : AggTree) (aggs : List AggTree) (i : ℕ) (e : Place × List AnyValue) → HasInputs schema (a ∷ aggs) i e → Fit (input_type schema a.input) (value_at e.1 i)
 input_first schema a aggs i e h = by h.back h.inputs h.typed h.utf8 where
   by : (back : List AnyValue) → e.1 ≡ h.front ++ back → AreOfTypes (fed_types schema (a ∷ aggs)) back → All HasUtf8 back → Fit (input_type schema a.input) (value_at e.1 i)
   by [] f g u = absurd g
@@ -162,7 +162,7 @@ input_first schema a aggs i e h = by h.back h.inputs h.typed h.utf8 where
       record { fits = ap (λ (w : AnyValue). fits w (input_type schema a.input)) here ∙ g.0; utf8 = subst HasUtf8 (sym here) (All-head HasUtf8 v back u) }
 
 -- and the others
-input_rest : (schema : List Field) (a : AggTree) (aggs : List AggTree) (i : ℕ) (e : Place × List AnyValue) → HasInputs schema (a ∷ aggs) i e → HasInputs schema aggs (i + 1) e
+pub input_rest : (schema : List Field) (a : AggTree) (aggs : List AggTree) (i : ℕ) (e : Place × List AnyValue) → HasInputs schema (a ∷ aggs) i e → HasInputs schema aggs (i + 1) e
 input_rest schema a aggs i e h = by h.back h.inputs h.typed h.utf8 where
   by : (back : List AnyValue) → e.1 ≡ h.front ++ back → AreOfTypes (fed_types schema (a ∷ aggs)) back → All HasUtf8 back → HasInputs schema aggs (i + 1) e
   by [] f g u = absurd g
@@ -176,12 +176,12 @@ input_rest schema a aggs i e h = by h.back h.inputs h.typed h.utf8 where
   }
 
 -- as many inputs as entries
-inputs-length : (i : ℕ) (es : Entries) → length (inputs_at i es) ≡ length es
+pub inputs-length : (i : ℕ) (es : Entries) → length (inputs_at i es) ≡ length es
 inputs-length i [] = refl
 inputs-length i (e ∷ es) = let rest = inputs-length i es in omega arith
 
 -- what aggregates give of entries of their types is good
-all_given-good : (schema : List Field) (aggs : List AggTree) (j i n : ℕ) (es : Entries) → list_all (is_suited schema) aggs ≡ true → All (HasInputs schema aggs i) es → length es ≡ n → n < 2 ^ 32
+pub all_given-good : (schema : List Field) (aggs : List AggTree) (j i n : ℕ) (es : Entries) → list_all (is_suited schema) aggs ≡ true → All (HasInputs schema aggs i) es → length es ≡ n → n < 2 ^ 32
     → AreGood schema aggs j n (aggs_from i schema aggs es)
 all_given-good schema [] j i n es s h e few = none-good schema j n
 all_given-good schema (a ∷ aggs) j i n es s h e few =
@@ -196,7 +196,7 @@ all_given-good schema (a ∷ aggs) j i n es s h e few =
 -- ---- the state of a part
 
 -- a state row of rows of a query's types is one of the query
-row-of : (q : QueryTree) (rs : List Row) (k : List AnyValue) → IsGroupable q → All (HasValues (key_types q) (fed_types q.schema q.aggs)) rs → length rs < 2 ^ 32 → Has k (tuples_of rs) → IsRowOf q (state_row q rs k)
+pub row-of : (q : QueryTree) (rs : List Row) (k : List AnyValue) → IsGroupable q → All (HasValues (key_types q) (fed_types q.schema q.aggs)) rs → length rs < 2 ^ 32 → Has k (tuples_of rs) → IsRowOf q (state_row q rs k)
 row-of q rs k g h few m =
     let one = image-of (λ (r : Row). r.key) k rs (sorted-from tuple_cmp k (keys_of rs) m) in
     let more = sum-has (λ (r : StateRow). r.rows) (state_row q rs k) (state_rows q rs) (has-image (state_row q rs) k (tuples_of rs) m) in

@@ -31,7 +31,7 @@ use Rattle.pipe_states.proofs.TupleFacts.{image-of}
 -- ---- a part of a key
 
 -- the value at a position fits the type there
-type-at : (q : QueryTree) (keys : List Expr) (values : List AnyValue) (k : ℕ) → AreOfTypes (map (λ e. known_type e q.schema) keys) values → k < length keys
+pub type-at : (q : QueryTree) (keys : List Expr) (values : List AnyValue) (k : ℕ) → AreOfTypes (map (λ e. known_type e q.schema) keys) values → k < length keys
     → AreOfTypes (map (λ e. known_type e q.schema) (option_to_list (slice_get keys k))) (value_at values k ∷ [])
 type-at q [] values k h lt = absurd (omega arith)
 type-at q (e ∷ keys) [] k h lt = absurd h
@@ -39,13 +39,13 @@ type-at q (e ∷ keys) (v ∷ values) zero h lt = (h.0, tt)
 type-at q (e ∷ keys) (v ∷ values) (suc k) h lt = type-at q keys values k h.1 (omega (arith, lt))
 
 -- and is in UTF-8
-utf8-at : (values : List AnyValue) (k : ℕ) → All HasUtf8 values → HasUtf8 (value_at values k)
+pub utf8-at : (values : List AnyValue) (k : ℕ) → All HasUtf8 values → HasUtf8 (value_at values k)
 utf8-at [] k h = tt
 utf8-at (v ∷ values) zero h = All-head HasUtf8 v values h
 utf8-at (v ∷ values) (suc k) h = utf8-at values k (All-tail HasUtf8 v values h)
 
 -- so a part of a key is a tuple of the kept keys
-kept-types : (q : QueryTree) (keep : List ℕ) (key : List AnyValue) → AreOfTypes (key_types q) key → All (λ i. i < length q.keys) keep → AreOfTypes (key_types (with_keys q keep)) (kept keep key)
+pub kept-types : (q : QueryTree) (keep : List ℕ) (key : List AnyValue) → AreOfTypes (key_types q) key → All (λ i. i < length q.keys) keep → AreOfTypes (key_types (with_keys q keep)) (kept keep key)
 kept-types q [] key h k = tt
 kept-types q (i ∷ keep) key h k =
     subst (λ (types : List DataType). AreOfTypes types (kept (i ∷ keep) key))
@@ -53,7 +53,7 @@ kept-types q (i ∷ keep) key h k =
     (typed-append (map (λ e. known_type e q.schema) (option_to_list (slice_get q.keys i))) (key_types (with_keys q keep)) (value_at key i ∷ []) (kept keep key)
     (type-at q q.keys key i h (All-head (λ (j : ℕ). j < length q.keys) i keep k)) (kept-types q keep key h (All-tail (λ (j : ℕ). j < length q.keys) i keep k)))
 
-kept-utf8 : (keep : List ℕ) (key : List AnyValue) → All HasUtf8 key → All HasUtf8 (kept keep key)
+pub kept-utf8 : (keep : List ℕ) (key : List AnyValue) → All HasUtf8 key → All HasUtf8 (kept keep key)
 kept-utf8 [] key h = All-nil HasUtf8
 kept-utf8 (i ∷ keep) key h = All-cons HasUtf8 (value_at key i) (kept keep key) (utf8-at key i h) (kept-utf8 keep key h)
 
@@ -63,7 +63,7 @@ kept-tuple q keep key h k = record { of_types = kept-types q keep key h.of_types
 -- ---- regrouped rows
 
 -- a state row of a query has good results
-good-of : (q : QueryTree) (r : StateRow) → IsRowOf q r → HasGood q.schema q.aggs 0 r
+pub good-of : (q : QueryTree) (r : StateRow) → IsRowOf q r → HasGood q.schema q.aggs 0 r
 good-of q r g = record { front = []; back = r.results; long = refl; results = refl; typed = g.results.of_types; utf8 = g.results.utf8; can = g.given }
 
 module _ (q : QueryTree) (part : List AnyValue → List AnyValue) (rows : List StateRow) (h : All (IsRowOf q) rows) (few : sum_by (λ r. r.rows) rows < 2 ^ 32) where
@@ -113,7 +113,7 @@ regrouped-of q keep rows k h few =
 -- ---- states
 
 -- the rows of states of a query are state rows of it
-rows-of : (q : QueryTree) (states : List StateSeen) → All (IsStateOf q) states → All (IsRowOf q) (rows_of_states states)
+pub rows-of : (q : QueryTree) (states : List StateSeen) → All (IsStateOf q) states → All (IsRowOf q) (rows_of_states states)
 rows-of q [] h = All-nil (IsRowOf q)
 rows-of q (s ∷ states) h = All-append (IsRowOf q) s.rows (rows_of_states states) (All-head (IsStateOf q) s states h) (rows-of q states (All-tail (IsStateOf q) s states h))
 

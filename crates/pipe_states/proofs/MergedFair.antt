@@ -30,7 +30,7 @@ use Rattle.pipe_states.proofs.TupleFacts.{has-image, image-of}
 -- ---- what a filter keeps
 
 -- what passes is there
-from_filter : {X : Type 0} (p : X → Bool) (x : X) (xs : List X) → Has x (filter p xs) → Has x xs × (p x ≡ true)
+pub from_filter : {X : Type 0} (p : X → Bool) (x : X) (xs : List X) → Has x (filter p xs) → Has x xs × (p x ≡ true)
 from_filter p x [] m = absurd m
 from_filter p x (y ∷ ys) m = by (p y) refl m (from_filter p x ys) where
   by : (b : Bool) → p y ≡ b → Has x (cond b (y ∷ filter p ys) (filter p ys)) → (Has x (filter p ys) → Has x ys × (p x ≡ true)) → Has x (y ∷ ys) × (p x ≡ true)
@@ -39,7 +39,7 @@ from_filter p x (y ∷ ys) m = by (p y) refl m (from_filter p x ys) where
   by false e n next = let rest = next n in (inr rest.0, rest.1)
 
 -- and what is there and passes is kept
-into_filter : {X : Type 0} (p : X → Bool) (x : X) (xs : List X) → Has x xs → p x ≡ true → Has x (filter p xs)
+pub into_filter : {X : Type 0} (p : X → Bool) (x : X) (xs : List X) → Has x xs → p x ≡ true → Has x (filter p xs)
 into_filter p x [] m e = absurd m
 into_filter p x (y ∷ ys) m e = by (p y) refl m (λ n. into_filter p x ys n e) where
   by : (b : Bool) → p y ≡ b → Has x (y ∷ ys) → (Has x ys → Has x (filter p ys)) → Has x (cond b (y ∷ filter p ys) (filter p ys))
@@ -49,7 +49,7 @@ into_filter p x (y ∷ ys) m e = by (p y) refl m (λ n. into_filter p x ys n e) 
   by false f (inr n) next = next n
 
 -- what holds of each element holds of all
-all_each : {X : Type 0} (P : X → Type 0) (xs : List X) → ((x : X) → Has x xs → P x) → All P xs
+pub all_each : {X : Type 0} (P : X → Type 0) (xs : List X) → ((x : X) → Has x xs → P x) → All P xs
 all_each P [] h = All-nil P
 all_each P (x ∷ xs) h = All-cons P x xs (h x (inl refl)) (all_each P xs (λ y m. h y (inr m)))
 
@@ -120,14 +120,14 @@ module _ (q : QueryTree) (part : List AnyValue → List AnyValue) (rows : List S
   found tuple = rows_with part tuple rows
 
   -- a row that a tuple has
-  a_row : (tuple : List AnyValue) → Has tuple tuples → (r : StateRow) × Has r rows × Has r (found tuple)
+  pub a_row : (tuple : List AnyValue) → Has tuple tuples → (r : StateRow) × Has r rows × Has r (found tuple)
   a_row tuple m =
       let one = image-of (λ (r : StateRow). part r.key) tuple rows m in
       let same : is_eq (tuple_cmp (part one.0.key) tuple) ≡ true = ap (λ (k : List AnyValue). is_eq (tuple_cmp k tuple)) (sym one.2) ∙ ap is_eq (tied_itself tuples_total tuple) in
       (one.0, one.1, into_filter (λ (r : StateRow). is_eq (tuple_cmp (part r.key) tuple)) one.0 rows one.1 same)
 
   -- a row of a tuple has it as a part of its key
-  of_tuple : (tuple : List AnyValue) (r : StateRow) → Has r (found tuple) → Has r rows × (part r.key ≡ tuple)
+  pub of_tuple : (tuple : List AnyValue) (r : StateRow) → Has r (found tuple) → Has r rows × (part r.key ≡ tuple)
   of_tuple tuple r m =
       let back = from_filter (λ (s : StateRow). is_eq (tuple_cmp (part s.key) tuple)) r rows m in
       (back.0, tuples_tie (part r.key) tuple ((Equal-is (tuple_cmp (part r.key) tuple)).0 back.1))
@@ -138,7 +138,7 @@ module _ (q : QueryTree) (part : List AnyValue → List AnyValue) (rows : List S
     fair_found tuple r m = all_at (IsFairRow first end) rows r fair (of_tuple tuple r m).0
 
     -- what the rows of a tuple come to is fair
-    regrouped-fair : (tuple : List AnyValue) → Has tuple tuples → IsFairRow first end (regrouped_row q tuple (found tuple))
+    pub regrouped-fair : (tuple : List AnyValue) → Has tuple tuples → IsFairRow first end (regrouped_row q tuple (found tuple))
     regrouped-fair tuple m =
         let one = a_row tuple m in
         let r : StateRow = one.0 in

@@ -23,7 +23,7 @@ use Rattle.pipe_states.proofs.SplitFacts.{whole, with_part}
 use Rattle.pipe_states.proofs.TupleFacts.{same_tuples}
 
 -- images by functions that agree
-map-agree : {A B : Type 0} (f g : A → B) → ((x : A) → f x ≡ g x) → (xs : List A) → map f xs ≡ map g xs
+pub map-agree : {A B : Type 0} (f g : A → B) → ((x : A) → f x ≡ g x) → (xs : List A) → map f xs ≡ map g xs
 map-agree f g h xs = ap (λ (k : _ → _). map k xs) (λ i x. h x i)
 
 -- the state rows of parts, by a part of their keys, are those of all rows by that part
@@ -36,18 +36,18 @@ regrouped_rows-are q part parts d =
     ∙ ap (map (state_row q (map (with_part part) (rows_of_parts parts)))) (same_tuples q part parts)
 
 -- of one partition each tuple is in the first
-in_first : (n : ℕ) → n % 1 ≡ 0
+pub in_first : (n : ℕ) → n % 1 ≡ 0
 in_first n = let less : n % 1 < 1 = mod-lt n (omega arith) in omega (arith, less)
 
 -- so the groups of one partition come in the order of tuples
-groups-by_tuple : (q : QueryTree) (keep : List ℕ) (rs : List Row) → groups rs (with_keys q keep) 1 ≡ tuples_of rs
+pub groups-by_tuple : (q : QueryTree) (keep : List ℕ) (rs : List Row) → groups rs (with_keys q keep) 1 ≡ tuples_of rs
 groups-by_tuple q keep rs =
     sorted-same AnyKey (partition_cmp 1 (key_types (with_keys q keep))) tuple_cmp
     (λ a b m n i. ordering_then (nat_cmp (in_first (fold_bytes (code (key_types (with_keys q keep)) a)) i) (in_first (fold_bytes (code (key_types (with_keys q keep)) b)) i)) (tuple_cmp a b))
     (keys_of rs) (any_keys (keys_of rs))
 
 -- the frame of state rows is the answer
-answer-of_rows : (q : QueryTree) (keep : List ℕ) (rs : List Row) → frame_of (output_schema (with_keys q keep)) (map (λ r. r.key ++ r.results) (state_rows q rs)) ≡ answer_of rs (with_keys q keep) 1
+pub answer-of_rows : (q : QueryTree) (keep : List ℕ) (rs : List Row) → frame_of (output_schema (with_keys q keep)) (map (λ r. r.key ++ r.results) (state_rows q rs)) ≡ answer_of rs (with_keys q keep) 1
 answer-of_rows q keep rs =
     ap (frame_of (output_schema (with_keys q keep)))
     (map-map (λ (r : StateRow). r.key ++ r.results) (state_row q rs) (tuples_of rs)

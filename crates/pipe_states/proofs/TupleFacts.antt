@@ -34,13 +34,13 @@ module _ {A B : Type 0} (f : A → B) where
   image-of y (x ∷ xs) (inr m) = let rest = image-of y xs m in (rest.0, inr rest.1, rest.2)
 
   -- so images of elements of another list are among its images
-  images-into : (y : B) (xs others : List A) → ((x : A) → Has x xs → Has x others) → Has y (map f xs) → Has y (map f others)
+  pub images-into : (y : B) (xs others : List A) → ((x : A) → Has x xs → Has x others) → Has y (map f xs) → Has y (map f others)
   images-into y xs others h m = let found = image-of y xs m in subst (λ (z : B). Has z (map f others)) (sym found.2) (has-image found.0 others (h found.0 found.1))
 
 -- ---- sorted tuples
 
 -- lists with the same tuples sort alike
-same-sorted : (keys others : List (List AnyValue)) → ((k : List AnyValue) → Has k others → Has k keys) → ((k : List AnyValue) → Has k keys → Has k others)
+pub same-sorted : (keys others : List (List AnyValue)) → ((k : List AnyValue) → Has k others → Has k keys) → ((k : List AnyValue) → Has k keys → Has k others)
     → sorted_keys tuple_cmp others ≡ sorted_keys tuple_cmp keys
 same-sorted keys others f g =
     sorted_sole AnyKey tuple_cmp (exact_on tuple_cmp tuples_total tuples_tie) keys (sorted_keys tuple_cmp others) (any_keys keys) (record {

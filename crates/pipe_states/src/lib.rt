@@ -17,6 +17,7 @@ mod worked;
 mod writing;
 
 pub use reading::read_state;
+pub use saved_types::{is_mean, width};
 pub use state_error::StateError;
 pub use state_file::StateFile;
 pub use state_row::StateRow;

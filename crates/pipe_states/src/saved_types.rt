@@ -11,14 +11,14 @@ use pipe_columns::DataType;
 use std::alloc::{AllocError, Global};
 
 /// Whether a running aggregate is a mean, which gives a sum and a count.
-pub(crate) fn is_mean(function: &AggregateFunction) -> bool
+pub fn is_mean(function: &AggregateFunction) -> bool
     ensures { result ≡ is_mean function.now }
 {
     matches!(function, AggregateFunction::Mean(_))
 }
 
 /// How many results a running aggregate gives.
-pub(crate) fn width(function: &AggregateFunction) -> usize
+pub fn width(function: &AggregateFunction) -> usize
     ensures { result ≡ width function.now }
 {
     if is_mean(function) { 2 } else { 1 }

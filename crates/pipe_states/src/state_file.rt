@@ -32,6 +32,14 @@ impl Model for StateFile {
 }
 
 impl StateFile {
+    /// The state of a range of chunks and of rows that are fair there.
+    pub fn new(first: u32, end: u32, rows: Vec<StateRow>) -> StateFile
+        requires { IsFair (record { first = first; end = end; rows = rows.items }) }
+        ensures { result ≡ record { first = first; end = end; rows = rows.items } }
+    {
+        StateFile { first, end, rows }
+    }
+
     /// The position of the first chunk.
     pub fn first(&self) -> u32
         ensures first { result ≡ self.now.first }

@@ -24,7 +24,7 @@ fn gives_back<S: SpillStore>(rt: HostRuntime, store: &mut S, path: &str) -> Resu
 
 /// Whether that is so of a store of the program, in memory or in a folder.
 fn made_gives_back(rt: HostRuntime, dir: Option<&Text>, path: &str) -> Result<bool, Fail> {
-    let mut stores = ProgramStores::new(&rt, rt.alloc());
+    let mut stores = ProgramStores::new(&rt, rt.alloc(), None);
     let mut store = stores.make(dir, 3)?;
     gives_back(rt, &mut store, path)
 }

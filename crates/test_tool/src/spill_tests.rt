@@ -151,7 +151,7 @@ fn one_spill_to_a_folder(rt: HostRuntime) -> Result<(), Fail> {
     fs::create_dir(&rt, "x")?;
     let run = plain_run(&FOLDER_WORDS, &ROWS, 0, "k,s\n1,5\n2,13\n", "");
     let mut input = files_of(rt.alloc(), &ROWS, &[])?;
-    let mut maker = ProgramStores::new(&rt, rt.alloc());
+    let mut maker = ProgramStores::new(&rt, rt.alloc(), None);
     let end = run_over(&rt, &run, &mut input, &mut maker, &OpenGate)?;
     assert!(rt; has_journal(&end, &EVENTS));
     fs::remove_dir_all(&rt, "x")?;
@@ -163,7 +163,7 @@ fn one_spill_to_a_folder(rt: HostRuntime) -> Result<(), Fail> {
 fn a_folder_that_is_not_there(rt: HostRuntime) -> Result<(), Fail> {
     let run = plain_run(&FOLDER_WORDS, &ROWS, 8, "", "store 0 failed\n");
     let mut input = files_of(rt.alloc(), &ROWS, &[])?;
-    let mut maker = ProgramStores::new(&rt, rt.alloc());
+    let mut maker = ProgramStores::new(&rt, rt.alloc(), None);
     let end = run_over(&rt, &run, &mut input, &mut maker, &OpenGate)?;
     assert!(rt; has_stopped(&end));
     Ok(())

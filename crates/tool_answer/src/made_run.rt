@@ -71,7 +71,7 @@ pub fn run_rows<S: SpillStore + Drop + Send, G: Gate + Sync, H: Threads + Wait +
     } = plan;
     drop(spill_dir);
     drop(words);
-    let run = match begin_run(rt, alloc, &query, &limits, actions, rules, stores) {
+    let run = match begin_run(rt, alloc, None, &query, &limits, actions, rules, stores) {
         Ok(run) => run,
         Err(stores) => return (Err(ToolFault::Memory), stores),
     };

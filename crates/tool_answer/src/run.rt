@@ -33,6 +33,7 @@ use pipe_run::PipeError;
 use pipe_spill::SpillStore;
 use pipe_words::Plan;
 use std::alloc::Global;
+use std::hash::RandomState;
 use std::sync::Wait;
 use std::thread::Threads;
 use tool_run::run_files;
@@ -41,11 +42,12 @@ use tool_words::Question;
 /// How many chunks of each worker are read or made before they are fed.
 pub const CHUNKS_OF_WORKER: usize = 4;
 
-/// A run before its first chunk, over stores as they were made.
+/// A run before its first chunk, over stores as they were made, whose tables hash under keys.
 #[tactic(auto, using(crate::proofs::RunFacts::keeps_suits, crate::proofs::RunFacts::rules_fit))]
 pub fn begin_run<'a, S: SpillStore + Drop + Send, H: Wait>(
     rt: &H,
     alloc: Global,
+    hash_keys: Option<RandomState>,
     query: &'a Query,
     limits: &Limits,
     actions: Vec<Vec<SpillAction>>,
@@ -69,7 +71,7 @@ pub fn begin_run<'a, S: SpillStore + Drop + Send, H: Wait>(
         (stores_seen S.held S.told S.faults S.sure S.path stores.items) r.stores) }
     ensures back { IfErr result (λ v. v.items ≡ stores.items) }
 {
-    match GroupByRun::begin_by_rules(rt, alloc, query, limits, actions, rules, stores) {
+    match GroupByRun::begin_by_rules(rt, alloc, hash_keys, query, limits, actions, rules, stores) {
         Ok(run) => Ok(run),
         Err((PipeError::Memory, stores)) => Err(stores),
         Err((_, _)) => unreachable!(),
@@ -77,7 +79,8 @@ pub fn begin_run<'a, S: SpillStore + Drop + Send, H: Wait>(
 }
 
 /// Runs a question over stores and over the files that it names, of which the columns that the query
-/// names are read and fed in rounds. It gives the text of the groups. The stores come back in order.
+/// names are read and fed in rounds. Tables hash under keys. It gives the text of the groups. The stores
+/// come back in order.
 pub fn run_question<
     S: SpillStore + Drop + Send,
     I: InputFiles,
@@ -86,6 +89,7 @@ pub fn run_question<
 >(
     rt: &H,
     alloc: Global,
+    hash_keys: Option<RandomState>,
     question: Question,
     stores: Vec<S>,
     input: &mut I,
@@ -142,7 +146,9 @@ pub fn run_question<
         lines,
         head,
     } = ready;
-    let run = match begin_run(rt, alloc, &query, &limits, actions, rules, stores) {
+    let run = match begin_run(
+        rt, alloc, hash_keys, &query, &limits, actions, rules, stores,
+    ) {
         Ok(run) => run,
         Err(stores) => return (Err(ToolFault::Memory), stores),
     };

@@ -114,7 +114,8 @@ fn answer_question<
     let Ok(stores) = make_stores(alloc, maker, folder, partitions) else {
         return Ran::nothing(alloc, ToolFault::Memory);
     };
-    let (ended, stores) = run_question(rt, alloc, question, stores, input, gate);
+    let hash_keys = maker.hash_keys();
+    let (ended, stores) = run_question(rt, alloc, hash_keys, question, stores, input, gate);
     match ended {
         Ok(answer) => {
             let fault = write_answer(&answer, output);

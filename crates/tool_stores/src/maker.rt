@@ -6,8 +6,9 @@ ghost use Rattle.tool_stores.specs.StorePath.{store_path};
 use pipe_columns::Text;
 use pipe_spill::SpillStore;
 use std::alloc::AllocError;
+use std::hash::RandomState;
 
-/// Makes the store of each partition of a run.
+/// Makes the store of each partition of a run, and has the keys under which its tables hash.
 pub trait StoreMaker {
     type Store: SpillStore + Drop + Send;
 
@@ -24,4 +25,10 @@ pub trait StoreMaker {
             (λ s. Self.Store.path s ≡ store_path (option_map (λ d. d.now) dir.entry) partition) }
         ensures made { IfOk result (λ s. made self.new ≡ made self.old ++ Self.Store.path s ∷ []) }
         ensures unmade { OnErr result (made self.new ≡ made self.old) };
+
+    /// The keys under which the tables of a run hash where the keys of many groups have one hash, none
+    /// for fixed ones. No answer depends on them.
+    fn hash_keys(&self) -> Option<RandomState> {
+        None
+    }
 }

@@ -10,6 +10,7 @@ use pipe_columns::Text;
 use pipe_spill::{FileStore, MemoryStore};
 use std::alloc::{AllocError, Global};
 use std::fs::Files;
+use std::hash::RandomState;
 use std::marker::Model;
 use std::snapshot::Snapshot;
 
@@ -19,6 +20,7 @@ use std::snapshot::Snapshot;
 pub struct ProgramStores<'a, R> {
     rt: &'a R,
     alloc: Global,
+    hash_keys: Option<RandomState>,
     made: Vec<Snapshot<ProgramStore<&'a R>>>,
 }
 
@@ -32,13 +34,15 @@ impl<'a, R> Model for ProgramStores<'a, R> {
 }
 
 impl<'a, R: Files> ProgramStores<'a, R> {
-    /// A maker that has made no store. It keeps the runtime, which files need.
-    pub fn new(rt: &'a R, alloc: Global) -> ProgramStores<'a, R>
+    /// A maker that has made no store. It keeps the runtime, which files need, and the keys under which
+    /// tables hash.
+    pub fn new(rt: &'a R, alloc: Global, hash_keys: Option<RandomState>) -> ProgramStores<'a, R>
         ensures { result ≡ [] }
     {
         ProgramStores {
             rt,
             alloc,
+            hash_keys,
             made: Vec::new(alloc),
         }
     }
@@ -88,5 +92,9 @@ impl<'a, R: Files + Sync> StoreMaker for ProgramStores<'a, R> {
                 Ok(marked(&mut self.made, ProgramStore::Files(store)))
             }
         }
+    }
+
+    fn hash_keys(&self) -> Option<RandomState> {
+        self.hash_keys
     }
 }

@@ -43,7 +43,16 @@ fn begun<'a, H: Wait>(
     let limits = limits_of((1, 1, 0, buffer, 0));
     let lists = vec![in alloc; Vec::from_slice(alloc, actions)?]?;
     let stores = vec![in alloc; MemoryStore::new(alloc, Vec::new(alloc))]?;
-    match GenericRun::begin(rt, alloc, query, &limits, lists, Vec::new(alloc), stores) {
+    match GenericRun::begin(
+        rt,
+        alloc,
+        None,
+        query,
+        &limits,
+        lists,
+        Vec::new(alloc),
+        stores,
+    ) {
         Ok(run) => Ok(run),
         Err(_) => Err("GenericRun::begin wants memory".into()),
     }
