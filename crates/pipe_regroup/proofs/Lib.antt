@@ -1,0 +1,5 @@
+mod SumFacts
+mod HoldFacts
+mod ExtremeFacts
+mod TupleLists
+mod RuleJoins

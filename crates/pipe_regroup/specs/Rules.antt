@@ -1,7 +1,7 @@
 -- Of the proofs alone: how the results of state rows join, output column by output column.
-use Rattle.std.specs.Prelude.{ℕ, ◌+◌, ◌+ℤ◌, ◌||◌, Bool, true, false, if◌then◌else◌, List, [], ◌∷◌}
+use Rattle.std.specs.Prelude.{ℕ, ◌+◌, ◌+ℤ◌, ◌||◌, pos, Bool, true, false, if◌then◌else◌, List, [], ◌∷◌}
 use Rattle.std.specs.List.{flat_map}
-use Rattle.std.specs.Ordering.{is_gt, is_lt}
+use Rattle.std.specs.Ordering.{int_eq, is_gt, is_lt}
 use Rattle.pipe_columns.specs.declared.any_value.AnyValue.{AnyValue}
 use Rattle.pipe_columns.specs.declared.any_value.AnyValue.TheVariants as av
 use Rattle.pipe_columns.specs.declared.data_type.DataType.{DataType}
@@ -11,6 +11,8 @@ use Rattle.pipe_columns.specs.DataType.{wrapped}
 use Rattle.pipe_columns.specs.Frame.{value_at}
 use Rattle.pipe_columns.specs.Place.{first_entry, last_entry}
 use Rattle.pipe_model.specs.Aggregate.{addend, entry_value, exact_sum, extreme, greater, lesser, present, sum_if_any}
+use Rattle.pipe_running.specs.declared.interface.Finalized.{Finalized}
+use Rattle.pipe_running.specs.declared.interface.Finalized.TheVariants as finalized
 use Rattle.pipe_running.specs.declared.min_max.Direction.{Direction}
 use Rattle.pipe_running.specs.declared.min_max.Direction.TheVariants as direction
 use Rattle.pipe_running.specs.declared.function.AggregateFunction.{AggregateFunction}
@@ -59,6 +61,11 @@ is_extreme (function.MinMaxI16 a) = true
 is_extreme (function.MinMaxI32 a) = true
 is_extreme (function.MinMaxI64 a) = true
 is_extreme f = false
+
+-- whether the number 0 was given
+abbrev pub is_zero : Finalized → Bool
+is_zero (finalized.One (av.Int n)) = int_eq n (pos 0)
+is_zero given = false
 
 -- the rules of some
 abbrev pub all_rules : List AggregateFunction → List Rule

@@ -1,8 +1,9 @@
 //! Two results in an output column as one.
 
-ghost use Rattle.std.specs.Prelude.{◌≡◌, OnOk, if◌then◌else◌};
+ghost use Rattle.std.specs.Prelude.{◌≡◌, ◌+ℤ◌, OnOk, if◌then◌else◌};
 ghost use Rattle.std.specs.Ordering.{is_gt, is_lt};
 ghost use Rattle.pipe_columns.specs.AnyValue.{is_null, value_cmp};
+ghost use Rattle.pipe_columns.specs.DataType.{wrapped};
 ghost use Rattle.pipe_columns.specs.declared.data_type.DataType.TheVariants as dt;
 ghost use Rattle.pipe_model.specs.Aggregate.{addend};
 ghost use Rattle.pipe_regroup.specs.Rules.{added, chosen, joined};
@@ -23,12 +24,20 @@ fn addend(value: &AnyValue) -> i128
     }
 }
 
+/// The sum of two numbers, wrapped into a type.
+fn sum_in<K: NumericNative>(held: &AnyValue, more: &AnyValue) -> i128
+    ensures { result ≡ wrapped K.native.dtype (addend held.now +ℤ addend more.now) }
+{
+    let sum = K::narrowed(addend(held)).plus(K::narrowed(addend(more)));
+    sum.widened()
+}
+
 /// Adds a number, wrapped into a type.
 fn add<K: NumericNative>(held: &mut AnyValue, more: &AnyValue)
     ensures { held.new ≡ added K.native.dtype held.old more.now }
 {
-    let sum = K::narrowed(addend(held)).plus(K::narrowed(addend(more)));
-    *held = AnyValue::Int(sum.widened());
+    let sum = sum_in::<K>(held, more);
+    *held = AnyValue::Int(sum);
 }
 
 /// Whether a value is a null.

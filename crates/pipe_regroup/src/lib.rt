@@ -4,6 +4,7 @@
 mod frame;
 mod group;
 mod join;
+mod laws;
 mod merge;
 mod ranges;
 mod regroup_error;

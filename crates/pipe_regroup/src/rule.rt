@@ -1,7 +1,7 @@
 //! How the results of state rows join, output column by output column.
 
-ghost use Rattle.std.specs.Prelude.{◌≡◌, ◌∷◌, ◌++◌, [], IfOk, OnOk};
-ghost use Rattle.pipe_regroup.specs.Rules.{all_rules, is_extreme, rules_of};
+ghost use Rattle.std.specs.Prelude.{◌≡◌, ◌∷◌, ◌++◌, [], IfOk, OnOk, true};
+ghost use Rattle.pipe_regroup.specs.Rules.{all_rules, is_extreme, is_zero, rules_of};
 
 use pipe_aggs::{AggregateFn, AggregateFunction, Finalized};
 use pipe_columns::{AnyValue, Place};
@@ -23,6 +23,13 @@ pub enum Rule {
     Last,
 }
 
+/// Whether an aggregate gave the number 0.
+fn is_zero(given: &Finalized) -> bool
+    ensures { result ≡ is_zero given.now }
+{
+    matches!(given, Finalized::One(AnyValue::Int(0)))
+}
+
 /// The rule of a running least or greatest value, as it chooses between 0 and 1.
 fn extreme_rule(function: &AggregateFunction) -> Rule
     requires { is_extreme function.now ≡ true }
@@ -32,9 +39,11 @@ fn extreme_rule(function: &AggregateFunction) -> Rule
     let mut running = function.split();
     running.pre_agg(place, AnyValue::Int(0));
     running.pre_agg(place, AnyValue::Int(1));
-    match running.finalize() {
-        Finalized::One(AnyValue::Int(0)) => Rule::Least,
-        _ => Rule::Greatest,
+    let given = running.finalize();
+    if is_zero(&given) {
+        Rule::Least
+    } else {
+        Rule::Greatest
     }
 }
 

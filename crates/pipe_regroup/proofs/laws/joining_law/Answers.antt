@@ -1,0 +1,6 @@
+use Rattle.std.proofs.Common.{refl}
+use Rattle.pipe_regroup.proofs.HoldFacts.{groups-hold}
+use Rattle.pipe_regroup.proofs.laws.joining_law.Goals as goal
+
+pub returns : goal.returns
+returns c = λ a. refl
