@@ -1,4 +1,7 @@
 mod SumFacts
+mod QueryRules
+mod GroupFacts
+mod AggRules
 mod HoldFacts
 mod ExtremeFacts
 mod TupleLists

@@ -1,5 +1,5 @@
 use Rattle.std.proofs.Common.{refl}
-use Rattle.pipe_regroup.proofs.HoldFacts.{groups-hold}
+use Rattle.pipe_regroup.proofs.GroupFacts.{sorted-are}
 use Rattle.pipe_regroup.proofs.laws.joining_law.Goals as goal
 
 pub returns : goal.returns
