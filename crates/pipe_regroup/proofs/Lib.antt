@@ -1,4 +1,5 @@
 mod SumFacts
+mod ListFacts
 mod QueryRules
 mod GroupFacts
 mod AggRules

@@ -32,8 +32,9 @@ fn kept_values(
     ensures { IfOk result (λ values. values.items ≡ kept keep.now key.now) }
 {
     let mut values = Vec::with_capacity(alloc, keep.len())?;
-    for index in keep {
-        values.push(key[*index].try_clone(alloc)?)?;
+    for i in 0..keep.len() {
+        let index = keep[i];
+        values.push(key[index].try_clone(alloc)?)?;
     }
     Ok(values)
 }
@@ -83,7 +84,8 @@ fn join_results(
     ensures { OnOk result (held.new ≡ joined_from earlier later 0 rules.now more.now held.old) }
 {
     for j in 0..rules.len() {
-        join_value(alloc, rules[j], earlier, later, &mut held[j], &more[j])?;
+        let rule = rules[j];
+        join_value(alloc, rule, earlier, later, &mut held[j], &more[j])?;
     }
     Ok(())
 }

@@ -1,9 +1,10 @@
 //! Groups of state rows, found by the codes of their kept tuples.
 
-ghost use Rattle.std.specs.Prelude.{◌≡◌, ◌+◌, ◌<◌, ◌^◌, ◌∷◌, [], All, IfOk, length, map, OnOk};
-ghost use Rattle.std.specs.List.{IsDistinct};
+ghost use Rattle.std.specs.Prelude.{◌≡◌, ◌+◌, ◌<◌, ◌^◌, ◌∷◌, [], All, false, IfOk, length, map, OnOk};
+ghost use Rattle.std.specs.List.{IsDistinct, list_any};
 ghost use Rattle.std.specs.Ordering.{eq_by_cmp};
-ghost use Rattle.pipe_columns.specs.Key.{code};
+ghost use Rattle.std.specs.Str.{bytes_eq};
+ghost use Rattle.pipe_columns.specs.Key.{code as tuple_code};
 ghost use Rattle.pipe_model.specs.Answer.{tuple_cmp};
 ghost use Rattle.pipe_spill.specs.KeyTypes.{AreOfTypes};
 ghost use Rattle.pipe_states.specs.Regrouped.{kept};
@@ -36,11 +37,13 @@ fn encode_kept(
 ) -> Result<(), AllocError>
     requires within { All (λ i. i < length key.now) keep.now }
     requires typed { AreOfTypes types.now (kept keep.now key.now) }
-    ensures { OnOk result (code.new.items ≡ code types.now (kept keep.now key.now)) }
+    ensures { OnOk result (code.new.items ≡ tuple_code types.now (kept keep.now key.now)) }
 {
     code.clear();
     for j in 0..keep.len() {
-        append_value(code, &key[keep[j]], types[j])?;
+        let index = keep[j];
+        let dtype = types[j];
+        append_value(code, &key[index], dtype)?;
     }
     Ok(())
 }
@@ -73,9 +76,8 @@ impl RowGroups {
         requires found { AreFound self.old }
         requires joinable { IsJoinable self.old.keep.items self.old.types.items
             self.old.rules.items row.now }
-        requires code { code.now ≡ code self.old.types.items (kept self.old.keep.items row.now.key) }
-        requires absent { All (λ g. eq_by_cmp tuple_cmp g.key (kept self.old.keep.items row.now.key)
-            ≡ false) (groups_of self.old) }
+        requires code { code.now ≡ tuple_code self.old.types.items (kept self.old.keep.items row.now.key) }
+        requires absent { list_any (λ c. bytes_eq code.now c.items) self.old.codes.keys ≡ false }
         ensures { OnOk result (HasAdded self.old self.new (row.now ∷ [])) }
     {
         let group = start_group(alloc, &self.keep, row)?;
@@ -115,7 +117,7 @@ impl RowGroups {
         requires few { count_rows (groups_of self) + count_rows rows.now < 2 ^ 32 }
         requires joinable { All (IsJoinable self.keep.items self.types.items self.rules.items)
             rows.now }
-        ensures { IfOk result (λ groups. HasAdded self.entry groups rows.now) }
+        ensures { IfOk result (λ groups. HasAdded self groups rows.now) }
     {
         let mut code = Vec::new(alloc);
         for row in rows {
@@ -127,7 +129,7 @@ impl RowGroups {
     /// The groups in the order of their tuples.
     pub(crate) fn sorted(self) -> Vec<Group>
         requires { IsDistinct (eq_by_cmp tuple_cmp) (map (λ g. g.key) (groups_of self)) }
-        ensures { AreInOrder (groups_of self.entry) (map group_row result.items) }
+        ensures { AreInOrder (groups_of self) (map group_row result.items) }
     {
         let RowGroups { mut groups, .. } = self;
         groups.sort_unstable();
