@@ -1,4 +1,7 @@
 mod SumFacts
+mod AscentFacts
+mod OrderFacts
+mod FindFacts
 mod ListFacts
 mod QueryRules
 mod GroupFacts
