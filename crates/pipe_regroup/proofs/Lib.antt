@@ -1,4 +1,5 @@
 mod SumFacts
+mod RowGroupFacts
 mod AscentFacts
 mod OrderFacts
 mod FindFacts
