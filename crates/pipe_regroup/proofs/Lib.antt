@@ -1,4 +1,7 @@
 mod SumFacts
+mod FrameFacts
+mod KeptFacts
+mod QueryGroups
 mod RowGroupFacts
 mod AscentFacts
 mod OrderFacts

@@ -1,39 +1,17 @@
 //! The frame of groups.
 
-ghost use Rattle.std.specs.Prelude.{◌≡◌, ◌++◌, IfOk, map, true, false};
+ghost use Rattle.std.specs.Prelude.{◌≡◌, ◌<◌, ◌++◌, All, IfOk, length, map, OnOk, true, false};
 ghost use Rattle.pipe_aggs.specs.QueryTrees.{query_tree};
 ghost use Rattle.pipe_columns.specs.Frame.{all_fit, frame_of, value_at};
 ghost use Rattle.pipe_model.specs.Output.{output_schema};
 ghost use Rattle.pipe_regroup.specs.Groups.{group_row};
 ghost use Rattle.pipe_regroup.specs.Frames.{RowsFit};
 ghost use Rattle.pipe_states.specs.Regrouped.{with_keys};
-ghost use Rattle.pipe_states.specs.Together.{AreKept};
 
 use crate::group::Group;
 use pipe_aggs::CheckedQuery;
 use pipe_columns::{AnyValue, Column, DataFrame, Field};
 use std::alloc::{AllocError, Global};
-
-/// The fields of a query's kept keys, and behind them those of its aggregates.
-pub(crate) fn kept_fields(
-    alloc: Global,
-    query: &CheckedQuery<'_>,
-    keep: &[usize],
-) -> Result<Vec<Field>, AllocError>
-    requires { AreKept (query_tree query.now) keep.now }
-    ensures { IfOk result (λ fields. fields.items
-        ≡ output_schema (with_keys (query_tree query.now) keep.now)) }
-{
-    let all = query.output_schema().fields();
-    let mut fields = Vec::with_capacity(alloc, all.len())?;
-    for index in keep {
-        fields.push(own_field(alloc, &all[*index])?)?;
-    }
-    for index in query.key_types().len()..all.len() {
-        fields.push(own_field(alloc, &all[index])?)?;
-    }
-    Ok(fields)
-}
 
 /// A field, copied.
 fn own_field(alloc: Global, field: &Field) -> Result<Field, AllocError>
@@ -44,6 +22,37 @@ fn own_field(alloc: Global, field: &Field) -> Result<Field, AllocError>
         name,
         dtype: field.dtype,
     })
+}
+
+/// Adds copies of fields.
+fn push_all(alloc: Global, fields: &mut Vec<Field>, more: &[Field]) -> Result<(), AllocError>
+    ensures { OnOk result (fields.new.items ≡ fields.old.items ++ more.now) }
+{
+    for field in more {
+        fields.push(own_field(alloc, field)?)?;
+    }
+    Ok(())
+}
+
+/// The fields of a query's kept keys, and behind them those of its aggregates.
+pub(crate) fn kept_fields(
+    alloc: Global,
+    query: &CheckedQuery<'_>,
+    keep: &[usize],
+) -> Result<Vec<Field>, AllocError>
+    requires { All (λ i. i < length (query_tree query.now).keys) keep.now }
+    ensures { IfOk result (λ fields. fields.items
+        ≡ output_schema (with_keys (query_tree query.now) keep.now)) }
+{
+    let all = query.output_schema().fields();
+    let count = query.key_types().len();
+    let mut fields = Vec::with_capacity(alloc, all.len())?;
+    for i in 0..keep.len() {
+        let index = keep[i];
+        fields.push(own_field(alloc, &all[index])?)?;
+    }
+    push_all(alloc, &mut fields, &all[count..])?;
+    Ok(fields)
 }
 
 /// The rows that groups give: their tuples, and behind them their results.

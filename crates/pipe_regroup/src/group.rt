@@ -1,7 +1,8 @@
 //! A group: what the state rows of one kept tuple come to.
 
 ghost use Rattle.std.specs.Prelude.{◌≡◌, ◌+◌, ◌<◌, ◌^◌, All, IfOk, length, map, OnOk};
-ghost use Rattle.pipe_columns.specs.Frame.{value_at};
+ghost use Rattle.pipe_columns.specs.AnyValue.{value_cmp};
+ghost use Rattle.pipe_columns.specs.declared.any_value.AnyValue.{AnyValue};
 ghost use Rattle.pipe_states.specs.Regrouped.{kept};
 ghost use Rattle.pipe_regroup.specs.Groups.{group_row, joined_row, started};
 ghost use Rattle.pipe_regroup.specs.Rules.{joined_from};
@@ -21,6 +22,11 @@ pub struct Group {
     pub rows: u32,
     pub results: Vec<AnyValue>,
 }
+
+/// Values are compared in a program as the definition orders them.
+pub(crate) fn value_order()
+    ensures { (a b : AnyValue) → ⟦<AnyValue as Ord>⟧.cmp a b ≡ value_cmp a b }
+{}
 
 /// The values of a tuple at some positions, copied.
 fn kept_values(

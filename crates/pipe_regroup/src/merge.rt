@@ -3,6 +3,7 @@
 ghost use Rattle.std.specs.Prelude.{◌≡◌, ◌≤◌, ◌<◌, ◌^◌, [], All, IfOk, IsErrOf, length, map, OnOk};
 ghost use Rattle.std.specs.List.{range_with_len};
 ghost use Rattle.pipe_aggs.specs.QueryTrees.{query_tree};
+ghost use Rattle.pipe_model.specs.Groupable.{IsGroupable};
 ghost use Rattle.pipe_regroup.specs.declared.regroup_error.MergeError.TheVariants as fault;
 ghost use Rattle.pipe_regroup.specs.Groups.{group_row, groups_of};
 ghost use Rattle.pipe_regroup.specs.Regrouping.{AreGroupsBy, held_count};
@@ -54,6 +55,7 @@ fn groups_by_all(alloc: Global, query: &CheckedQuery<'_>) -> Result<RowGroups, A
     ensures by { IfOk result (AreGroupsBy (query_tree query.now)
         (range_with_len 0 (length (query_tree query.now).keys))) }
     ensures none { IfOk result (λ groups. groups_of groups ≡ []) }
+    ensures groupable { OnOk result (IsGroupable (query_tree query.now)) }
 {
     let count = query.key_types().len();
     let mut keep = Vec::with_capacity(alloc, count)?;

@@ -10,7 +10,7 @@ ghost use Rattle.pipe_spill.specs.KeyTypes.{AreOfTypes};
 ghost use Rattle.pipe_states.specs.Regrouped.{kept};
 ghost use Rattle.pipe_regroup.specs.Groups.{AreFound, AreInOrder, count_rows, group_row, groups_of, HasAdded, IsJoinable};
 
-use crate::group::{Group, start_group};
+use crate::group::{Group, start_group, value_order};
 use crate::rule::Rule;
 use indexmap::IndexSet;
 use pipe_columns::{AnyValue, DataType};
@@ -132,6 +132,7 @@ impl RowGroups {
         ensures { AreInOrder (groups_of self) (map group_row result.items) }
     {
         let RowGroups { mut groups, .. } = self;
+        value_order();
         groups.sort_unstable();
         groups
     }

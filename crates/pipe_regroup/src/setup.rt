@@ -1,7 +1,8 @@
 //! Groups of no state rows yet, as a query and the keys that are kept call for.
 
-ghost use Rattle.std.specs.Prelude.{◌≡◌, ◌<◌, [], All, IfOk, length};
+ghost use Rattle.std.specs.Prelude.{◌≡◌, ◌<◌, [], All, IfOk, length, OnOk};
 ghost use Rattle.pipe_aggs.specs.QueryTrees.{query_tree};
+ghost use Rattle.pipe_model.specs.Groupable.{IsGroupable};
 ghost use Rattle.pipe_model.specs.Output.{key_types};
 ghost use Rattle.pipe_regroup.specs.Groups.{groups_of};
 ghost use Rattle.pipe_regroup.specs.Regrouping.{AreGroupsBy};
@@ -25,8 +26,9 @@ fn kept_types(
 {
     let all = query.key_types();
     let mut types = Vec::with_capacity(alloc, keep.len())?;
-    for index in keep {
-        types.push(all[*index])?;
+    for i in 0..keep.len() {
+        let index = keep[i];
+        types.push(all[index])?;
     }
     Ok(types)
 }
@@ -40,6 +42,7 @@ pub(crate) fn groups_by(
     requires { All (λ i. i < length (query_tree query.now).keys) keep.now }
     ensures by { IfOk result (AreGroupsBy (query_tree query.now) keep.now) }
     ensures none { IfOk result (λ groups. groups_of groups ≡ []) }
+    ensures groupable { OnOk result (IsGroupable (query_tree query.now)) }
 {
     let types = kept_types(alloc, query, keep)?;
     let rules = rules_of(alloc, query.prototypes())?;
