@@ -81,3 +81,12 @@ module _ (q : QueryTree) (part other : List AnyValue → List AnyValue) where
   regrouped-agree rows h =
       rows-agree rows (sorted_keys tuple_cmp (map (λ r. part r.key) rows)) h
       ∙ ap (λ (ts : List (List AnyValue)). map (λ t. regrouped_row q t (rows_with other t rows)) (sorted_keys tuple_cmp ts)) (tuples-agree rows h)
+
+-- ---- ranges
+
+-- a range with one number more
+pub range-push : (a n j : ℕ) → a + n ≡ j → range_with_len a n ++ j ∷ [] ≡ range_with_len a (n + 1)
+range-push a zero j e = ap (λ (m : ℕ). m ∷ []) {x = j} {y = a} (omega (arith, e))
+range-push a (suc n) j e =
+    ap (λ (l : List ℕ). a ∷ l) (range-push (a + 1) n j (omega (arith, e)))
+    ∙ ap (range_with_len a) {x = suc (n + 1)} {y = suc n + 1} (omega arith)

@@ -1,11 +1,11 @@
 -- Groups of the state rows of a query's states.
-use Rattle.std.proofs.Common.{◌≡◌, ◌∙◌, ℕ, ◌+◌, ◌<◌, ◌^◌, List, [], ◌∷◌, ◌++◌, length, map, take, get_or, All, refl, sym, ap, subst, arith}
+use Rattle.std.proofs.Common.{◌≡◌, ◌∙◌, ℕ, zero, suc, ◌+◌, ◌-◌, ◌<◌, ◌≤◌, ◌^◌, nat_lt, ltb-true, ltb-false, Bool, true, false, cond, Option, Some, None, List, [], ◌∷◌, ◌++◌, length, map, take, take_all, get_or, All, refl, sym, ap, subst, arith}
 use Rattle.std.specs.List.{IsDistinct, range_with_len}
 use Rattle.std.specs.Ordering.{eq_by_cmp}
 use Rattle.std.proofs.lemmas.List.{append-nil, length-map, take_more}
 use Rattle.std.proofs.lemmas.Grind.{flat_map-append}
-use Rattle.std.proofs.lemmas.List.Elements.{All-weaker, All-append, All-head, All-tail, All-nil}
-use Rattle.std.proofs.lemmas.List.Sums.{fold-append, sum_by-append}
+use Rattle.std.proofs.lemmas.List.Elements.{All-get_or, All-weaker, All-append, All-head, All-tail, All-nil}
+use Rattle.std.proofs.lemmas.List.Sums.{fold-append, sum_by-append, sum_by-cons}
 use Rattle.pipe_aggs.specs.HashAggs.{prototypes}
 use Rattle.pipe_columns.specs.declared.any_value.AnyValue.{AnyValue}
 use Rattle.pipe_model.specs.Answer.{tuple_cmp}
@@ -15,7 +15,7 @@ use Rattle.pipe_model.specs.Output.{key_types}
 use Rattle.pipe_model.specs.Query.{QueryTree}
 use Rattle.pipe_model.specs.Typing.{known_type}
 use Rattle.pipe_states.specs.Fair.{IsRowOf, IsStateOf}
-use Rattle.pipe_states.specs.Regrouped.{kept, regrouped_rows, rows_of_states, with_keys}
+use Rattle.pipe_states.specs.Regrouped.{end_of, first_of, kept, regrouped_rows, rows_of_states, with_keys}
 use Rattle.pipe_states.specs.States.{StateSeen}
 use Rattle.pipe_states.specs.Together.{total_rows}
 use Rattle.pipe_states.specs.declared.state_row.StateRow.{StateRow}
@@ -25,7 +25,7 @@ use Rattle.pipe_states.proofs.RangeFacts.{rows-total}
 use Rattle.pipe_regroup.specs.declared.row_groups.RowGroups.{RowGroups}
 use Rattle.pipe_regroup.specs.declared.rule.Rule.{Rule}
 use Rattle.pipe_regroup.specs.Groups.{AreFound, AreInOrder, count_rows, groups_of, HasAdded, IsJoinable, with_rows}
-use Rattle.pipe_regroup.specs.Regrouping.{AreGroupsBy}
+use Rattle.pipe_regroup.specs.Regrouping.{AreGroupsBy, held_count}
 use Rattle.pipe_regroup.specs.Rules.{all_rules}
 use Rattle.pipe_regroup.proofs.FindFacts.{rows-count}
 use Rattle.pipe_regroup.proofs.GroupFacts.{groups-distinct, query-groups, sorted-are}
@@ -121,3 +121,52 @@ module _ (q : QueryTree) where
   whole-rows rows h =
       regrouped-agree q (kept (range_with_len 0 (length q.keys))) (λ key. key) rows
       (All-weaker (IsRowOf q) (λ r. kept (range_with_len 0 (length q.keys)) r.key ≡ r.key) (λ r m. kept-all r.key (length q.keys) (key-length r m)) rows h)
+
+-- ---- states in a list
+
+-- states up to one of them are of no more rows than all
+pub total-below : (states : List StateSeen) (i : ℕ) (s : StateSeen) → i < length states → s ≡ get_or states i s → total_rows (take i states) + count_rows s.rows ≤ total_rows states
+total-below [] i s lt e = absurd (omega (arith, lt))
+total-below (x ∷ states) zero s lt e =
+    let sum = sum_by-cons (λ (t : StateSeen). count_rows t.rows) x states in let same = ap (λ (t : StateSeen). count_rows t.rows) e in omega arith
+total-below (x ∷ states) (suc i) s lt e =
+    let sum = sum_by-cons (λ (t : StateSeen). count_rows t.rows) x states in
+    let front = sum_by-cons (λ (t : StateSeen). count_rows t.rows) x (take i states) in
+    let rest = total-below states i s (omega (arith, lt)) e in
+    omega arith
+
+module _ (q : QueryTree) where
+  -- the rows of one of the states of a query are state rows of it
+  pub state-at : (states : List StateSeen) (i : ℕ) (s : StateSeen) → i < length states → s ≡ get_or states i s → All (IsStateOf q) states → All (IsRowOf q) s.rows
+  state-at states i s lt e h = subst (λ (t : StateSeen). All (IsRowOf q) t.rows) (sym e) (All-get_or (IsStateOf q) states i s lt h)
+
+  -- behind the last state the groups are those of all
+  pub all-states : (keep : List ℕ) (states : List StateSeen) (i : ℕ) (a : RowGroups) → length states ≤ i → AreOfStates q keep (take i states) a → AreOfStates q keep states a
+  all-states keep states i a past are = subst (λ (l : List StateSeen). AreOfStates q keep l a) (take_all i states past) are
+
+-- ---- fair states merged
+
+-- where states end, as the last of them tells
+pub last-end : (states : List StateSeen) (s : StateSeen) → 1 ≤ length states → s ≡ get_or states (length states - 1) s → end_of states ≡ s.end
+last-end [] s some e = absurd (omega (arith, some))
+last-end (x ∷ []) s some e = ap (λ (t : StateSeen). t.end) (sym e)
+last-end (x ∷ y ∷ states) s some e =
+    last-end (y ∷ states) s (omega arith) (e ∙ ap (λ (n : ℕ). get_or (x ∷ y ∷ states) n s) {x = length (x ∷ y ∷ states) - 1} {y = suc (length (y ∷ states) - 1)} (omega arith))
+
+-- and where they begin, as the first
+pub first-first : (states : List StateSeen) (s : StateSeen) → 1 ≤ length states → s ≡ get_or states 0 s → first_of states ≡ s.first
+first-first [] s some e = absurd (omega (arith, some))
+first-first (x ∷ states) s some e = ap (λ (t : StateSeen). t.first) (sym e)
+
+-- a number that is held is below 2^32
+pub held-some : (n m : ℕ) → held_count n ≡ Some m → n < 2 ^ 32
+held-some n m e = by (nat_lt n (2 ^ 32)) refl e where
+  by : (b : Bool) → nat_lt n (2 ^ 32) ≡ b → cond b (Some n) None ≡ Some m → n < 2 ^ 32
+  by true f g = ltb-true n (2 ^ 32) f
+  by false f g = cc
+
+pub held-none : (n : ℕ) → held_count n ≡ None → 2 ^ 32 ≤ n
+held-none n e = by (nat_lt n (2 ^ 32)) refl e where
+  by : (b : Bool) → nat_lt n (2 ^ 32) ≡ b → cond b (Some n) None ≡ None → 2 ^ 32 ≤ n
+  by true f g = cc
+  by false f g = ltb-false n (2 ^ 32) f

@@ -7,7 +7,7 @@ ghost use Rattle.pipe_model.specs.Groupable.{IsGroupable};
 ghost use Rattle.pipe_regroup.specs.declared.regroup_error.MergeError.TheVariants as fault;
 ghost use Rattle.pipe_regroup.specs.Groups.{group_row, groups_of};
 ghost use Rattle.pipe_regroup.specs.Regrouping.{AreGroupsBy, held_count};
-ghost use Rattle.pipe_states.specs.Fair.{IsStateOf};
+ghost use Rattle.pipe_states.specs.Fair.{IsFair, IsStateOf};
 ghost use Rattle.pipe_states.specs.Files.{IsFairStateOf};
 ghost use Rattle.pipe_states.specs.Regrouped.{merged_states};
 ghost use Rattle.pipe_states.specs.Together.{FollowOn, total_rows};
@@ -24,7 +24,8 @@ use std::alloc::{AllocError, Global};
 
 /// How many rows states are of, if a count holds it.
 fn total(files: &[StateFile]) -> Option<u32>
-    ensures { result ≡ held_count (total_rows files.now) }
+    ensures rows { result ≡ held_count (total_rows files.now) }
+    ensures fair { All IsFair files.now }
 {
     let mut rows = Some(0);
     for file in files {
