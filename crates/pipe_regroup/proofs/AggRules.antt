@@ -1,7 +1,6 @@
 -- The rules of an aggregate: they make of state rows what the aggregate does.
-use Rattle.std.proofs.Common.{◌≡◌, ◌∙◌, ℕ, zero, suc, ◌+◌, ◌*◌, ◌<◌, ◌≤◌, ◌^◌, ◌&&◌, ℤ, pos, negsuc, ◌+ℤ◌, Bool, true, false, not, List, [], ◌∷◌, ◌++◌, length, map, All, append_assoc, length-append, refl, sym, ap, subst, arith, lt-ltb, leb-true, eqb-true}
-use Rattle.std.specs.List.{flat_map, list_all, sum_by}
-use Rattle.std.proofs.lemmas.Bool.{and_parts, false≢true}
+use Rattle.std.proofs.Common.{◌≡◌, ◌∙◌, ℕ, ◌+◌, ◌<◌, ◌≤◌, ◌^◌, ◌&&◌, ℤ, pos, negsuc, ◌+ℤ◌, Bool, true, false, not, List, [], ◌∷◌, ◌++◌, length, map, All, refl, sym, ap, subst, arith, lt-ltb, leb-true, eqb-true}
+use Rattle.std.proofs.lemmas.Bool.{false≢true}
 use Rattle.std.proofs.lemmas.Int.{ints}
 use Rattle.std.proofs.lemmas.List.Elements.{All-head, All-tail, All-weaker}
 use Rattle.std.proofs.lemmas.List.Sums.{sum_by-cons}
@@ -15,7 +14,7 @@ use Rattle.pipe_columns.specs.DataType.{sum_type, wrapped}
 use Rattle.pipe_columns.specs.Frame.{value_at}
 use Rattle.pipe_aggs.specs.HashAggs.{function_for}
 use Rattle.pipe_model.specs.Aggregate.{addend, exact_sum, extreme, greater, lesser, present, sum_if_any}
-use Rattle.pipe_model.specs.Groupable.{is_suited, suited}
+use Rattle.pipe_model.specs.Groupable.{suited}
 use Rattle.pipe_model.specs.Kind.{Kind}
 use Rattle.pipe_model.specs.Kind as kind
 use Rattle.pipe_model.specs.Output.{agg_fields, input_type}
@@ -25,9 +24,9 @@ use Rattle.pipe_native.specs.Native.{IsNative, Native, native_i32, native_i64, n
 use Rattle.pipe_native.specs.NativeLaws.{is_native_i32, is_native_i64, is_native_i128, is_native_u32, is_native_u64}
 use Rattle.pipe_spill.specs.KeyTypes.{AreOfTypes}
 use Rattle.pipe_states.specs.Fair.{can_give, can_give_all, does_sum_suit, is_count_within, is_number}
-use Rattle.pipe_states.specs.Regrouped.{column_count, regrouped_agg, regrouped_aggs, results_at}
+use Rattle.pipe_states.specs.Regrouped.{column_count, regrouped_agg, results_at}
 use Rattle.pipe_states.specs.declared.state_row.StateRow.{StateRow}
-use Rattle.pipe_states.proofs.GivenRows.{count_in, counts-sum, counts-within, counts_at, has_rest, HasGood, suit-small}
+use Rattle.pipe_states.proofs.GivenRows.{count_in, counts-sum, counts-within, counts_at, HasGood, suit-small}
 use Rattle.pipe_states.proofs.GoodFacts.{IsSmall, small-both, small-none}
 use Rattle.pipe_states.proofs.HalfFacts.{both_true}
 use Rattle.pipe_states.proofs.TextFacts.{types_of, value-first}

@@ -1,12 +1,10 @@
 -- A running least or greatest value tells its direction by what it makes of 0 and 1.
-use Rattle.std.proofs.Common.{◌≡◌, Bool, true, false, cond, List, [], ◌∷◌, pos, refl}
-use Rattle.pipe_columns.specs.declared.any_value.AnyValue.{AnyValue}
+use Rattle.std.proofs.Common.{◌≡◌, true, cond, List, [], ◌∷◌, pos, refl}
 use Rattle.pipe_columns.specs.declared.any_value.AnyValue.TheVariants as av
 use Rattle.pipe_columns.specs.declared.place.Place.{Place}
 use Rattle.pipe_running.specs.States.{after_value, fresh, given}
 use Rattle.pipe_running.specs.declared.min_max.Direction.{Direction}
 use Rattle.pipe_running.specs.declared.min_max.Direction.TheVariants as direction
-use Rattle.pipe_running.specs.declared.min_max.MinMaxAgg.{MinMaxAgg}
 use Rattle.pipe_running.specs.declared.function.AggregateFunction.{AggregateFunction}
 use Rattle.pipe_running.specs.declared.function.AggregateFunction.TheVariants as function
 use Rattle.std.specs.Int.{int_wrap}

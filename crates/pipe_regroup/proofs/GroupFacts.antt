@@ -1,15 +1,14 @@
 -- Groups of a query's state rows that are put in order are the regrouped rows.
-use Rattle.std.proofs.Common.{◌≡◌, ◌∙◌, ℕ, ◌+◌, ◌<◌, ◌≤◌, ◌^◌, List, [], ◌∷◌, ◌++◌, length, map, All, inl, inr, refl, sym, ap, subst, arith}
-use Rattle.std.specs.List.{IsDistinct, sum_by}
+use Rattle.std.proofs.Common.{◌≡◌, ◌∙◌, ℕ, ◌+◌, ◌<◌, ◌^◌, List, [], ◌∷◌, ◌++◌, map, All, refl, sym, ap, subst, arith}
+use Rattle.std.specs.List.{IsDistinct}
 use Rattle.std.specs.List.Sorted.{IsPermutation}
 use Rattle.std.specs.Ordering.{eq_by_cmp, is_eq}
-use Rattle.std.proofs.lemmas.List.Elements.{All-append, All-cons, All-filter, All-head, All-nil, All-tail, All-weaker}
+use Rattle.std.proofs.lemmas.List.Elements.{All-cons, All-filter, All-head, All-nil, All-tail}
 use Rattle.std.proofs.lemmas.List.Sorted.{All-permutation, IsPermutation-map, IsPermutation-sym}
 use Rattle.std.proofs.lemmas.List.Sums.{sum_by-append}
-use Rattle.pipe_columns.specs.declared.any_value.AnyValue.{AnyValue}
-use Rattle.pipe_columns.specs.Groups.{IsAscending, sorted_keys}
+use Rattle.pipe_columns.specs.Groups.{sorted_keys}
 use Rattle.pipe_columns.proofs.AscendingFacts.{any_keys, AnyKey, exact_on, sorted_sole}
-use Rattle.pipe_columns.proofs.ElementFacts.{all_at, Has, moved-has, same_elements}
+use Rattle.pipe_columns.proofs.ElementFacts.{all_at, moved-has, same_elements}
 use Rattle.pipe_columns.proofs.ValueOrder.{tuples_tie, tuples_total}
 use Rattle.pipe_aggs.specs.HashAggs.{prototypes}
 use Rattle.pipe_model.specs.Answer.{tuple_cmp}
@@ -21,7 +20,7 @@ use Rattle.pipe_states.specs.declared.state_row.StateRow.{StateRow}
 use Rattle.pipe_states.proofs.MergedFair.{sum-filter-le, sum-has}
 use Rattle.pipe_regroup.specs.Rules.{all_rules}
 use Rattle.pipe_regroup.specs.Groups.{AreInOrder, count_rows, with_rows}
-use Rattle.pipe_regroup.proofs.HoldFacts.{AreGroups, AreTuples, found, group_of, groups-hold, no-groups, tuples}
+use Rattle.pipe_regroup.proofs.HoldFacts.{AreGroups, found, group_of, groups-hold, no-groups, tuples}
 use Rattle.pipe_regroup.proofs.QueryRules.{row-alone, row-is, rows-held}
 use Rattle.pipe_regroup.proofs.TupleLists.{Tuple}
 

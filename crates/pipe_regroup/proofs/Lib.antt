@@ -1,5 +1,4 @@
 mod SumFacts
-mod FrameFacts
 mod KeptFacts
 mod QueryGroups
 mod RowGroupFacts

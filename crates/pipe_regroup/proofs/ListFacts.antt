@@ -1,8 +1,7 @@
 -- Steps along lists: kept values, joined results, codes of kept values.
-use Rattle.std.proofs.Common.{◌≡◌, ◌∙◌, ℕ, zero, suc, ◌+◌, ◌<◌, ◌≤◌, append-nil, drop_of_length-le, Bool, List, [], ◌∷◌, ◌++◌, length, map, true, take, drop, get_or, set, All, length-drop, length-set, length-take-le, append_assoc, refl, sym, ap, subst, arith}
-use Rattle.std.proofs.lemmas.List.{drop_more, drop-set-lt, get_or_default, map-append, take_more, take_more_set}
+use Rattle.std.proofs.Common.{◌≡◌, ◌∙◌, ℕ, zero, suc, ◌+◌, ◌<◌, ◌≤◌, append-nil, drop_of_length-le, Bool, List, [], ◌∷◌, ◌++◌, length, map, true, take, drop, get_or, set, length-drop, length-set, length-take-le, append_assoc, refl, sym, ap, subst, arith}
+use Rattle.std.proofs.lemmas.List.{drop_more, drop-set-lt, map-append, take_more, take_more_set}
 use Rattle.pipe_columns.specs.declared.any_value.AnyValue.{AnyValue}
-use Rattle.pipe_columns.specs.declared.any_value.AnyValue.TheVariants as av
 use Rattle.pipe_columns.specs.declared.data_type.DataType.{DataType}
 use Rattle.pipe_columns.specs.AnyValue.{fits}
 use Rattle.pipe_columns.specs.Frame.{value_at}

@@ -1,31 +1,32 @@
 -- Groups of the state rows of a query's states.
-use Rattle.std.proofs.Common.{◌≡◌, ◌∙◌, ℕ, zero, suc, ◌+◌, ◌-◌, ◌<◌, ◌≤◌, ◌^◌, nat_lt, ltb-true, ltb-false, Bool, true, false, cond, Option, Some, None, List, [], ◌∷◌, ◌++◌, length, map, take, take_all, get_or, All, refl, sym, ap, subst, arith}
+use Rattle.std.proofs.Common.{◌≡◌, ◌∙◌, ℕ, zero, suc, ◌+◌, ◌-◌, ◌<◌, ◌≤◌, ◌^◌, nat_lt, ltb-false, le-ltb, Bool, true, false, cond, Some, None, List, [], ◌∷◌, ◌++◌, length, map, take, take_all, get_or, All, refl, sym, ap, subst, arith}
 use Rattle.std.specs.List.{IsDistinct, range_with_len}
 use Rattle.std.specs.Ordering.{eq_by_cmp}
-use Rattle.std.proofs.lemmas.List.{append-nil, length-map, take_more}
+use Rattle.std.proofs.lemmas.List.{append-nil, length-map}
 use Rattle.std.proofs.lemmas.Grind.{flat_map-append}
-use Rattle.std.proofs.lemmas.List.Elements.{All-get_or, All-weaker, All-append, All-head, All-tail, All-nil}
+use Rattle.std.proofs.lemmas.List.Elements.{All-get_or, All-weaker}
 use Rattle.std.proofs.lemmas.List.Sums.{fold-append, sum_by-append, sum_by-cons}
 use Rattle.pipe_aggs.specs.HashAggs.{prototypes}
-use Rattle.pipe_columns.specs.declared.any_value.AnyValue.{AnyValue}
 use Rattle.pipe_model.specs.Answer.{tuple_cmp}
 use Rattle.pipe_model.specs.Expr.{Expr}
 use Rattle.pipe_model.specs.Groupable.{IsGroupable}
 use Rattle.pipe_model.specs.Output.{key_types}
 use Rattle.pipe_model.specs.Query.{QueryTree}
 use Rattle.pipe_model.specs.Typing.{known_type}
-use Rattle.pipe_states.specs.Fair.{IsRowOf, IsStateOf}
-use Rattle.pipe_states.specs.Regrouped.{end_of, first_of, kept, regrouped_rows, rows_of_states, with_keys}
+use Rattle.pipe_states.specs.Fair.{IsFair, IsRowOf, IsStateOf}
+use Rattle.pipe_states.specs.Files.{IsFairStateOf}
+use Rattle.pipe_states.specs.Regrouped.{end_of, first_of, kept, merged_states, regrouped_rows, rows_of_states, with_keys}
 use Rattle.pipe_states.specs.States.{StateSeen}
-use Rattle.pipe_states.specs.Together.{total_rows}
+use Rattle.pipe_states.specs.Together.{FollowOn, total_rows}
 use Rattle.pipe_states.specs.declared.state_row.StateRow.{StateRow}
 use Rattle.pipe_states.proofs.GivenRows.{typed-length}
-use Rattle.pipe_states.proofs.GivenStates.{kept-tuple, rows-of}
+use Rattle.pipe_states.proofs.GivenStates.{kept-tuple, merged-state-of, rows-of}
+use Rattle.pipe_states.proofs.MergedFair.{merged-fair}
 use Rattle.pipe_states.proofs.RangeFacts.{rows-total}
 use Rattle.pipe_regroup.specs.declared.row_groups.RowGroups.{RowGroups}
 use Rattle.pipe_regroup.specs.declared.rule.Rule.{Rule}
-use Rattle.pipe_regroup.specs.Groups.{AreFound, AreInOrder, count_rows, groups_of, HasAdded, IsJoinable, with_rows}
-use Rattle.pipe_regroup.specs.Regrouping.{AreGroupsBy, held_count}
+use Rattle.pipe_regroup.specs.Groups.{AreInOrder, count_rows, groups_of, HasAdded, IsJoinable, with_rows}
+use Rattle.pipe_regroup.specs.Regrouping.{AreGroupsBy, held_count, with_more}
 use Rattle.pipe_regroup.specs.Rules.{all_rules}
 use Rattle.pipe_regroup.proofs.FindFacts.{rows-count}
 use Rattle.pipe_regroup.proofs.GroupFacts.{groups-distinct, query-groups, sorted-are}
@@ -59,10 +60,6 @@ module _ (q : QueryTree) where
   pub record AreOfStates (keep : List ℕ) (states : List StateSeen) (a : RowGroups) : Type 0 where
     pub by : AreGroupsBy q keep a
     pub groups_are : groups_of a ≡ with_rows keep a.rules.items [] (rows_of_states states)
-
-  -- none are those of no state
-  pub of-none : (keep : List ℕ) (a : RowGroups) → AreGroupsBy q keep a → groups_of a ≡ [] → AreOfStates keep [] a
-  of-none keep a by none = record { by = by; groups_are = none }
 
   -- the rows of states and of one more
   pub rows-push : (states : List StateSeen) (s : StateSeen) → rows_of_states (states ++ s ∷ []) ≡ rows_of_states states ++ s.rows
@@ -158,15 +155,31 @@ pub first-first : (states : List StateSeen) (s : StateSeen) → 1 ≤ length sta
 first-first [] s some e = absurd (omega (arith, some))
 first-first (x ∷ states) s some e = ap (λ (t : StateSeen). t.first) (sym e)
 
--- a number that is held is below 2^32
-pub held-some : (n m : ℕ) → held_count n ≡ Some m → n < 2 ^ 32
-held-some n m e = by (nat_lt n (2 ^ 32)) refl e where
-  by : (b : Bool) → nat_lt n (2 ^ 32) ≡ b → cond b (Some n) None ≡ Some m → n < 2 ^ 32
-  by true f g = ltb-true n (2 ^ 32) f
-  by false f g = cc
+-- a number that is held, with more
+pub held-more : (a n : ℕ) → with_more (held_count a) n ≡ held_count (a + n)
+held-more a n = by (nat_lt a (2 ^ 32)) refl where
+  by : (b : Bool) → nat_lt a (2 ^ 32) ≡ b → with_more (cond b (Some a) None) n ≡ held_count (a + n)
+  by true f = refl
+  by false f =
+      let past = ltb-false a (2 ^ 32) f in
+      ap (λ (b : Bool). cond b (Some (a + n)) None) {x = false} {y = nat_lt (a + n) (2 ^ 32)} (sym (le-ltb (a + n) (2 ^ 32) (omega (arith, past))))
 
-pub held-none : (n : ℕ) → held_count n ≡ None → 2 ^ 32 ≤ n
-held-none n e = by (nat_lt n (2 ^ 32)) refl e where
-  by : (b : Bool) → nat_lt n (2 ^ 32) ≡ b → cond b (Some n) None ≡ None → 2 ^ 32 ≤ n
-  by true f g = cc
-  by false f g = ltb-false n (2 ^ 32) f
+-- states and one more are of its rows more
+pub total-more : (states : List StateSeen) (s : StateSeen) → total_rows (states ++ s ∷ []) ≡ total_rows states + count_rows s.rows
+total-more states s = sum_by-append (λ (t : StateSeen). count_rows t.rows) states (s ∷ []) ∙ ap (λ (n : ℕ). total_rows states + n) (sum_by-cons (λ (t : StateSeen). count_rows t.rows) s [] ∙ plus (count_rows s.rows)) where
+  plus : (n : ℕ) → n + 0 ≡ n
+  plus n = omega arith
+
+module _ (q : QueryTree) (states : List StateSeen) (some : 1 ≤ length states) where
+  -- the merged state is the range from the first state to the last, with the merged rows
+  pub merged-are : (a b : StateSeen) (first end : ℕ) (all : List StateRow) → a ≡ get_or states 0 a → b ≡ get_or states (length states - 1) b
+      → first ≡ a.first → end ≡ b.end → all ≡ regrouped_rows q (λ key. key) (rows_of_states states)
+      → merged_states q states ≡ record { first = first; end = end; rows = all }
+  merged-are a b first end all begin stop f e r =
+      let begins : first_of states ≡ first = first-first states a some begin ∙ sym f in
+      let ends : end_of states ≡ end = last-end states b some stop ∙ sym e in
+      λ i. record { first = begins i; end = ends i; rows = sym r i }
+
+  -- of fair states of a query that follow on it is one
+  pub merged-one : All IsFair states → All (IsStateOf q) states → FollowOn states → total_rows states < 2 ^ 32 → IsFairStateOf q (merged_states q states)
+  merged-one fair of_query follow few = record { fair = merged-fair q states fair follow few; of_query = merged-state-of q states of_query few }

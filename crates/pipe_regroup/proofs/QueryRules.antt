@@ -1,32 +1,27 @@
 -- The rules of a query's aggregates: they make of its state rows what the aggregates do.
-use Rattle.std.proofs.Common.{◌≡◌, ◌∙◌, ℕ, ◌+◌, ◌<◌, ◌≤◌, ◌^◌, true, List, [], ◌∷◌, ◌++◌, length, map, All, append_assoc, length-append, append-nil, inl, refl, sym, ap, subst, arith}
-use Rattle.std.specs.List.{flat_map, list_all, sum_by}
-use Rattle.std.specs.Ordering.{is_eq}
+use Rattle.std.proofs.Common.{◌≡◌, ◌∙◌, ℕ, ◌+◌, ◌<◌, ◌^◌, true, List, [], ◌∷◌, ◌++◌, length, map, All, append_assoc, length-append, refl, sym, ap, subst, arith}
+use Rattle.std.specs.List.{flat_map, list_all}
 use Rattle.std.proofs.lemmas.Bool.{and_parts}
-use Rattle.std.proofs.lemmas.List.Elements.{All-append, All-filter, All-head, All-tail, All-weaker, All-take}
-use Rattle.std.proofs.lemmas.List.Sums.{sum_by-append}
+use Rattle.std.proofs.lemmas.List.Elements.{All-weaker}
 use Rattle.pipe_columns.specs.declared.any_value.AnyValue.{AnyValue}
 use Rattle.pipe_columns.specs.declared.schema.Field.{Field}
 use Rattle.pipe_columns.specs.Frame.{value_at}
-use Rattle.pipe_columns.proofs.ElementFacts.{all_at, Has}
 use Rattle.pipe_aggs.specs.HashAggs.{function_for, prototypes}
-use Rattle.pipe_model.specs.Answer.{tuple_cmp}
 use Rattle.pipe_model.specs.Groupable.{IsGroupable, is_suited}
 use Rattle.pipe_model.specs.Output.{agg_fields, input_type}
 use Rattle.pipe_model.specs.Query.{AggTree, QueryTree}
 use Rattle.pipe_states.specs.Fair.{IsRowOf, result_types}
-use Rattle.pipe_states.specs.Regrouped.{column_count, kept, regrouped_agg, regrouped_aggs, regrouped_row, rows_with}
+use Rattle.pipe_states.specs.Regrouped.{column_count, regrouped_aggs, regrouped_row}
 use Rattle.pipe_states.specs.declared.state_row.StateRow.{StateRow}
 use Rattle.pipe_states.proofs.GivenRows.{columns-length, has_rest, HasGood, typed-length}
 use Rattle.pipe_states.proofs.GivenStates.{good-of}
-use Rattle.pipe_states.proofs.MergedFair.{sum-filter-le, sum-has}
 use Rattle.pipe_states.proofs.SummaryFacts.{flat-image}
 use Rattle.pipe_states.proofs.TextFacts.{types_of, value-first}
 use Rattle.pipe_regroup.specs.declared.rule.Rule.{Rule}
 use Rattle.pipe_regroup.specs.Rules.{all_rules, by_rule, by_rules, rules_of}
 use Rattle.pipe_regroup.specs.Groups.{count_rows}
 use Rattle.pipe_regroup.proofs.AggRules.{agg-alone, agg-held, agg-is, agg-width, agg_rules, AreAlone, has-agg, HasAgg}
-use Rattle.pipe_regroup.proofs.HoldFacts.{found, group_of, IsAlone, row_by}
+use Rattle.pipe_regroup.proofs.HoldFacts.{IsAlone, row_by}
 use Rattle.pipe_regroup.proofs.RuleJoins.{AreHeld}
 
 -- ---- rules one behind another

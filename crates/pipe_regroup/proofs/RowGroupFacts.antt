@@ -1,11 +1,10 @@
 -- Groups that are found by codes, with one more row.
-use Rattle.std.proofs.Common.{◌≡◌, ◌∙◌, ℕ, ◌+◌, ◌<◌, ◌≤◌, ◌||◌, Bool, true, false, cond, List, [], ◌∷◌, ◌++◌, length, map, get_or, set, All, Vec, Global, Some, refl, sym, ap, subst, arith}
+use Rattle.std.proofs.Common.{◌≡◌, ◌∙◌, ℕ, ◌<◌, ◌≤◌, ◌||◌, Bool, false, List, [], ◌∷◌, ◌++◌, length, map, get_or, set, All, Vec, Global, Some, refl, sym, ap, subst, arith}
 use Rattle.std.specs.List.{list_any, position}
 use Rattle.std.specs.Str.{bytes_eq}
 use Rattle.std.proofs.lemmas.List.{get_or-map, length-map, map-append}
 use Rattle.std.proofs.lemmas.List.Elements.{All-append, All-cons, All-get_or, All-nil, All-set}
 use Rattle.std.proofs.lemmas.List.Quantifiers.{position-Some}
-use mathlib.Core.List.{map-map}
 use Rattle.pipe_columns.specs.declared.data_type.DataType.{DataType}
 use Rattle.pipe_columns.specs.Key.{code}
 use Rattle.pipe_states.specs.Regrouped.{kept}
@@ -13,7 +12,7 @@ use Rattle.pipe_states.specs.declared.state_row.StateRow.{StateRow}
 use Rattle.pipe_regroup.specs.declared.group.Group.{Group}
 use Rattle.pipe_regroup.specs.declared.row_groups.RowGroups.{RowGroups}
 use Rattle.pipe_regroup.specs.declared.rule.Rule.{Rule}
-use Rattle.pipe_regroup.specs.Groups.{AreFound, count_rows, group_row, groups_of, HasAdded, IsGroupOf, IsJoinable, joined_row, started, with_row}
+use Rattle.pipe_regroup.specs.Groups.{AreFound, count_rows, group_row, groups_of, HasAdded, IsGroupOf, IsJoinable, joined_row, started}
 use Rattle.pipe_regroup.proofs.FindFacts.{joined-group, map-set, rows-below, set-same, started-group, with_row-found, with_row-new}
 
 -- codes as such

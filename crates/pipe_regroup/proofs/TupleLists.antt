@@ -1,5 +1,5 @@
 -- Distinct tuples in the order in which they come, and groups with one more row.
-use Rattle.std.proofs.Common.{◌≡◌, ◌∙◌, ℕ, Bool, true, false, cond, List, [], ◌∷◌, ◌++◌, ◌⊎◌, inl, inr, map, refl, sym, ap, subst}
+use Rattle.std.proofs.Common.{◌≡◌, ◌∙◌, ℕ, Bool, true, false, cond, List, [], ◌∷◌, ◌⊎◌, inl, inr, map, refl, sym, ap, subst}
 use Rattle.std.specs.List.{AllByRecursion, IsDistinct}
 use Rattle.std.specs.Cmp.{Equal-is, tied_itself}
 use Rattle.std.specs.Ordering.{eq_by_cmp, is_eq}
@@ -103,22 +103,22 @@ module _ (keep : List ℕ) (rules : List Rule) (r : StateRow) (F G : Tuple → S
   with_row-put (t ∷ ts) d joins starts =
       by (same_tuple t (kept keep r.key)) refl (λ e. with_row-put ts d.1 (λ u m. joins u (inr m)) (λ h. starts (new-there h e)))
     where
-    test : is_eq (tuple_cmp (F t).key (kept keep r.key)) ≡ same_tuple t (kept keep r.key)
-    test = ap (λ (k : Tuple). is_eq (tuple_cmp k (kept keep r.key))) (keys t)
+      test : is_eq (tuple_cmp (F t).key (kept keep r.key)) ≡ same_tuple t (kept keep r.key)
+      test = ap (λ (k : Tuple). is_eq (tuple_cmp k (kept keep r.key))) (keys t)
 
-    new-there : ((u : Tuple) → Has u ts → same_tuple u (kept keep r.key) ≡ false) → same_tuple t (kept keep r.key) ≡ false → (u : Tuple) → Has u (t ∷ ts) → same_tuple u (kept keep r.key) ≡ false
-    new-there h e u (inl same) = ap (λ (x : Tuple). same_tuple x (kept keep r.key)) same ∙ e
-    new-there h e u (inr m) = h u m
+      new-there : ((u : Tuple) → Has u ts → same_tuple u (kept keep r.key) ≡ false) → same_tuple t (kept keep r.key) ≡ false → (u : Tuple) → Has u (t ∷ ts) → same_tuple u (kept keep r.key) ≡ false
+      new-there h e u (inl same) = ap (λ (x : Tuple). same_tuple x (kept keep r.key)) same ∙ e
+      new-there h e u (inr m) = h u m
 
-    by : (b : Bool) → same_tuple t (kept keep r.key) ≡ b
-        → (same_tuple t (kept keep r.key) ≡ false → with_row keep rules (map F ts) r ≡ map G (put_tuple (kept keep r.key) ts))
-        → with_row keep rules (F t ∷ map F ts) r ≡ map G (put_tuple (kept keep r.key) (t ∷ ts))
-    by true e next =
-        ap (λ (b : Bool). cond b (joined_row rules (F t) r ∷ map F ts) (F t ∷ with_row keep rules (map F ts) r)) (test ∙ e)
-        ∙ (λ i. joins t (inl refl) e i
-        ∷ map-others F G (kept keep r.key) ts others (subst (λ (x : Tuple). AllByRecursion (λ u. same_tuple x u ≡ false) ts) (same-is t (kept keep r.key) e) d.0) i)
-        ∙ sym (ap (λ (b : Bool). map G (cond b (t ∷ ts) (t ∷ put_tuple (kept keep r.key) ts))) e)
-    by false e next =
-        ap (λ (b : Bool). cond b (joined_row rules (F t) r ∷ map F ts) (F t ∷ with_row keep rules (map F ts) r)) (test ∙ e)
-        ∙ (λ i. sym (others t e) i ∷ next e i)
-        ∙ sym (ap (λ (b : Bool). map G (cond b (t ∷ ts) (t ∷ put_tuple (kept keep r.key) ts))) e)
+      by : (b : Bool) → same_tuple t (kept keep r.key) ≡ b
+          → (same_tuple t (kept keep r.key) ≡ false → with_row keep rules (map F ts) r ≡ map G (put_tuple (kept keep r.key) ts))
+          → with_row keep rules (F t ∷ map F ts) r ≡ map G (put_tuple (kept keep r.key) (t ∷ ts))
+      by true e next =
+          ap (λ (b : Bool). cond b (joined_row rules (F t) r ∷ map F ts) (F t ∷ with_row keep rules (map F ts) r)) (test ∙ e)
+          ∙ (λ i. joins t (inl refl) e i
+          ∷ map-others F G (kept keep r.key) ts others (subst (λ (x : Tuple). AllByRecursion (λ u. same_tuple x u ≡ false) ts) (same-is t (kept keep r.key) e) d.0) i)
+          ∙ sym (ap (λ (b : Bool). map G (cond b (t ∷ ts) (t ∷ put_tuple (kept keep r.key) ts))) e)
+      by false e next =
+          ap (λ (b : Bool). cond b (joined_row rules (F t) r ∷ map F ts) (F t ∷ with_row keep rules (map F ts) r)) (test ∙ e)
+          ∙ (λ i. sym (others t e) i ∷ next e i)
+          ∙ sym (ap (λ (b : Bool). map G (cond b (t ∷ ts) (t ∷ put_tuple (kept keep r.key) ts))) e)

@@ -1,7 +1,6 @@
 -- Of the proofs alone: groups of state rows, and what one more row makes of them.
 use Rattle.std.specs.Prelude.{◌≡◌, ◌+◌, ◌<◌, ℕ, Bool, if◌then◌else◌, List, [], ◌∷◌, length, map, All, IsPermutation, sum_by, fold}
 use Rattle.std.specs.Ordering.{is_eq, is_gt, is_lt}
-use Rattle.pipe_columns.specs.declared.any_value.AnyValue.{AnyValue}
 use Rattle.pipe_columns.specs.declared.data_type.DataType.{DataType}
 use Rattle.pipe_columns.specs.Groups.{IsAscending}
 use Rattle.pipe_columns.specs.Key.{code}

@@ -29,11 +29,7 @@ pub(crate) fn value_order()
 {}
 
 /// The values of a tuple at some positions, copied.
-fn kept_values(
-    alloc: Global,
-    keep: &[usize],
-    key: &[AnyValue],
-) -> Result<Vec<AnyValue>, AllocError>
+fn kept_values(alloc: Global, keep: &[usize], key: &[AnyValue]) -> Result<Vec<AnyValue>, AllocError>
     requires { All (λ i. i < length key.now) keep.now }
     ensures { IfOk result (λ values. values.items ≡ kept keep.now key.now) }
 {

@@ -4,7 +4,7 @@ ghost use Rattle.std.specs.Prelude.{◌≡◌, ◌≤◌, ◌<◌, ◌^◌, [], 
 ghost use Rattle.std.specs.List.{range_with_len};
 ghost use Rattle.pipe_aggs.specs.QueryTrees.{query_tree};
 ghost use Rattle.pipe_model.specs.Groupable.{IsGroupable};
-ghost use Rattle.pipe_regroup.specs.declared.regroup_error.MergeError.TheVariants as fault;
+ghost use Rattle.pipe_regroup.specs.declared.merge_error.MergeError.TheVariants as fault;
 ghost use Rattle.pipe_regroup.specs.Groups.{group_row, groups_of};
 ghost use Rattle.pipe_regroup.specs.Regrouping.{AreGroupsBy, held_count};
 ghost use Rattle.pipe_states.specs.Fair.{IsFair, IsStateOf};
@@ -13,7 +13,7 @@ ghost use Rattle.pipe_states.specs.Regrouped.{merged_states};
 ghost use Rattle.pipe_states.specs.Together.{FollowOn, total_rows};
 
 use crate::group::Group;
-use crate::regroup_error::MergeError;
+use crate::merge_error::MergeError;
 use crate::row_groups::RowGroups;
 use crate::setup::groups_by;
 use crate::total::{counted, more};
@@ -74,7 +74,8 @@ fn merged_rows(
 ) -> Result<Vec<StateRow>, AllocError>
     requires of_query { All (IsStateOf (query_tree query.now)) files.now }
     requires few { total_rows files.now < 2 ^ 32 }
-    ensures { IfOk result (λ rows. rows.items ≡ (merged_states (query_tree query.now) files.now).rows) }
+    ensures { IfOk result (λ rows. rows.items
+        ≡ (merged_states (query_tree query.now) files.now).rows) }
 {
     let mut groups = groups_by_all(alloc, query)?;
     for file in files {

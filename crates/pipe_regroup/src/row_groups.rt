@@ -76,7 +76,8 @@ impl RowGroups {
         requires found { AreFound self.old }
         requires joinable { IsJoinable self.old.keep.items self.old.types.items
             self.old.rules.items row.now }
-        requires code { code.now ≡ tuple_code self.old.types.items (kept self.old.keep.items row.now.key) }
+        requires code { code.now
+            ≡ tuple_code self.old.types.items (kept self.old.keep.items row.now.key) }
         requires absent { list_any (λ c. bytes_eq code.now c.items) self.old.codes.keys ≡ false }
         ensures { OnOk result (HasAdded self.old self.new (row.now ∷ [])) }
     {

@@ -1,7 +1,6 @@
 use Rattle.std.proofs.Common.{◌≡◌, ◌∙◌, ℤ, ◌+ℤ◌, ap, rules}
 use Rattle.pipe_columns.specs.DataType.{wrapped}
 use Rattle.pipe_model.specs.Aggregate.{addend}
-use Rattle.pipe_native.specs.Native.{Native}
 use Rattle.pipe_regroup.proofs.SumFacts.{sum-wrapped}
 use Rattle.pipe_regroup.proofs.join.sum_in.Goals as goal
 

@@ -1,6 +1,4 @@
-use Rattle.std.proofs.Common.{rules, ◌≡◌, ◌∙◌, ◌<◌, ◌≤◌, List, length, get_or, append-nil, drop_of_length-le, ap, sym, arith}
-use Rattle.pipe_columns.specs.declared.any_value.AnyValue.{AnyValue}
-use Rattle.pipe_columns.specs.declared.data_type.DataType.{DataType}
+use Rattle.std.proofs.Common.{rules, ◌<◌, ◌≤◌, List, length, get_or}
 use Rattle.pipe_columns.specs.declared.data_type.DataType.TheVariants as dt
 use Rattle.pipe_columns.specs.Key.{code}
 use Rattle.pipe_states.specs.Regrouped.{kept}

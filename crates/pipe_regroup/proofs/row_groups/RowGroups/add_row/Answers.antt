@@ -1,4 +1,4 @@
-use Rattle.std.proofs.Common.{rules, arith, ◌≡◌, ◌∙◌, ℕ, List, length, Vec, Global, Some, refl, sym, ap}
+use Rattle.std.proofs.Common.{rules, arith, ◌≡◌, ◌∙◌, ℕ, List, length, Some, refl, sym, ap}
 use Rattle.std.specs.Prelude.{OnOk}
 use Rattle.std.specs.List.{position}
 use Rattle.std.specs.Str.{bytes_eq}
