@@ -1,6 +1,6 @@
 //! States that are merged into one.
 
-ghost use Rattle.std.specs.Prelude.{◌≡◌, ◌≤◌, ◌<◌, ◌^◌, [], All, IfOk, IsErrOf, length, map, OnOk};
+ghost use Rattle.std.specs.Prelude.{◌≡◌, ◌≤◌, ◌↔◌, ◌<◌, ◌^◌, [], All, IfOk, IsErrOf, length, map, OnOk};
 ghost use Rattle.std.specs.List.{range_with_len};
 ghost use Rattle.pipe_aggs.specs.QueryTrees.{query_tree};
 ghost use Rattle.pipe_model.specs.Groupable.{IsGroupable};
@@ -95,8 +95,7 @@ pub fn merge_files(
     requires follow { FollowOn files.now }
     ensures merged { IfOk result (λ s. s ≡ merged_states (query_tree query.now) files.now) }
     ensures of_query { IfOk result (IsFairStateOf (query_tree query.now)) }
-    ensures few { OnOk result (total_rows files.now < 2 ^ 32) }
-    ensures large { IsErrOf result fault.TooLarge → 2 ^ 32 ≤ total_rows files.now }
+    ensures large { IsErrOf result fault.TooLarge ↔ 2 ^ 32 ≤ total_rows files.now }
 {
     if total(files).is_none() {
         return Err(MergeError::TooLarge);
