@@ -1,0 +1,15 @@
+mod SumFacts
+mod KeptFacts
+mod QueryGroups
+mod RowGroupFacts
+mod AscentFacts
+mod OrderFacts
+mod FindFacts
+mod ListFacts
+mod QueryRules
+mod GroupFacts
+mod AggRules
+mod HoldFacts
+mod ExtremeFacts
+mod TupleLists
+mod RuleJoins
