@@ -1,0 +1,9 @@
+//! Tests of a sink whose channel is proved, by its public functions alone.
+#![tactic(auto)]
+
+#[cfg(test)]
+mod beside_tests;
+#[cfg(test)]
+mod made;
+#[cfg(test)]
+mod sinks;

@@ -1,0 +1,129 @@
+//! Sinks of tests, what they are fed, and how they end.
+
+ghost use Rattle.std.specs.Prelude.{◌≡◌, ◌≢◌, ◌∷◌, ◌<◌, ◌≤◌, [], IfOk, IfSome, IsTrue};
+ghost use Rattle.pipe_files_sink.specs.Joined.{IsWritable};
+
+use pipe_columns::{DataChunk, Schema};
+use pipe_io::Output;
+use pipe_writer::{RuledEnd, RuledFilesSink, RuledSender};
+use pipe_writers::{CsvBatchedWriter, SinkWriter, copy_schema};
+use std::alloc::Global;
+use std::sync::Wait;
+use std::test::Fail;
+use std::thread::Threads;
+
+/// A sink of CSV and its one sender.
+type Ruled<O, H> = (RuledFilesSink<CsvBatchedWriter<O>, H>, RuledSender<H>);
+
+/// The one of senders.
+fn one_of<H: Drop>(senders: Vec<RuledSender<H>>) -> Option<RuledSender<H>>
+    ensures { IfSome result (λ s. senders.items ≡ s ∷ []) }
+{
+    let mut senders = senders;
+    if senders.len() == 1 {
+        return senders.pop();
+    }
+    None
+}
+
+/// A sink of CSV with the names in front, in pieces of so many chunks by their numbers, and its one
+/// sender.
+pub(crate) fn one_sender<O, H>(
+    rt: H,
+    alloc: Global,
+    output: O,
+    schema: &Schema,
+    morsels_per_sink: usize,
+) -> Result<Ruled<O, H>, Fail>
+where
+    O: Output + Drop + Send + 'static,
+    H: Threads + Wait + Copy + Send + 'static,
+    requires some { 0 < morsels_per_sink }
+    requires few { morsels_per_sink ≤ 4096 }
+    ensures senders { IfOk result (λ r. r.0.senders ≡ 1) }
+    ensures number { IfOk result (λ r. r.1.number ≡ 0) }
+    ensures channel { IfOk result (λ r. r.1.channel ≡ r.0.channel) }
+    ensures sink_fields { IfOk result (λ r. r.0.fields ≡ schema.now) }
+    ensures fields { IfOk result (λ r. r.1.fields ≡ schema.now) }
+{
+    let fields = copy_schema(alloc, schema)?;
+    let writer = CsvBatchedWriter::new(alloc, output, fields, true);
+    match RuledFilesSink::new(rt, alloc, writer, true, morsels_per_sink, 1) {
+        Ok((sink, senders)) => match one_of(senders) {
+            Some(sender) => Ok((sink, sender)),
+            None => Err("no sender".into()),
+        },
+        Err(_) => Err("no memory".into()),
+    }
+}
+
+/// Whether a chunk has rows, fits a schema, and can be joined with others.
+fn is_taken(schema: &Schema, chunk: &DataChunk) -> bool
+    ensures some { IsTrue result → chunk.now.frame.height ≢ 0 }
+    ensures writable { IsTrue result → IsWritable schema.now chunk.now.frame }
+{
+    chunk.frame.height() != 0 && chunk.frame.height() <= 1 << 20 && chunk.frame.fits(schema)
+}
+
+/// Whether a sender took a chunk.
+fn feed<H: Wait>(sender: &mut RuledSender<H>, schema: &Schema, chunk: DataChunk) -> bool
+    requires { sender.old.fields ≡ schema.now }
+    ensures number { sender.new.number ≡ sender.old.number }
+    ensures channel { sender.new.channel ≡ sender.old.channel }
+    ensures fields { sender.new.fields ≡ sender.old.fields }
+{
+    if !is_taken(schema, &chunk) || sender.sent() > 1 << 20 {
+        return false;
+    }
+    match sender.sink(chunk) {
+        Ok(_) => true,
+        Err(_) => false,
+    }
+}
+
+/// Whether a sender took all chunks.
+pub(crate) fn feed_all<H: Wait>(
+    sender: &mut RuledSender<H>,
+    schema: &Schema,
+    chunks: Vec<DataChunk>,
+) -> bool
+    requires { sender.old.fields ≡ schema.now }
+    ensures number { sender.new.number ≡ sender.old.number }
+    ensures channel { sender.new.channel ≡ sender.old.channel }
+    ensures fields { sender.new.fields ≡ sender.old.fields }
+{
+    let mut all = true;
+    for chunk in chunks {
+        if !feed(sender, schema, chunk) {
+            all = false;
+        }
+    }
+    all
+}
+
+/// How a sink of one sender ends.
+pub(crate) fn ended<W, H>(
+    alloc: Global,
+    sink: RuledFilesSink<W, H>,
+    sender: RuledSender<H>,
+) -> Result<RuledEnd<W>, Fail>
+where
+    W: SinkWriter + Drop,
+    H: Threads + Wait + Copy,
+    requires senders { sink.senders ≡ 1 }
+    requires number { sender.number ≡ 0 }
+    requires channel { sender.channel ≡ sink.channel }
+    requires fields { sender.fields ≡ sink.fields }
+{
+    let senders = vec![in alloc; sender]?;
+    Ok(sink.finalize(senders))
+}
+
+/// Fails a test where what it asks isn't so.
+pub(crate) fn hold(answer: Result<bool, Fail>) -> Result<(), Fail> {
+    match answer {
+        Ok(true) => Ok(()),
+        Ok(false) => Err("it isn't so".into()),
+        Err(fail) => Err(fail),
+    }
+}
