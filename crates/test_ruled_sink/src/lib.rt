@@ -4,6 +4,12 @@
 #[cfg(test)]
 mod beside_tests;
 #[cfg(test)]
+mod fault_tests;
+#[cfg(test)]
 mod made;
 #[cfg(test)]
+mod order_tests;
+#[cfg(test)]
 mod sinks;
+#[cfg(test)]
+mod two_tests;

@@ -5,7 +5,7 @@ ghost use Rattle.pipe_columns.specs.Causes.{HasCause};
 ghost use Rattle.pipe_io.specs.declared.output.OutputError.TheVariants as output_error;
 
 use pipe_columns::{AnyValue, Column, DataChunk, DataFrame, DataType, Field, Schema, Text};
-use pipe_io::{Output, OutputError};
+use pipe_io::{MemoryOutput, Output, OutputError};
 use std::alloc::{AllocError, Global};
 use std::sync::Arc;
 use std::sync::atomic::{AtomicU64, Ordering};
@@ -31,6 +31,16 @@ fn chunk_of(alloc: Global, chunk_index: u32, values: Vec<AnyValue>) -> Result<Da
     Ok(DataChunk { chunk_index, frame })
 }
 
+/// Chunks of a row each, with these numbers and texts.
+pub(crate) fn row_chunks(alloc: Global, rows: &[(u32, &str)]) -> Result<Vec<DataChunk>, Fail> {
+    let mut chunks = Vec::new(alloc);
+    for (number, row) in rows {
+        let values = vec![in alloc; AnyValue::Text(Text::new(alloc, row)?)]?;
+        chunks.push(chunk_of(alloc, *number, values)?)?;
+    }
+    Ok(chunks)
+}
+
 /// A chunk of so many rows without a text.
 fn blank_rows(alloc: Global, chunk_index: u32, rows: usize) -> Result<DataChunk, Fail> {
     let mut values = Vec::new(alloc);
@@ -47,6 +57,11 @@ pub(crate) fn blank_chunks(alloc: Global, count: u32) -> Result<Vec<DataChunk>, 
         chunks.push(blank_rows(alloc, number, 4096)?)?;
     }
     Ok(chunks)
+}
+
+/// An output in memory of which the listed calls fail.
+pub(crate) fn output(alloc: Global, failing: &[u64]) -> Result<MemoryOutput, AllocError> {
+    Ok(MemoryOutput::new(alloc, Vec::from_slice(alloc, failing)?))
 }
 
 /// How often a count is looked at.

@@ -4,9 +4,9 @@ ghost use Rattle.std.specs.Prelude.{◌≡◌, ◌≢◌, ◌∷◌, ◌<◌, �
 ghost use Rattle.pipe_files_sink.specs.Joined.{IsWritable};
 
 use pipe_columns::{DataChunk, Schema};
-use pipe_io::Output;
-use pipe_writer::{RuledEnd, RuledFilesSink, RuledSender};
-use pipe_writers::{CsvBatchedWriter, SinkWriter, copy_schema};
+use pipe_io::{MemoryOutput, Output};
+use pipe_writer::{Arrival, RuledEnd, RuledFilesSink, RuledSender};
+use pipe_writers::{CsvBatchedWriter, SinkWriter, WriteError, copy_schema};
 use std::alloc::Global;
 use std::sync::Wait;
 use std::test::Fail;
@@ -117,6 +117,71 @@ where
 {
     let senders = vec![in alloc; sender]?;
     Ok(sink.finalize(senders))
+}
+
+/// How a sink of CSV in memory ended.
+pub(crate) type Ended = RuledEnd<CsvBatchedWriter<MemoryOutput>>;
+
+/// How a sink of one sender ends that took all of these chunks.
+pub(crate) fn run_one<H>(
+    rt: H,
+    alloc: Global,
+    output: MemoryOutput,
+    schema: &Schema,
+    morsels_per_sink: usize,
+    chunks: Vec<DataChunk>,
+) -> Result<Ended, Fail>
+where
+    H: Threads + Wait + Copy + Send + 'static,
+    requires some { 0 < morsels_per_sink }
+    requires few { morsels_per_sink ≤ 4096 }
+{
+    let (sink, sender) = one_sender(rt, alloc, output, schema, morsels_per_sink)?;
+    let mut sender = sender;
+    if feed_all(&mut sender, schema, chunks) {
+        ended(alloc, sink, sender)
+    } else {
+        Err("refused".into())
+    }
+}
+
+/// Whether arrivals are those of the first chunks of one sender.
+fn are_first(arrivals: &[Arrival]) -> bool {
+    let mut number = 0u64;
+    for arrival in arrivals {
+        if arrival.sender != 0 || arrival.number != number {
+            return false;
+        }
+        number = number.wrapping_add(1);
+    }
+    true
+}
+
+/// Whether a sink has ended well whose sender took so many chunks, with a text.
+pub(crate) fn is_whole(end: Ended, count: usize, text: &[u8]) -> bool {
+    let RuledEnd {
+        arrivals,
+        result,
+        writer,
+    } = end;
+    result.is_ok()
+        && arrivals.len() == count
+        && are_first(arrivals.as_slice())
+        && writer.into_output().bytes() == text
+}
+
+/// Whether a sink tells of a failed output, and has written a front of a text and not all of it.
+pub(crate) fn is_cut(end: Ended, text: &[u8]) -> bool {
+    let RuledEnd {
+        arrivals,
+        result,
+        writer,
+    } = end;
+    let output = writer.into_output();
+    result == Err(WriteError::Output)
+        && are_first(arrivals.as_slice())
+        && output.bytes().len() < text.len()
+        && text.starts_with(output.bytes())
 }
 
 /// Fails a test where what it asks isn't so.
