@@ -1,6 +1,6 @@
 //! A sink with two senders in threads of their own.
 
-ghost use Rattle.std.specs.Prelude.{◌≡◌, ◌+◌, ◌∷◌, ◌×◌, [], IfOk, IfSome};
+ghost use Rattle.std.specs.Prelude.{◌≡◌, ◌∷◌, [], IfOk, IfSome};
 ghost use Rattle.pipe_writer.specs.Sink.{AreAllSenders};
 
 use crate::made::{output, row_chunks, texts};
