@@ -1,6 +1,6 @@
 //! A sink with two senders in threads of their own.
 
-ghost use Rattle.std.specs.Prelude.{◌≡◌, ◌∷◌, [], IfOk, IfSome};
+ghost use Rattle.std.specs.Prelude.{◌≡◌, ◌≤◌, ◌∷◌, [], length, vec_capacity};
 ghost use Rattle.pipe_writer.specs.Sink.{AreAllSenders};
 
 use crate::made::{output, row_chunks, texts};
@@ -10,125 +10,110 @@ use pipe_io::MemoryOutput;
 use pipe_writer::{Arrival, RuledEnd, RuledFilesSink, RuledSender};
 use pipe_writers::{CsvBatchedWriter, SinkWriter, copy_schema};
 use std::alloc::{AllocError, Global};
-use std::snapshot::Snapshot;
 use std::sync::Wait;
 use std::test::Fail;
 use std::thread;
-use std::thread::{Promise, PromisedHandle, Threads};
-
-/// A sink of CSV in memory.
-type Memory<H> = RuledFilesSink<CsvBatchedWriter<MemoryOutput>, H>;
-
-/// What a thread gives back: the sender that it was given.
-#[derive(Drop)]
-struct SameSender<H> {
-    sender: Snapshot<RuledSender<H>>,
-}
-
-impl<H: Drop> Promise<RuledSender<H>> for SameSender<H> {
-    ghost kept_by = { λ p s. (s.number ≡ p.sender.value.number)
-        × (s.channel ≡ p.sender.value.channel) × (s.fields ≡ p.sender.value.fields) };
-}
+use std::thread::Threads;
 
 /// A sender that took chunks.
-fn fed<H: Wait>(sender: RuledSender<H>, schema: Schema, chunks: Vec<DataChunk>) -> RuledSender<H>
-    requires { sender.fields ≡ schema }
+fn fed<H: Wait>(sender: RuledSender<H>, schema: &Schema, chunks: Vec<DataChunk>) -> RuledSender<H>
+    requires { sender.fields ≡ schema.now }
     ensures number { result.number ≡ sender.number }
     ensures channel { result.channel ≡ sender.channel }
     ensures fields { result.fields ≡ sender.fields }
 {
     let mut sender = sender;
-    feed_all(&mut sender, &schema, chunks);
+    feed_all(&mut sender, schema, chunks);
     sender
 }
 
-/// A thread in which a sender takes chunks.
-fn beside<H>(
-    rt: H,
-    sender: RuledSender<H>,
-    schema: Schema,
-    chunks: Vec<DataChunk>,
-) -> Result<PromisedHandle<RuledSender<H>, SameSender<H>>, Fail>
-where
-    H: Threads + Wait + Copy + Send + 'static,
-    requires { sender.fields ≡ schema }
-    ensures { IfOk result (λ h. h.promise.sender.value ≡ sender) }
-{
-    let promise = SameSender {
-        sender: Snapshot::of(&sender),
-    };
-    match thread::spawn_with(&rt, promise, move || fed(sender, schema, chunks)) {
-        Ok(handle) => Ok(handle),
-        Err(_) => Err("no thread".into()),
-    }
-}
-
-/// A thread in which a sender takes chunks of a row each.
-fn rows_beside<H>(
-    rt: H,
-    alloc: Global,
-    sender: RuledSender<H>,
+/// Two senders that took chunks, each in a thread of its own where one can be had.
+fn fed_beside<H>(
+    rt: &H,
+    senders: (RuledSender<H>, RuledSender<H>),
     schema: &Schema,
-    rows: &[(u32, &str)],
-) -> Result<PromisedHandle<RuledSender<H>, SameSender<H>>, Fail>
+    chunks: (Vec<DataChunk>, Vec<DataChunk>),
+) -> (RuledSender<H>, RuledSender<H>)
 where
     H: Threads + Wait + Copy + Send + 'static,
-    requires { sender.fields ≡ schema.now }
-    ensures { IfOk result (λ h. h.promise.sender.value ≡ sender) }
+    requires first { senders.0.fields ≡ schema.now }
+    requires second { senders.1.fields ≡ schema.now }
+    ensures numbers { (result.0.number ≡ senders.0.number) × (result.1.number ≡ senders.1.number) }
+    ensures channels { (result.0.channel ≡ senders.0.channel)
+        × (result.1.channel ≡ senders.1.channel) }
+    ensures fields { (result.0.fields ≡ senders.0.fields) × (result.1.fields ≡ senders.1.fields) }
 {
-    let chunks = row_chunks(alloc, rows)?;
-    let schema = copy_schema(alloc, schema)?;
-    beside(rt, sender, schema, chunks)
+    let (first, second) = senders;
+    let (first_chunks, second_chunks) = chunks;
+    thread::join(
+        rt,
+        move || -> RuledSender<H>
+            requires { first.fields ≡ schema.now }
+            ensures { (result.number ≡ first.entry.number) × (result.channel ≡ first.entry.channel)
+                × (result.fields ≡ first.entry.fields) }
+        { fed(first, schema, first_chunks) },
+        move || -> RuledSender<H>
+            requires { second.fields ≡ schema.now }
+            ensures { (result.number ≡ second.entry.number)
+                × (result.channel ≡ second.entry.channel)
+                × (result.fields ≡ second.entry.fields) }
+        { fed(second, schema, second_chunks) },
+    )
 }
 
 /// The two of senders.
-fn two_of<H: Drop>(senders: Vec<RuledSender<H>>) -> Option<(RuledSender<H>, RuledSender<H>)>
-    ensures { IfSome result (λ r. senders.items ≡ r.0 ∷ r.1 ∷ []) }
+fn two_of<H: Drop>(senders: Vec<RuledSender<H>>) -> (RuledSender<H>, RuledSender<H>)
+    requires { length senders.items ≡ 2 }
+    ensures { senders.items ≡ result.0 ∷ result.1 ∷ [] }
 {
     let mut senders = senders;
-    if senders.len() != 2 {
-        return None;
-    }
-    let second = senders.pop()?;
-    let first = senders.pop()?;
-    Some((first, second))
+    let Some(second) = senders.pop() else {
+        unreachable!()
+    };
+    let Some(first) = senders.pop() else {
+        unreachable!()
+    };
+    (first, second)
 }
 
-/// How a sink of two senders ends.
+/// Room for senders, with these.
+fn gathered<H>(
+    room: Vec<RuledSender<H>>,
+    senders: (RuledSender<H>, RuledSender<H>),
+) -> Vec<RuledSender<H>>
+    requires none { room.items ≡ [] }
+    requires room { 2 ≤ vec_capacity room }
+    ensures { result.items ≡ senders.0 ∷ senders.1 ∷ [] }
+{
+    let (first, second) = senders;
+    let mut room = room;
+    room.push_reserved(first);
+    room.push_reserved(second);
+    room
+}
+
+/// How a sink ends whose two senders took chunks in threads of their own.
 fn ended<W, H>(
-    alloc: Global,
+    rt: &H,
     sink: RuledFilesSink<W, H>,
-    first: RuledSender<H>,
-    second: RuledSender<H>,
-) -> Result<RuledEnd<W>, Fail>
+    senders: Vec<RuledSender<H>>,
+    room: Vec<RuledSender<H>>,
+    schema: &Schema,
+    chunks: (Vec<DataChunk>, Vec<DataChunk>),
+) -> RuledEnd<W>
 where
     W: SinkWriter + Drop,
-    H: Threads + Wait + Copy,
-    requires senders { AreAllSenders sink (first ∷ second ∷ []) }
-{
-    let senders = vec![in alloc; first, second]?;
-    Ok(sink.finalize(senders))
-}
-
-/// How a sink ends whose senders take chunks in threads of their own: a and b, and c.
-fn fed_beside<H>(
-    rt: H,
-    alloc: Global,
-    sink: Memory<H>,
-    first: RuledSender<H>,
-    second: RuledSender<H>,
-    schema: &Schema,
-) -> Result<RuledEnd<CsvBatchedWriter<MemoryOutput>>, Fail>
-where
     H: Threads + Wait + Copy + Send + 'static,
-    requires senders { AreAllSenders sink (first ∷ second ∷ []) }
+    requires senders { AreAllSenders sink senders.items }
     requires fields { sink.fields ≡ schema.now }
+    requires none { room.items ≡ [] }
+    requires room { 2 ≤ vec_capacity room }
 {
-    let first = rows_beside(rt, alloc, first, schema, &[(0, "a"), (1, "b")])?;
-    let second = rows_beside(rt, alloc, second, schema, &[(0, "c")])?;
-    let first = first.join(&rt);
-    let second = second.join(&rt);
-    ended(alloc, sink, first, second)
+    if senders.len() != 2 {
+        return sink.finalize(senders);
+    }
+    let fed = fed_beside(rt, two_of(senders), schema, chunks);
+    sink.finalize(gathered(room, fed))
 }
 
 /// The lines of what arrived.
@@ -165,20 +150,34 @@ fn is_all(alloc: Global, end: RuledEnd<CsvBatchedWriter<MemoryOutput>>) -> Resul
     Ok(result.is_ok() && is_merged(output.bytes()) && output.bytes() == lines.as_slice())
 }
 
-/// Whether a sink of two senders writes what they take.
+/// How a sink of two senders ends that took chunks.
+fn run_two<H>(
+    rt: H,
+    alloc: Global,
+    schema: &Schema,
+    chunks: (Vec<DataChunk>, Vec<DataChunk>),
+) -> Result<RuledEnd<CsvBatchedWriter<MemoryOutput>>, Fail>
+where
+    H: Threads + Wait + Copy + Send + 'static,
+{
+    let room = Vec::with_capacity(alloc, 2)?;
+    let fields = copy_schema(alloc, schema)?;
+    let writer = CsvBatchedWriter::new(alloc, output(alloc, &[])?, fields, false);
+    match RuledFilesSink::new(rt, alloc, writer, false, 1, 2) {
+        Ok((sink, senders)) => Ok(ended(&rt, sink, senders, room, schema, chunks)),
+        Err(_) => Err("no memory".into()),
+    }
+}
+
+/// Whether a sink writes the chunks a and b of one sender and c of another.
 fn writes_both<H>(rt: H, alloc: Global) -> Result<bool, Fail>
 where
     H: Threads + Wait + Copy + Send + 'static,
 {
     let schema = texts(alloc)?;
-    let fields = copy_schema(alloc, &schema)?;
-    let writer = CsvBatchedWriter::new(alloc, output(alloc, &[])?, fields, false);
-    let (sink, senders) = match RuledFilesSink::new(rt, alloc, writer, false, 1, 2) {
-        Ok(made) => made,
-        Err(_) => return Err("no memory".into()),
-    };
-    let (first, second) = two_of(senders).ok_or("no two senders")?;
-    is_all(alloc, fed_beside(rt, alloc, sink, first, second, &schema)?)
+    let first = row_chunks(alloc, &[(0, "a"), (1, "b")])?;
+    let second = row_chunks(alloc, &[(0, "c")])?;
+    is_all(alloc, run_two(rt, alloc, &schema, (first, second))?)
 }
 
 #[test]
