@@ -21,10 +21,11 @@ fn writes<H>(
 where
     H: Threads + Wait + Copy + Send + 'static,
 {
+    let room = Vec::with_capacity(alloc, 1)?;
     let (sink, sender) = one_sender(rt, alloc, output, schema, 1)?;
     let mut sender = sender;
     let written = feed_all(&mut sender, schema, chunks) && is_raised(writes);
-    Ok(ended(alloc, sink, sender)?.result.is_ok() && written)
+    Ok(ended(sink, sender, room).result.is_ok() && written)
 }
 
 /// Whether a sink that counts its writes writes one chunk before it is asked to end.

@@ -1,6 +1,6 @@
 //! Sinks of tests, what they are fed, and how they end.
 
-ghost use Rattle.std.specs.Prelude.{◌≡◌, ◌≢◌, ◌∷◌, ◌<◌, ◌≤◌, [], IfOk, IfSome, IsTrue};
+ghost use Rattle.std.specs.Prelude.{◌≡◌, ◌≢◌, ◌∷◌, ◌<◌, ◌≤◌, [], IfOk, IfSome, IsTrue, vec_capacity};
 ghost use Rattle.pipe_files_sink.specs.Joined.{IsWritable};
 
 use pipe_columns::{DataChunk, Schema};
@@ -101,12 +101,12 @@ pub(crate) fn feed_all<H: Wait>(
     all
 }
 
-/// How a sink of one sender ends.
+/// How a sink of one sender ends, with room for that one.
 pub(crate) fn ended<W, H>(
-    alloc: Global,
     sink: RuledFilesSink<W, H>,
     sender: RuledSender<H>,
-) -> Result<RuledEnd<W>, Fail>
+    room: Vec<RuledSender<H>>,
+) -> RuledEnd<W>
 where
     W: SinkWriter + Drop,
     H: Threads + Wait + Copy,
@@ -114,15 +114,18 @@ where
     requires number { sender.number ≡ 0 }
     requires channel { sender.channel ≡ sink.channel }
     requires fields { sender.fields ≡ sink.fields }
+    requires none { room.items ≡ [] }
+    requires room { 1 ≤ vec_capacity room }
 {
-    let senders = vec![in alloc; sender]?;
-    Ok(sink.finalize(senders))
+    let mut room = room;
+    room.push_reserved(sender);
+    sink.finalize(room)
 }
 
 /// How a sink of CSV in memory ended.
 pub(crate) type Ended = RuledEnd<CsvBatchedWriter<MemoryOutput>>;
 
-/// How a sink of one sender ends that took all of these chunks.
+/// How a sink of one sender ends that was given these chunks.
 pub(crate) fn run_one<H>(
     rt: H,
     alloc: Global,
@@ -136,13 +139,11 @@ where
     requires some { 0 < morsels_per_sink }
     requires few { morsels_per_sink ≤ 4096 }
 {
+    let room = Vec::with_capacity(alloc, 1)?;
     let (sink, sender) = one_sender(rt, alloc, output, schema, morsels_per_sink)?;
     let mut sender = sender;
-    if feed_all(&mut sender, schema, chunks) {
-        ended(alloc, sink, sender)
-    } else {
-        Err("refused".into())
-    }
+    feed_all(&mut sender, schema, chunks);
+    Ok(ended(sink, sender, room))
 }
 
 /// Whether arrivals are those of the first chunks of one sender.
