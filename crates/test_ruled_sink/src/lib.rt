@@ -11,5 +11,3 @@ mod made;
 mod order_tests;
 #[cfg(test)]
 mod sinks;
-#[cfg(test)]
-mod two_tests;
