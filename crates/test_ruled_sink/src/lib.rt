@@ -1,0 +1,13 @@
+//! Tests of a sink whose channel is proved, by its public functions alone.
+#![tactic(auto)]
+
+#[cfg(test)]
+mod beside_tests;
+#[cfg(test)]
+mod fault_tests;
+#[cfg(test)]
+mod made;
+#[cfg(test)]
+mod order_tests;
+#[cfg(test)]
+mod sinks;
