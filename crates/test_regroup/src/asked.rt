@@ -1,0 +1,80 @@
+//! What tests ask: a query of two keys, and chunks of its columns k, g and v.
+
+use pipe_aggs::{AExpr, Arena, IRAggExpr, Node, Query};
+use pipe_columns::{AnyValue, Column, DataChunk, DataFrame, DataType, Field, Schema, Text};
+use std::alloc::{AllocError, Global};
+use std::test::Fail;
+
+/// The columns, all of them numbers of 64 bits.
+const COLUMNS: [&str; 3] = ["k", "g", "v"];
+
+fn added(arena: &mut Arena, expr: AExpr) -> Result<Node, Fail> {
+    match arena.add(expr) {
+        Ok(node) => Ok(node),
+        Err(_) => Err("Arena::add wants memory".into()),
+    }
+}
+
+fn schema_of(alloc: Global) -> Result<Schema, AllocError> {
+    let mut fields = Vec::new(alloc);
+    for name in COLUMNS {
+        let name = Text::new(alloc, name)?;
+        fields.push(Field {
+            name,
+            dtype: DataType::Int64,
+        })?;
+    }
+    Ok(Schema::new(fields))
+}
+
+/// Adds an aggregate of v by a name.
+fn named_agg(alloc: Global, arena: &mut Arena, agg: IRAggExpr, name: &str) -> Result<Node, Fail> {
+    let value = added(arena, AExpr::Agg(agg))?;
+    added(arena, AExpr::Alias(value, Text::new(alloc, name)?))
+}
+
+/// The sum s, the first f and the mean m of v by k and g.
+pub(crate) fn three_aggregates(alloc: Global) -> Result<Query, Fail> {
+    let mut arena = Arena::new(alloc);
+    let k = added(&mut arena, AExpr::Column(Text::new(alloc, "k")?))?;
+    let g = added(&mut arena, AExpr::Column(Text::new(alloc, "g")?))?;
+    let v = added(&mut arena, AExpr::Column(Text::new(alloc, "v")?))?;
+    let sum = named_agg(alloc, &mut arena, IRAggExpr::Sum(v), "s")?;
+    let first = named_agg(alloc, &mut arena, IRAggExpr::First(v), "f")?;
+    let mean = named_agg(alloc, &mut arena, IRAggExpr::Mean(v), "m")?;
+    Ok(Query {
+        schema: schema_of(alloc)?,
+        arena,
+        keys: vec![in alloc; k, g]?,
+        aggs: vec![in alloc; sum, first, mean]?,
+        slice: None,
+        maintain_order: false,
+    })
+}
+
+/// A column of numbers.
+fn column_of(alloc: Global, name: &str, numbers: &[i128]) -> Result<Column, Fail> {
+    let mut values = Vec::new(alloc);
+    for number in numbers {
+        values.push(AnyValue::Int(*number))?;
+    }
+    match Column::new(Text::new(alloc, name)?, DataType::Int64, false, values) {
+        Some(column) => Ok(column),
+        None => Err("no column".into()),
+    }
+}
+
+/// A chunk of these numbers, column by column.
+pub(crate) fn chunk_of(alloc: Global, numbers: [&[i128]; 3]) -> Result<DataChunk, Fail> {
+    let mut columns = Vec::new(alloc);
+    for i in 0..3 {
+        columns.push(column_of(alloc, COLUMNS[i], numbers[i])?)?;
+    }
+    match DataFrame::new(numbers[0].len(), columns) {
+        Some(frame) => Ok(DataChunk {
+            chunk_index: 0,
+            frame,
+        }),
+        None => Err("no frame".into()),
+    }
+}

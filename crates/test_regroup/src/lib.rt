@@ -1,0 +1,5 @@
+//! Tests of saved states that are merged.
+#![tactic(auto)]
+
+mod asked;
+mod merged_tests;
