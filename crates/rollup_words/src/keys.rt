@@ -1,6 +1,8 @@
 //! How the key columns that a word names are found.
 
 ghost use Rattle.std.specs.Prelude.{◌≡◌, IfErr, IfOk, None, Some, option_map};
+ghost use Rattle.std.specs.List.{position};
+ghost use Rattle.std.specs.Str.{bytes_eq};
 ghost use Rattle.serde_json.specs.Read.{read};
 ghost use Rattle.serde_json.specs.View.{items_view, view};
 ghost use Rattle.pipe_aggs.specs.Faults.{first_fault};
@@ -15,12 +17,18 @@ use pipe_columns::{Field, Text};
 use serde_json::Value;
 use std::alloc::{AllocError, Global};
 
+/// The position of the field of a name.
+fn position_of(fields: &[Field], name: &str) -> Option<usize>
+    ensures { result ≡ position (λ f. bytes_eq f.name name.now) fields.now }
+{
+    fields.iter().position(|field| field.name.as_str() == name)
+}
+
 /// The position of the field whose name a JSON value is.
 fn position_named(fields: &[Field], json: &Value) -> Option<usize>
     ensures { result ≡ position_named fields.now (view json.now) }
 {
-    let name = json.as_str()?;
-    fields.iter().position(|field| field.name.as_str() == name)
+    position_of(fields, json.as_str()?)
 }
 
 /// The positions of the fields whose names the items of a list are.

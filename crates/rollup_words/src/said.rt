@@ -1,12 +1,21 @@
 //! What words say, before a query or keys are looked at.
 
 ghost use Rattle.std.specs.Prelude.{◌≡◌, IfNone, IfSome, None};
+ghost use Rattle.std.specs.Char.{is_ascii_digit};
+ghost use Rattle.std.specs.List.{list_all};
 ghost use Rattle.rollup_words.specs.Said.{position_in, said, said_by};
 
 use pipe_columns::Text;
 
 /// The most digits of a position.
 const DIGITS: usize = 10;
+
+/// Whether all bytes are digits.
+fn are_digits(bytes: &[u8]) -> bool
+    ensures { result ≡ list_all is_ascii_digit bytes.now }
+{
+    bytes.iter().all(|byte| byte.is_ascii_digit())
+}
 
 /// The position that a word writes.
 pub(crate) fn position_in(word: &str) -> Option<u32>
@@ -16,7 +25,7 @@ pub(crate) fn position_in(word: &str) -> Option<u32>
     if bytes.is_empty() || bytes.len() > DIGITS {
         return None;
     }
-    if !bytes.iter().all(|byte| byte.is_ascii_digit()) {
+    if !are_digits(bytes) {
         return None;
     }
     word.parse::<u32>().ok()
