@@ -1,7 +1,7 @@
 -- States of chunks that are taken one by one.
 use Rattle.std.proofs.Common.{◌≡◌, ◌∙◌, ℕ, ◌+◌, ◌<◌, List, [], ◌∷◌, ◌++◌, length, map, take, drop, get_or, sym, ap, subst, arith}
 use Rattle.std.specs.declared.snapshot.Snapshot.{Snapshot}
-use Rattle.std.proofs.lemmas.List.{length-append, length-map, map-append, take-append-drop, take_more}
+use Rattle.std.proofs.lemmas.List.{append_assoc, length-append, length-map, map-append, take-append-drop, take_more}
 use Rattle.std.proofs.lemmas.List.Sums.{sum_by-append}
 use Rattle.pipe_columns.specs.declared.data_chunk.DataChunk.{DataChunk}
 use Rattle.pipe_groups.specs.Groups.{Group}
@@ -45,14 +45,41 @@ file-fair q first taken end rows few e is = subst IsFair (sym (file-is q first t
 
 -- ---- chunks in turn
 
--- the first so many of few chunks are few
-pub few-front : (first : ℕ) (chunks : List DataChunk) (i : ℕ) (d : DataChunk) → AreFew first chunks → i < length chunks → AreFew first (take i chunks ++ get_or chunks i d ∷ [])
-few-front first chunks i d few lt =
-    let front : List DataChunk = take (i + 1) chunks in
-    let whole : front ++ drop (i + 1) chunks ≡ chunks = take-append-drop (i + 1) chunks in
-    let rows = sum_by-append (λ (c : DataChunk). c.frame.height) front (drop (i + 1) chunks) in
-    let all = ap total_height whole in
-    let count = length-append front (drop (i + 1) chunks) in
-    let many = ap (λ (l : List DataChunk). length l) whole in
-    subst (AreFew first) (take_more chunks i d lt)
-    (record { rows = omega (arith, few.rows, rows, all); positions = omega (arith, few.positions, count, many) })
+-- the front of few chunks is few
+pub few-before : (first : ℕ) (front rest : List DataChunk) → AreFew first (front ++ rest) → AreFew first front
+few-before first front rest few =
+    let rows = sum_by-append (λ (c : DataChunk). c.frame.height) front rest in
+    let count = length-append front rest in
+    record { rows = omega (arith, few.rows, rows); positions = omega (arith, few.positions, count) }
+
+-- one chunk more behind some, and the first of others
+taken-next : (taken chunks : List DataChunk) (i : ℕ) (d : DataChunk) → i < length chunks → (taken ++ take i chunks) ++ get_or chunks i d ∷ [] ≡ taken ++ take (i + 1) chunks
+taken-next taken chunks i d lt = append_assoc taken (take i chunks) (get_or chunks i d ∷ []) ∙ ap (λ (l : List DataChunk). taken ++ l) (sym (take_more chunks i d lt))
+
+-- where all are few, these are few
+pub few-turn : (first : ℕ) (taken chunks now : List DataChunk) (i : ℕ) (d : DataChunk) → AreFew first (taken ++ chunks) → i < length chunks → now ≡ taken ++ take i chunks
+    → AreFew first (now ++ get_or chunks i d ∷ [])
+few-turn first taken chunks now i d few lt is =
+    let whole : taken ++ chunks ≡ (taken ++ take (i + 1) chunks) ++ drop (i + 1) chunks =
+    ap (λ (l : List DataChunk). taken ++ l) (sym (take-append-drop (i + 1) chunks)) ∙ sym (append_assoc taken (take (i + 1) chunks) (drop (i + 1) chunks)) in
+    let front = few-before first (taken ++ take (i + 1) chunks) (drop (i + 1) chunks) (subst (AreFew first) whole few) in
+    subst (AreFew first) (sym (taken-next taken chunks i d lt) ∙ ap (λ (l : List DataChunk). l ++ get_or chunks i d ∷ []) (sym is)) front
+
+-- and taken
+pub turn-taken : (taken chunks now more : List DataChunk) (i : ℕ) (d : DataChunk) → i < length chunks → now ≡ taken ++ take i chunks → more ≡ now ++ get_or chunks i d ∷ [] → more ≡ taken ++ take (i + 1) chunks
+turn-taken taken chunks now more i d lt is next = next ∙ ap (λ (l : List DataChunk). l ++ get_or chunks i d ∷ []) is ∙ taken-next taken chunks i d lt
+
+-- ---- room
+
+-- some chunks more are few behind others exactly where their rows and their number are
+pub few-behind : (first : ℕ) (taken more : List DataChunk) → total_height taken + total_height more < 2 ^ 32 → first + length taken + length more < 2 ^ 32 → AreFew first (taken ++ more)
+few-behind first taken more rows number =
+    let height = sum_by-append (λ (c : DataChunk). c.frame.height) taken more in
+    let count = length-append taken more in
+    record { rows = omega (arith, rows, height); positions = omega (arith, number, count) }
+
+pub behind-few : (first : ℕ) (taken more : List DataChunk) → AreFew first (taken ++ more) → (total_height taken + total_height more < 2 ^ 32) × (first + length taken + length more < 2 ^ 32)
+behind-few first taken more few =
+    let height = sum_by-append (λ (c : DataChunk). c.frame.height) taken more in
+    let count = length-append taken more in
+    (omega (arith, few.rows, height), omega (arith, few.positions, count))
