@@ -1,9 +1,10 @@
 -- What the states that files tell come to, rolled up by some keys, and why they come to nothing.
-use Rattle.std.specs.Prelude.{◌≡◌, ◌<◌, ◌≤◌, ◌+◌, ◌^◌, ◌⊎◌, ℕ, List, Option, ⊤}
+use Rattle.std.specs.Prelude.{◌≡◌, ◌<◌, ◌+◌, ◌^◌, ◌⊎◌, ℕ, List, Option, ⊤}
 use Rattle.pipe_columns.specs.Frame.{FrameData}
 use Rattle.pipe_io.specs.Files.{Files, HasNoFile, IsLarger}
 use Rattle.pipe_io.specs.declared.whole_file.TheConstants.{MOST_FILE_BYTES}
 use Rattle.pipe_model.specs.Query.{QueryTree}
+use Rattle.pipe_regroup.specs.Added.{AreTooLarge}
 use Rattle.pipe_states.specs.Regrouped.{regrouped}
 use Rattle.pipe_states.specs.States.{StateSeen}
 use Rattle.pipe_states.specs.Together.{IsFirstOverlap, NoneOverlap, total_rows}
@@ -37,8 +38,7 @@ pub record AreTooMany (q : QueryTree) (told : Option Files) (names : List (List 
     : Type 0 where
   pub states : List StateSeen
   pub tell : TellStates q told names states
-  pub apart : NoneOverlap states
-  pub many : 2 ^ 32 ≤ total_rows states
+  pub large : AreTooLarge states
 
 -- the first file that tells no state has more bytes than are read at once
 abbrev pub HasLargeFile : QueryTree → Option Files → List (List ℕ) → Type 0

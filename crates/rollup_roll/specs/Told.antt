@@ -1,5 +1,6 @@
 -- What files tell: each the state of a query whose text its bytes are, or none.
-use Rattle.std.specs.Prelude.{◌≡◌, ◌≤◌, ◌+◌, ℕ, List, [], ◌∷◌, ◌++◌, length, Option}
+use Rattle.std.specs.Prelude.{◌≡◌, ◌≤◌, ◌+◌, ℕ, List, ◌∷◌, ◌++◌, length, Option}
+use Rattle.std.specs.List.{AllZip}
 use Rattle.pipe_io.specs.Files.{Files, IsWhole}
 use Rattle.pipe_io.specs.declared.whole_file.TheConstants.{MOST_FILE_BYTES}
 use Rattle.pipe_model.specs.Query.{QueryTree}
@@ -17,11 +18,7 @@ pub record TellsState
 
 -- the files of some names tell these states, each its own, in order
 abbrev pub TellStates : QueryTree → Option Files → List (List ℕ) → List StateSeen → Type 0
-TellStates q told [] [] = Unit {0}
-TellStates q told (name ∷ names) (s ∷ states) =
-    TellsState q told name s × TellStates q told names states
-TellStates q told [] (s ∷ states) = ⊥
-TellStates q told (name ∷ names) [] = ⊥
+TellStates q told names states = AllZip (TellsState q told) names states
 
 -- the file of a name tells no state: its bytes, no more than are read at once, are the text of none
 pub record TellsNone (q : QueryTree) (told : Option Files) (name : List ℕ) : Type 0 where

@@ -18,21 +18,21 @@ use pipe_io::InputFiles;
 use pipe_regroup::{RegroupError, Regrouping};
 use std::alloc::Global;
 
-/// Adds the states that the files of some names tell, each read alone.
-fn add_files<I: InputFiles>(
+/// Adds the states that the files of some names tell, one after another.
+fn add_files<'a, I: InputFiles>(
     alloc: Global,
     query: &CheckedQuery<'_>,
-    regrouping: &mut Regrouping<'_>,
+    regrouping: Regrouping<'a>,
     input: &mut I,
     names: &[Text],
-) -> Result<(), RollError>
-    requires query { regrouping.old.query ≡ query.now }
-    requires none { regrouping.old.files ≡ [] }
+) -> Result<Regrouping<'a>, RollError>
+    requires query { regrouping.query ≡ query.now }
+    requires none { regrouping.files ≡ [] }
     ensures told { I.told input.new ≡ I.told input.old }
-    ensures query { OnOk result (regrouping.new.query ≡ regrouping.old.query) }
-    ensures keep { OnOk result (regrouping.new.keep ≡ regrouping.old.keep) }
-    ensures tell { OnOk result (TellStates (query_tree query.now) (I.told input.old) names.now
-        regrouping.new.files) }
+    ensures query { IfOk result (λ r. r.query ≡ query.now) }
+    ensures keep { IfOk result (λ r. r.keep ≡ regrouping.entry.keep) }
+    ensures tell { IfOk result (λ r. TellStates (query_tree query.now) (I.told input.old) names.now
+        r.files) }
     ensures unread { IfErr result
         (λ e. AreUnread e (query_tree query.now) (I.told input.old) names.now) }
     ensures tried { TriedFront (I.tried input.old) (I.tried input.new) names.now }
@@ -40,11 +40,12 @@ fn add_files<I: InputFiles>(
     ensures cause { HasCause (I.faults input.old) (I.faults input.new)
         (IsErrOf result fault.Input) }
 {
+    let mut regrouping = regrouping;
     for i in 0..names.len() {
         let state = read_told(alloc, query, input, &names[i], i + 1)?;
-        regrouping.add(&state)?;
+        regrouping = regrouping.add(alloc, &state)?;
     }
-    Ok(())
+    Ok(regrouping)
 }
 
 /// The states that the files of some names tell, regrouped by the keys at some positions. One file is
@@ -67,9 +68,9 @@ pub fn roll_files<'a, I: InputFiles>(
     ensures cause { HasCause (I.faults input.old) (I.faults input.new)
         (IsErrOf result fault.Input) }
 {
-    let mut regrouping = Regrouping::begin(alloc, query, keep)?;
-    add_files(alloc, query, &mut regrouping, input, names)?;
-    match regrouping.finish() {
+    let begun = Regrouping::begin(alloc, query, keep)?;
+    let regrouping = add_files(alloc, query, begun, input, names)?;
+    match regrouping.finish(alloc) {
         Ok(frame) => Ok(frame),
         Err(RegroupError::Overlap { file }) => Err(RollError::Overlap { file: file + 1 }),
         Err(RegroupError::TooLarge) => Err(RollError::TooLarge),
