@@ -21,7 +21,7 @@ meets ranges first end = list_any (λ r. share_number r.first r.end first end) r
 -- ranges have the numbers of others and of one more
 abbrev pub HaveNumbersOf : List Range → ℕ → ℕ → List Range → Type 0
 HaveNumbersOf old first end new =
-    (f e : ℕ) → meets new f e ≡ (meets old f e || share_number first end f e)
+    (f e : ℕ) → meets new f e ≡ (share_number first end f e || meets old f e)
 
 -- ranges have the numbers of states
 abbrev pub HaveNumbers : List StateSeen → List Range → Type 0

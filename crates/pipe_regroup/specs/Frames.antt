@@ -1,8 +1,8 @@
 -- Of the proofs alone: the frame of groups, whose values are taken out column by column.
-use Rattle.std.specs.Prelude.{ℕ, ◌++◌, List, map, All}
+use Rattle.std.specs.Prelude.{ℕ, ◌++◌, List, map, All, set, option_to_list}
 use Rattle.std.specs.List.{flat_map, slice_get}
-use Rattle.std.specs.Option.{option_to_list}
 use Rattle.pipe_columns.specs.declared.any_value.AnyValue.{AnyValue}
+use Rattle.pipe_columns.specs.declared.any_value.AnyValue.TheVariants as av
 use Rattle.pipe_columns.specs.declared.schema.Field.{Field}
 use Rattle.pipe_columns.specs.Frame.{value_at}
 use Rattle.pipe_spill.specs.KeyTypes.{IsTuple}
@@ -16,9 +16,13 @@ fields_at fields positions = flat_map (λ i. option_to_list (slice_get fields i)
 abbrev pub values_of : Group → List AnyValue
 values_of g = g.key.items ++ g.results.items
 
--- the values at a place of the rows of groups
-abbrev pub values_at : ℕ → List Group → List AnyValue
-values_at place groups = map (λ g. value_at (values_of g) place) groups
+-- the values at a place of rows
+abbrev pub values_at : ℕ → List (List AnyValue) → List AnyValue
+values_at place rows = map (λ row. value_at row place) rows
+
+-- a row without the value at a place
+abbrev pub without : ℕ → List AnyValue → List AnyValue
+without place row = set row place av.Null
 
 -- the rows of groups have values of the types of fields
 abbrev pub AreRowsOf : List Field → List Group → Type 0

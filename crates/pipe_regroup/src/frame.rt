@@ -1,26 +1,35 @@
 //! The frame of groups: a row for each, its key and then its results.
 
-ghost use Rattle.std.specs.Prelude.{◌≡◌, ◌+◌, drop, IfOk, length, map, OnOk};
+ghost use Rattle.std.specs.Prelude.{◌≡◌, ◌<◌, false, IfOk, length, map, OnOk, set};
+ghost use Rattle.pipe_columns.specs.declared.any_value.AnyValue.TheVariants as av;
 ghost use Rattle.pipe_columns.specs.Frame.{AreOfType, frame_of, value_at};
-ghost use Rattle.pipe_regroup.specs.Frames.{AreRowsOf, values_at, values_of};
+ghost use Rattle.pipe_regroup.specs.Frames.{AreRowsOf, values_at, values_of, without};
 
 use crate::group::Group;
 use pipe_columns::{AnyValue, Column, DataFrame, Field, Schema};
 use std::alloc::{AllocError, Global};
 use std::mem;
 
+/// Takes the value at an index out, and leaves a null.
+fn take_out(values: &mut [AnyValue], index: usize) -> AnyValue
+    requires { index < length values.old }
+    ensures value { result ≡ value_at values.old index }
+    ensures rest { values.new ≡ set values.old index av.Null }
+{
+    mem::replace(&mut values[index], AnyValue::Null)
+}
+
 /// Takes the value at a place of a group's row out, null past the last.
 fn take_value(group: &mut Group, place: usize) -> AnyValue
     ensures value { result ≡ value_at (values_of group.old) place }
-    ensures rest { drop (place + 1) (values_of group.new)
-        ≡ drop (place + 1) (values_of group.old) }
+    ensures rest { values_of group.new ≡ without place (values_of group.old) }
 {
     let width = group.key.len();
     if place < width {
-        return mem::replace(&mut group.key[place], AnyValue::Null);
+        return take_out(&mut group.key, place);
     }
     if place - width < group.results.len() {
-        return mem::replace(&mut group.results[place - width], AnyValue::Null);
+        return take_out(&mut group.results, place - width);
     }
     AnyValue::Null
 }
@@ -31,9 +40,9 @@ fn take_values(
     groups: &mut [Group],
     place: usize,
 ) -> Result<Vec<AnyValue>, AllocError>
-    ensures values { IfOk result (λ values. values.items ≡ values_at place groups.old) }
-    ensures rest { OnOk result (map (λ g. drop (place + 1) (values_of g)) groups.new
-        ≡ map (λ g. drop (place + 1) (values_of g)) groups.old) }
+    ensures values { IfOk result (λ v. v.items ≡ values_at place (map values_of groups.old)) }
+    ensures rest { OnOk result
+        (map values_of groups.new ≡ map (without place) (map values_of groups.old)) }
 {
     let mut values = Vec::with_capacity(alloc, groups.len())?;
     for i in 0..groups.len() {

@@ -1,7 +1,8 @@
 //! Ranges of positions, in order.
 
-ghost use Rattle.std.specs.Prelude.{◌≡◌, ◌≤◌, [], IfOk, IsTrue, not};
-ghost use Rattle.pipe_regroup.specs.Covered.{HaveNumbersOf, meets};
+ghost use Rattle.std.specs.Prelude.{◌≡◌, ◌≤◌, ◌<◌, ℕ, [], false, IfOk, IsTrue, length, not, slice_index_or};
+ghost use Rattle.pipe_regroup.specs.Covered.{AreSpread, HaveNumbersOf, meets};
+ghost use Rattle.pipe_regroup.specs.declared.ranges.Range.{Range};
 
 use std::alloc::{AllocError, Global};
 use std::marker::Model;
@@ -11,6 +12,31 @@ use std::marker::Model;
 pub struct Range {
     pub first: u32,
     pub end: u32,
+}
+
+/// How many ranges end at a number or before it.
+fn count_before(ranges: &[Range], number: u32) -> usize
+    requires { AreSpread 0 ranges.now }
+    ensures bound { result ≤ length ranges.now }
+    ensures before { (k : ℕ) (d : Range) → k < result → k < length ranges.now
+        → (slice_index_or ranges.now k d).end ≤ number }
+    ensures behind { (d : Range) → result < length ranges.now
+        → number < (slice_index_or ranges.now result d).end }
+{
+    ranges.partition_point(|range| range.end <= number)
+}
+
+/// Whether there is a range at a place, and it begins before a number.
+fn begins_before(ranges: &[Range], place: usize, number: u32) -> bool
+    ensures yes { IsTrue result → (place < length ranges.now)
+        × ((d : Range) → (slice_index_or ranges.now place d).first < number) }
+    ensures no { result ≡ false → (d : Range) → place < length ranges.now
+        → number ≤ (slice_index_or ranges.now place d).first }
+{
+    match ranges.get(place) {
+        Some(range) => range.first < number,
+        None => false,
+    }
 }
 
 /// Ranges of which no two share a number, in order.
@@ -51,8 +77,8 @@ impl Ranges {
         if first == end {
             return Ok(true);
         }
-        let place = self.items.partition_point(|range| range.end <= first);
-        if place < self.items.len() && self.items[place].first < end {
+        let place = count_before(&self.items, first);
+        if begins_before(&self.items, place, end) {
             return Ok(false);
         }
         self.items.insert(place, Range { first, end })?;
