@@ -1,3 +1,6 @@
 pub mod Rules
 pub mod Groups
 pub mod Regrouping
+pub mod Covered
+pub mod Frames
+pub mod Added

@@ -1,10 +1,17 @@
-//! Saved states merged into one.
+//! Saved states regrouped by some of their keys, and merged into one.
 #![tactic(auto)]
 
+mod coverage;
+mod frame;
 mod group;
 mod join;
+mod kept_fields;
 mod merge;
 mod merge_error;
+mod ranges;
+mod regroup;
+mod regroup_error;
+mod regrouping;
 mod row_groups;
 mod rule;
 mod setup;
@@ -12,3 +19,6 @@ mod total;
 
 pub use merge::merge_files;
 pub use merge_error::MergeError;
+pub use regroup::regroup;
+pub use regroup_error::RegroupError;
+pub use regrouping::Regrouping;
