@@ -6,7 +6,7 @@ ghost use Rattle.pipe_io.specs.Tried.{TriedFront};
 ghost use Rattle.rollup_words.specs.Asked.{asked, files_asked, is_refused};
 ghost use Rattle.rollup_answer.specs.Faults.{IsCaused, status_of};
 ghost use Rattle.rollup_answer.specs.Headline.{IsBegun, IsWritten};
-ghost use Rattle.rollup_answer.specs.Inside.{EndsRefused, IsBefore, IsOfOutput};
+ghost use Rattle.rollup_answer.specs.Inside.{EndsRefused, IsBefore};
 ghost use Rattle.rollup_answer.specs.Status.{ComesFor, HasNoFault, is_refusal, is_status, is_unwritten, IsRefusalOf, ReportsFault, ReportsFront};
 ghost use Rattle.rollup_answer.specs.declared.fault.RollupFault.{RollupFault};
 ghost use Rattle.rollup_answer.specs.declared.fault.RollupFault.TheVariants as fault;
@@ -42,8 +42,10 @@ fn run<I: InputFiles, O: Output, H: Threads + Sync>(
         (files_asked (asked words.now)) }
     ensures output_failed { result ≡ Some fault.OutputFailed
         → Rose (O.faults output.old) (O.faults output.new) }
-    ensures begun { IfSome result (λ f. IsOfOutput f → (output.new ≡ output.old)
-        ⊎ IsBegun (asked words.now) (I.told input.old) (O.told output.old) (O.told output.new)) }
+    ensures begun { result ≡ Some fault.OutputFailed → IsBegun (asked words.now) (I.told input.old)
+        (O.told output.old) (O.told output.new) }
+    ensures memory { result ≡ Some fault.Memory → (output.new ≡ output.old)
+        ⊎ IsBegun (asked words.now) (I.told input.old) (O.told output.old) (O.told output.new) }
     ensures untouched { IfSome result (λ f. IsBefore f → output.new ≡ output.old) }
     ensures refused { EndsRefused (asked words.now) result }
     ensures unread { IsTrue (is_refused (asked words.now)) → input.new ≡ input.old }
@@ -107,8 +109,8 @@ pub fn run_rollup<I: InputFiles, O: Output, E: Output, H: Threads + Sync>(
         → Rose (O.faults output.old) (O.faults output.new) }
 
     // Before a write that fails a front of the text is written, and nothing with any other fault.
-    ensures output_begun { result ≡ OUTPUT_FAILED → (output.new ≡ output.old)
-        ⊎ IsBegun (asked words.now) (I.told input.old) (O.told output.old) (O.told output.new) }
+    ensures output_begun { result ≡ OUTPUT_FAILED → IsBegun (asked words.now) (I.told input.old)
+        (O.told output.old) (O.told output.new) }
     ensures memory_begun { result ≡ NO_MEMORY → (output.new ≡ output.old)
         ⊎ IsBegun (asked words.now) (I.told input.old) (O.told output.old) (O.told output.new) }
     ensures untouched { IsTrue (is_unwritten result) → output.new ≡ output.old }
