@@ -1,5 +1,5 @@
 -- Causes of faults of words and files exclude one another, and what is owed where there is none.
-use Rattle.std.proofs.Common.{◌≡◌, ◌∙◌, ◌<◌, ◌≤◌, ◌^◌, ℕ, Bool, true, false, List, Option, Some, None, refl, sym, ap, subst, arith, inl, inr}
+use Rattle.std.proofs.Common.{◌≡◌, ◌∙◌, ℕ, true, false, List, Option, Some, None, refl, sym, ap, subst, arith, inl, inr}
 use Rattle.std.specs.Prelude.{◌⊎◌}
 use Rattle.std.proofs.lemmas.Bool.{false≢true}
 use Rattle.std.proofs.lemmas.Option.{none-some}
@@ -12,8 +12,8 @@ use Rattle.pipe_io.specs.declared.whole_file.TheConstants.{MOST_FILE_BYTES}
 use Rattle.pipe_model.specs.Query.{QueryTree}
 use Rattle.pipe_source.specs.CsvChunks.{misfit, Stop, too_large}
 use Rattle.pipe_states.specs.States.{StateSeen}
-use Rattle.pipe_states.specs.Together.{IsFirstOverlap, NoneOverlap, total_rows}
-use Rattle.rollup_roll.specs.Rolled.{AreRolled, AreTooMany, HasLargeFile, IsRefusal, OverlapAt}
+use Rattle.pipe_states.specs.Together.{NoneOverlap, total_rows}
+use Rattle.rollup_roll.specs.Rolled.{AreRolled, AreTooMany, IsRefusal, OverlapAt}
 use Rattle.rollup_roll.specs.Told.{TellsNone, TellStates, TellUpTo}
 use Rattle.rollup_roll.specs.declared.roll_error.RollError.{RollError}
 use Rattle.rollup_roll.specs.declared.roll_error.RollError.TheVariants as roll_error

@@ -1,5 +1,5 @@
 -- How a command on saved states ends.
-use Rattle.std.proofs.Common.{◌≡◌, ◌∙◌, ℕ, Bool, true, false, List, Option, Some, None, refl, sym, ap, subst, arith, inl, inr}
+use Rattle.std.proofs.Common.{◌≡◌, ◌∙◌, ℕ, true, List, Option, Some, None, refl, sym, ap, subst, arith, inl, inr}
 use Rattle.std.specs.Prelude.{◌⊎◌, IfSome, IsSome, unwrap_or}
 use Rattle.std.proofs.lemmas.Bool.{false≢true}
 use Rattle.pipe_csv.specs.declared.csv_error.CsvError.{CsvError}
@@ -14,7 +14,7 @@ use Rattle.rollup_words.specs.declared.refusal.Refusal.{Refusal}
 use Rattle.rollup_words.specs.declared.refusal.Refusal.TheVariants as refusal
 use Rattle.tool_shell.specs.declared.status.TheConstants.{DONE, NO_MEMORY, OUTPUT_FAILED}
 use Rattle.rollup_answer.specs.Faults.{IsCaused, read_status, refusal_status, roll_status, status_of}
-use Rattle.rollup_answer.specs.Headline.{IsOwed, IsWritten}
+use Rattle.rollup_answer.specs.Headline.{IsWritten}
 use Rattle.rollup_answer.specs.Inside.{ask_fault, EndsRefused, IsBefore, IsOfOutput}
 use Rattle.rollup_answer.specs.Status.{ComesFor, is_failure, IsRefusalOf}
 use Rattle.rollup_answer.specs.declared.fault.RollupFault.{RollupFault}
