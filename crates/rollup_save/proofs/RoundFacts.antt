@@ -3,8 +3,9 @@ use Rattle.std.proofs.Common.{◌≡◌, ◌≢◌, ◌∙◌, ◌+◌, ◌<◌,
 use Rattle.std.specs.List.{All}
 use Rattle.std.specs.Option.{IfSome}
 use Rattle.std.proofs.lemmas.Bool.{and_from, and_parts, false_from_ne_true}
-use Rattle.std.proofs.lemmas.List.{append_assoc, append-nil}
+use Rattle.std.proofs.lemmas.List.{append_assoc, append-nil, length-append}
 use Rattle.std.proofs.lemmas.List.Elements.{All-append, All-nil}
+use Rattle.std.proofs.lemmas.List.Sums.{sum_by-append}
 use Rattle.pipe_columns.specs.declared.data_chunk.DataChunk.{DataChunk}
 use Rattle.pipe_columns.specs.declared.schema.Field.{Field}
 use Rattle.pipe_columns.specs.Frame.{FitsSchema}
@@ -13,7 +14,6 @@ use Rattle.pipe_csv.specs.declared.csv_error.CsvError.TheVariants as csv_error
 use Rattle.pipe_io.specs.Files.{Files}
 use Rattle.pipe_model.specs.Rows.{total_height}
 use Rattle.pipe_saving.specs.Refusals.{AllFit, AreFew}
-use Rattle.pipe_saving.proofs.SaveFacts.{few-before}
 use Rattle.pipe_source.specs.CsvChunks.{chunks_then, CsvChunks, no_more, Stop, too_large}
 use Rattle.pipe_source.specs.Reader.{chunks_left, ReaderState}
 use Rattle.pipe_source.specs.Rounds.{StopsWithin}
@@ -31,6 +31,13 @@ few-false : (first : ℕ) (chunks : List DataChunk) → (AreFew first chunks →
 few-false first chunks many = false_from_ne_true (are_few first chunks) (λ is.
     let both = and_parts (nat_lt (total_height chunks) (2 ^ 32)) (nat_lt (first + length chunks) (2 ^ 32)) is in
     many (record { rows = ltb-true (total_height chunks) (2 ^ 32) both.0; positions = ltb-true (first + length chunks) (2 ^ 32) both.1 }))
+
+-- the front of few chunks is few
+few-before : (first : ℕ) (front rest : List DataChunk) → AreFew first (front ++ rest) → AreFew first front
+few-before first front rest few =
+    let rows = sum_by-append (λ (c : DataChunk). c.frame.height) front rest in
+    let count = length-append front rest in
+    record { rows = omega (arith, few.rows, rows); positions = omega (arith, few.positions, count) }
 
 -- few chunks end where they stop
 pub end-few : (first : ℕ) (chunks : List DataChunk) (stop : Option Stop) → AreFew first chunks → end_of first (record { chunks = chunks; stop = stop }) ≡ stop

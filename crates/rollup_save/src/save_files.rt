@@ -79,6 +79,15 @@ pub fn save_files<I: InputFiles, H: Threads + Sync>(
     let mut checked = checked_of(alloc, &query)?;
     checked.hash_under(hash_keys);
     let most = threads.saturating_mul(CHUNKS_OF_THREAD);
-    let file = save_left(rt, alloc, &checked, first, input, &mut reader, most, threads)?;
+    let file = save_left(
+        rt,
+        alloc,
+        &checked,
+        first,
+        input,
+        &mut reader,
+        most,
+        threads,
+    )?;
     Ok(write_state(alloc, &checked, &file)?)
 }
