@@ -18,14 +18,14 @@ EXAMPLES = os.path.join(os.path.dirname(os.path.dirname(os.path.abspath(__file__
 SHIPPED = ["~/.local/bin/rollup_tool", "~/.local/bin/group_tool"]
 SCHEMA = [["host", "String"], ["code", "Int64"], ["bytes", "Int64"], ["took", "Int32"]]
 KEYS = ["host", "code"]
-AGGS = [["sum", "bytes"], ["mean", "bytes"], ["count", "took"], ["len"], ["min", "took"], ["max", "took"], ["first", "bytes"], ["last", "took"]]
+AGGS = [("sum", "bytes"), ("mean", "bytes"), ("count", "took"), ("len", None), ("min", "took"), ("max", "took"), ("first", "bytes"), ("last", "took")]
 # Of which keys each recipe is asked, and how many rows the files have: one has none, and one has two chunks.
 KEPT = [["host"], ["code"], ["code", "host"], ["host", "code"]]
 ROWS = [900, 0, 50001, 1, 4000]
 
 
 def query_by(keys):
-    aggs = [{"alias": [{agg[0]: agg[1]} if agg[1:] else agg[0], "_".join(agg)]} for agg in AGGS]
+    aggs = [{"alias": [{agg: column}, f"{agg}_{column}"]} for agg, column in AGGS]
     return json.dumps({"schema": SCHEMA, "keys": keys, "aggs": aggs})
 
 

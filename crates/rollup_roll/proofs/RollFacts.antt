@@ -1,5 +1,5 @@
 -- What becomes of states that files tell.
-use Rattle.std.proofs.Common.{◌≡◌, ◌∙◌, ◌<◌, ◌≤◌, ◌+◌, ◌^◌, ◌||◌, ℕ, zero, suc, Bool, true, false, List, [], ◌∷◌, ◌++◌, length, take, Option, Some, refl, sym, ap, subst, arith, inl, inr, append_assoc, ⊎_elim}
+use Rattle.std.proofs.Common.{◌≡◌, ◌∙◌, ◌<◌, ◌^◌, ◌||◌, ℕ, zero, suc, Bool, true, false, List, [], ◌∷◌, ◌++◌, length, take, Option, Some, refl, sym, ap, subst, arith, inl, append_assoc, ⊎_elim}
 use Rattle.std.specs.List.{AllByRecursion, IsDistinct, list_any, slice_get}
 use Rattle.std.proofs.lemmas.Bool.{cases_lt, false≢true}
 use Rattle.std.proofs.lemmas.List.{append-nil, take_at}
@@ -54,29 +54,30 @@ NoFirst states = (i : ℕ) → IsFirstOverlap states i → ⊥
 -- so none does: those so far don't, and the next one doesn't overlap any of them
 none-from : (before after : List StateSeen) → NoneOverlap before → NoFirst (before ++ after) → NoneOverlap (before ++ after)
 unfolding NoFirst
-none-from before [] apart no = subst NoneOverlap (sym (append-nil before)) apart
-none-from before (s ∷ after) apart no = by (list_any (λ t. do_overlap t s) before) refl where
-  by : (b : Bool) → list_any (λ t. do_overlap t s) before ≡ b → NoneOverlap (before ++ s ∷ after)
-  by true is =
-      let front : take (length before) (before ++ s ∷ after) ≡ before = take_at before (s ∷ after) (length before) refl in
-      absurd (no (length before) (record {
-        state = s;
-        at = slice-behind before after s;
-        before = subst NoneOverlap (sym front) apart;
-        overlaps = ap (λ (ts : List StateSeen). list_any (λ t. do_overlap t s) ts) front ∙ is;
-      }))
-  by false is =
-      let joined : (before ++ s ∷ []) ++ after ≡ before ++ s ∷ after = append_assoc before (s ∷ []) after in
-      subst NoneOverlap joined (none-from (before ++ s ∷ []) after (distinct-push do_overlap before s apart is) (λ i first. no i (subst (λ (ts : List StateSeen). IsFirstOverlap ts i) joined first)))
+none-from before [] apart free = subst NoneOverlap (sym (append-nil before)) apart
+none-from before (s ∷ after) apart free =
+    let joined : (before ++ s ∷ []) ++ after ≡ before ++ s ∷ after = append_assoc before (s ∷ []) after in
+    by (λ more. subst NoneOverlap joined (none-from (before ++ s ∷ []) after more (λ i first. free i (subst (λ (ts : List StateSeen). IsFirstOverlap ts i) joined first))))
+    (list_any (λ t. do_overlap t s) before) refl where
+      by : (NoneOverlap (before ++ s ∷ []) → NoneOverlap (before ++ s ∷ after)) → (b : Bool) → list_any (λ t. do_overlap t s) before ≡ b → NoneOverlap (before ++ s ∷ after)
+      by next true is =
+          let front : take (length before) (before ++ s ∷ after) ≡ before = take_at before (s ∷ after) (length before) refl in
+          absurd (free (length before) (record {
+            state = s;
+            at = slice-behind before after s;
+            before = subst NoneOverlap (sym front) apart;
+            overlaps = ap (λ (ts : List StateSeen). list_any (λ t. do_overlap t s) ts) front ∙ is;
+          }))
+      by next false is = next (distinct-push do_overlap before s apart is)
 
 -- none overlaps, where none is the first that does
 pub none-overlap : (states : List StateSeen) → ((i : ℕ) → IsFirstOverlap states i → ⊥) → NoneOverlap states
 unfolding IsDistinct NoFirst
-none-overlap states no = none-from [] states tt no
+none-overlap states free = none-from [] states tt free
 
 -- they are few, where they are not too large
 pub are-few : (states : List StateSeen) → NoneOverlap states → (AreTooLarge states → ⊥) → total_rows states < 2 ^ 32
-are-few states apart no = ⊎_elim (λ few. few) (λ many. absurd (no (record { apart = apart; many = many }))) (cases_lt (total_rows states) (2 ^ 32))
+are-few states apart fits = ⊎_elim (λ few. few) (λ many. absurd (fits (record { apart = apart; many = many }))) (cases_lt (total_rows states) (2 ^ 32))
 
 -- the first that overlaps is one of them
 pub first-within : (states : List StateSeen) (i : ℕ) → IsFirstOverlap states i → i < length states

@@ -1,5 +1,5 @@
 -- What the states that files tell come to, rolled up by some keys, and why they come to nothing.
-use Rattle.std.specs.Prelude.{◌≡◌, ◌<◌, ◌+◌, ◌^◌, ◌⊎◌, ℕ, List, Option, ⊤}
+use Rattle.std.specs.Prelude.{◌≡◌, ◌<◌, ◌+◌, ◌^◌, ◌⊎◌, ℕ, Bool, true, false, List, Option, ⊤}
 use Rattle.pipe_columns.specs.Frame.{FrameData}
 use Rattle.pipe_io.specs.Files.{Files, HasNoFile, IsLarger}
 use Rattle.pipe_io.specs.declared.whole_file.TheConstants.{MOST_FILE_BYTES}
@@ -54,3 +54,9 @@ IsRefusal (fault.NotAState file) q told names = TellUpTo (TellsNone q told) q to
 IsRefusal (fault.Overlap file) q told names = OverlapAt q told names file
 IsRefusal fault.TooLarge q told names = HasLargeFile q told names ⊎ AreTooMany q told names
 IsRefusal fault.Memory q told names = ⊤
+
+-- whether an error says something of the files
+abbrev pub is_of_files : RollError → Bool
+is_of_files fault.Input = false
+is_of_files fault.Memory = false
+is_of_files e = true

@@ -1,6 +1,7 @@
 //! The states that files tell, rolled up by some keys.
 #![tactic(auto)]
 
+mod laws;
 mod read_told;
 mod roll;
 mod roll_error;

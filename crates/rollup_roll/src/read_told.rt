@@ -18,11 +18,7 @@ use std::alloc::Global;
 
 /// Reads the file of a name whole, into room for about as many bytes as it has, and for one more, by
 /// which its end is seen.
-fn read_bytes<I: InputFiles>(
-    alloc: Global,
-    input: &mut I,
-    name: &Text,
-) -> Result<Vec<u8>, FileEnd>
+fn read_bytes<I: InputFiles>(alloc: Global, input: &mut I, name: &Text) -> Result<Vec<u8>, FileEnd>
     ensures told { I.told input.new ≡ I.told input.old }
     ensures bytes { IfOk result (λ v. IsWhole (I.told input.old) name.now v.items) }
     ensures small { IfOk result (λ v. length v.items ≤ MOST_FILE_BYTES) }

@@ -42,8 +42,10 @@ fn add_files<'a, I: InputFiles>(
 {
     let mut regrouping = regrouping;
     for i in 0..names.len() {
-        let state = read_told(alloc, query, input, &names[i], i + 1)?;
-        regrouping = regrouping.add(alloc, &state)?;
+        match read_told(alloc, query, input, &names[i], i + 1) {
+            Ok(state) => regrouping = regrouping.add(alloc, &state)?,
+            Err(error) => return Err(error),
+        }
     }
     Ok(regrouping)
 }
@@ -68,6 +70,7 @@ pub fn roll_files<'a, I: InputFiles>(
     ensures cause { HasCause (I.faults input.old) (I.faults input.new)
         (IsErrOf result fault.Input) }
 {
+    let _count = names.len();
     let begun = Regrouping::begin(alloc, query, keep)?;
     let regrouping = add_files(alloc, query, begun, input, names)?;
     match regrouping.finish(alloc) {
