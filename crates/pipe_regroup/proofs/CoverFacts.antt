@@ -192,10 +192,3 @@ held-few n h = by (nat_lt n (2 ^ 32)) refl h where
   by : (b : Bool) → nat_lt n (2 ^ 32) ≡ b → is_some (cond b (Some n) None) ≡ true → n < 2 ^ 32
   by true e h = ltb-true n (2 ^ 32) e
   by false e h = cc
-
--- and one that isn't is not
-pub held-many : (n : ℕ) → None ≡ held_count n → 2 ^ 32 ≤ n
-held-many n h = by (nat_lt n (2 ^ 32)) refl h where
-  by : (b : Bool) → nat_lt n (2 ^ 32) ≡ b → None ≡ cond b (Some n) None → 2 ^ 32 ≤ n
-  by true e h = cc
-  by false e h = ltb-false n (2 ^ 32) e

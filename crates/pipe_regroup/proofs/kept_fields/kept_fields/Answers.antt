@@ -17,7 +17,9 @@ returns c =
     let keep : List ℕ = c.args.keep.now in
     let keys : n ≡ length q.keys = ap length c.key_types-keys.ensures ∙ length-map q.keys (λ (e : Expr). known_type e q.schema) in
     let all : c.fields-all.result.now ≡ output_schema q = c.fields-all.ensures ∙ c.output_schema.ensures.schema in
-    let pushed = c.in_ok-push_all.ensures in
-    c.new.ensures ∙ ?
+    let kept : c.push_at.new.fields.items ≡ fields_at (take n c.fields-all.result.now) keep =
+    c.in_ok-push_at.ensures ∙ ap (λ (l : List Field). l ++ fields_at (take n c.fields-all.result.now) keep) c.in_ok-fields.ensures.items in
+    c.new.ensures ∙ c.in_ok-push_all.ensures
+    ∙ ap (λ (l : List Field). l ++ take (length c.fields-all.result.now - n) (drop n c.fields-all.result.now)) kept
     ∙ (λ i. fields_at (take n (all i)) keep ++ take (length (all i) - n) (drop n (all i)))
     ∙ kept-schema q n keys keep

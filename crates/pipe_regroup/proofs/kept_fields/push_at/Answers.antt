@@ -12,6 +12,6 @@ loop-i-preserved c =
     let front : List Field = c.args.fields.now.items in
     let within : get_or ks i 0 < length all = search rules in
     c.in_ok-push.ensures.items
-    ∙ (λ j. c.loop-i.invariant j ++ c.in_ok-copied.ensures j ∷ [])
+    ∙ (λ j. c.loop-i.invariant j ++ (c.in_ok-copied.ensures ∙ c.index-all-index.is) j ∷ [])
     ∙ append_assoc front (fields_at all (take i ks)) (get_or all (get_or ks i 0) c.index-all-index.result ∷ [])
     ∙ ap (λ (l : List Field). front ++ l) (fields-more all ks i 0 c.index-all-index.result c.loop-i-test.true within)
