@@ -1,14 +1,12 @@
 -- States that are added one by one to groups by kept keys, and what these come to.
-use Rattle.std.proofs.Common.{◌≡◌, ◌∙◌, ℕ, ◌+◌, ◌<◌, ◌≤◌, ◌^◌, ◌&&◌, ◌↔◌, Bool, true, false, not, Option, Some, None, is_some, Result, Ok, Err, List, [], ◌∷◌, ◌++◌, length, map, All, IsErrOf, refl, sym, ap, subst, arith}
+use Rattle.std.proofs.Common.{◌≡◌, ◌∙◌, ℕ, ◌+◌, ◌<◌, ◌^◌, ◌↔◌, Bool, true, false, not, is_some, Result, Ok, Err, List, [], ◌∷◌, ◌++◌, map, All, IsErrOf, refl, sym, ap, subst, arith}
 use Rattle.std.specs.List.{IsDistinct}
 use Rattle.std.specs.Ordering.{eq_by_cmp}
 use Rattle.std.proofs.lemmas.Bool.{and_parts, false≢true}
-use Rattle.std.proofs.lemmas.List.{map-append}
-use Rattle.std.proofs.lemmas.List.Elements.{All-append, All-cons, All-head, All-nil, All-push, All-tail}
+use Rattle.std.proofs.lemmas.List.Elements.{All-cons, All-head, All-nil, All-push, All-tail}
 use mathlib.Core.List.{map-map}
-use Rattle.pipe_columns.specs.declared.any_value.AnyValue.{AnyValue}
 use Rattle.pipe_columns.specs.declared.schema.Field.{Field}
-use Rattle.pipe_columns.specs.Frame.{frame_of, FrameData}
+use Rattle.pipe_columns.specs.Frame.{frame_of}
 use Rattle.pipe_model.specs.Answer.{tuple_cmp}
 use Rattle.pipe_model.specs.Groupable.{IsGroupable}
 use Rattle.pipe_model.specs.Output.{output_schema}
@@ -26,10 +24,10 @@ use Rattle.pipe_regroup.specs.declared.regroup_error.RegroupError.{RegroupError}
 use Rattle.pipe_regroup.specs.declared.regroup_error.RegroupError.TheVariants as fault
 use Rattle.pipe_regroup.specs.declared.row_groups.RowGroups.{RowGroups}
 use Rattle.pipe_regroup.specs.Added.{AreTooLarge, CanRegroup, IsRegrouping}
-use Rattle.pipe_regroup.specs.Covered.{is_sound, IsCoverageOf, IsToldBy}
+use Rattle.pipe_regroup.specs.Covered.{is_sound, IsCoverageOf}
 use Rattle.pipe_regroup.specs.Frames.{AreRowsOf, values_of}
 use Rattle.pipe_regroup.specs.Groups.{AreInOrder, count_rows, group_row, groups_of, HasAdded, IsJoinable, with_rows}
-use Rattle.pipe_regroup.specs.Regrouping.{AreGroupsBy, held_count}
+use Rattle.pipe_regroup.specs.Regrouping.{AreGroupsBy}
 use Rattle.pipe_regroup.proofs.CoverFacts.{first-sole, held-few, none-first, told-none}
 use Rattle.pipe_regroup.proofs.FieldFacts.{row-tuple}
 use Rattle.pipe_regroup.proofs.QueryGroups.{AreOfStates, count-of, in-order, of-more, rows-joinable, total-more, tuples-differ}

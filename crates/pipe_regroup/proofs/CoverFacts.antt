@@ -1,14 +1,13 @@
 -- The first state that overlaps an earlier one, and one state more.
-use Rattle.std.proofs.Common.{◌≡◌, ◌∙◌, ℕ, zero, suc, ◌+◌, ◌<◌, ◌≤◌, ◌^◌, ◌||◌, ◌&&◌, nat_lt, ltb-true, ltb-false, Bool, true, false, cond, not, Option, Some, None, is_some, List, [], ◌∷◌, ◌++◌, length, take, drop, get_or, refl, sym, ap, subst, arith}
+use Rattle.std.proofs.Common.{◌≡◌, ◌∙◌, ℕ, zero, suc, ◌<◌, ◌^◌, ◌||◌, ◌&&◌, nat_lt, ltb-true, ltb-false, Bool, true, false, cond, not, Option, Some, None, is_some, List, [], ◌∷◌, ◌++◌, length, take, refl, sym, ap, subst, arith}
 use Rattle.std.specs.List.{AllByRecursion, IsDistinct, list_any, slice_get}
 use Rattle.std.proofs.lemmas.Bool.{false≢true}
 use Rattle.std.proofs.lemmas.List.Folds.{list_any-append}
 use Rattle.pipe_states.specs.Ranges.{share_number}
 use Rattle.pipe_states.specs.States.{StateSeen}
 use Rattle.pipe_states.specs.Together.{do_overlap, IsFirstOverlap, NoneOverlap, total_rows}
-use Rattle.pipe_regroup.specs.declared.coverage.Coverage.{Coverage}
 use Rattle.pipe_regroup.specs.declared.ranges.Range.{Range}
-use Rattle.pipe_regroup.specs.Covered.{HaveNumbers, is_sound, IsCoverageOf, IsToldBy}
+use Rattle.pipe_regroup.specs.Covered.{HaveNumbers, IsToldBy}
 use Rattle.pipe_regroup.specs.Groups.{count_rows}
 use Rattle.pipe_regroup.specs.Regrouping.{held_count, with_more}
 use Rattle.pipe_regroup.specs.Spread.{HaveNumbersOf, meets}
@@ -138,10 +137,10 @@ module _ (states : List StateSeen) (s : StateSeen) where
     none-here new m more = (
       distinct-push do_overlap states s none (numbers s.first s.end ∙ m),
       λ f e.
-      list_any-append (λ (t : StateSeen). share_number t.first t.end f e) states (s ∷ [])
-      ∙ either (list_any (λ t. share_number t.first t.end f e) states) (share_number s.first s.end f e)
-      ∙ ap (λ (b : Bool). share_number s.first s.end f e || b) (numbers f e)
-      ∙ sym (more f e),
+          list_any-append (λ (t : StateSeen). share_number t.first t.end f e) states (s ∷ [])
+          ∙ either (list_any (λ t. share_number t.first t.end f e) states) (share_number s.first s.end f e)
+          ∙ ap (λ (b : Bool). share_number s.first s.end f e || b) (numbers f e)
+          ∙ sym (more f e),
     )
 
   -- it is of so many rows more

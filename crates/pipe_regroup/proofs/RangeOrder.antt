@@ -1,6 +1,6 @@
 -- Ranges in order: where one more stands, and whether it shares a number with one of them.
-use Rattle.std.proofs.Common.{◌≡◌, ◌∙◌, ℕ, zero, suc, ◌+◌, ◌<◌, ◌≤◌, ◌||◌, min, max, Bool, true, false, List, [], ◌∷◌, ◌++◌, length, take, drop, get_or, le-ltb, lt-ltb, refl, sym, ap, arith}
-use Rattle.std.specs.List.{insert, list_any}
+use Rattle.std.proofs.Common.{◌≡◌, ◌∙◌, ℕ, zero, suc, ◌<◌, ◌≤◌, ◌||◌, min, max, Bool, true, false, List, [], ◌∷◌, length, get_or, le-ltb, lt-ltb, refl, sym, ap, arith}
+use Rattle.std.specs.List.{insert}
 use Rattle.std.specs.List.Sorted.{IsNonDecreasingBy}
 use Rattle.std.proofs.lemmas.List.Sorted.{IsPermutation-insert, list_any-IsPermutation}
 use Rattle.pipe_states.specs.Ranges.{share_number}
@@ -104,7 +104,7 @@ spread-insert n (x ∷ xs) (suc i) r s from some le before behind = (
   s.0,
   s.1,
   spread-insert x.end xs i r s.2 (before zero x (omega arith) (omega arith)) some (omega (arith, le))
-    (λ k d lt there. before (suc k) d (omega (arith, lt)) (omega (arith, there))) (λ d lt. behind d (omega (arith, lt))),
+      (λ k d lt there. before (suc k) d (omega (arith, lt)) (omega (arith, there))) (λ d lt. behind d (omega (arith, lt))),
 )
 
 -- and its numbers are added

@@ -62,7 +62,7 @@ impl Coverage {
     pub(crate) fn is_sound(&self) -> bool
         ensures { result ≡ is_sound self.now }
     {
-        !self.overlap.is_some() && self.rows.is_some()
+        self.overlap.is_none() && self.rows.is_some()
     }
 
     /// What forbids to regroup the states, if anything does.

@@ -1,11 +1,10 @@
-use Rattle.std.proofs.Common.{rules, ◌≡◌, ◌∙◌, ◌≤◌, List, length, take, take_all, ap, subst, sym}
-use Rattle.std.specs.Prelude.{IfOk, OnOk}
-use Rattle.std.proofs.lemmas.Result.{IfOk-weaker, on_ok_weaker}
+use Rattle.std.proofs.Common.{◌≡◌, ◌∙◌, ◌≤◌, List, length, take_all, subst}
+use Rattle.std.proofs.lemmas.Result.{IfOk-weaker}
 use Rattle.pipe_aggs.specs.QueryTrees.{query_tree}
 use Rattle.pipe_states.specs.Regrouped.{regrouped}
 use Rattle.pipe_states.specs.States.{StateSeen}
 use Rattle.pipe_states.specs.Together.{IsFirstOverlap}
-use Rattle.pipe_regroup.specs.Added.{AreTooLarge, CanRegroup}
+use Rattle.pipe_regroup.specs.Added.{AreTooLarge}
 use Rattle.pipe_regroup.proofs.at_once.regroup.Goals as goal
 
 pub returns-clause-frame : goal.returns-clause-frame

@@ -1,9 +1,8 @@
-use Rattle.std.proofs.Common.{rules, arith, ◌≡◌, ◌∙◌, ◌≤◌, ◌++◌, ◌∷◌, [], true, false, List, length, map, take, take_all, sym, ap, subst}
+use Rattle.std.proofs.Common.{arith, ◌≡◌, ◌∙◌, ◌≤◌, ◌++◌, ◌∷◌, [], false, List, length, map, take_all, sym, ap, subst}
 use Rattle.std.proofs.lemmas.List.{length-map}
 use Rattle.pipe_columns.specs.declared.any_value.AnyValue.{AnyValue}
 use Rattle.pipe_columns.specs.declared.schema.Field.{Field}
-use Rattle.pipe_columns.specs.Frame.{all_have_height, AreOfType, ColumnData, columns_from}
-use Rattle.pipe_regroup.specs.declared.group.Group.{Group}
+use Rattle.pipe_columns.specs.Frame.{all_have_height, AreOfType, columns_from}
 use Rattle.pipe_regroup.specs.Frames.{AreRowsOf, values_at, values_of, without}
 use Rattle.pipe_regroup.proofs.FrameRows.{column-more, column-typed, columns-high, is_there, next-values, none-emptied, rows-emptied}
 use Rattle.pipe_regroup.proofs.frame.frame_of_groups.Goals as goal

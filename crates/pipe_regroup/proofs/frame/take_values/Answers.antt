@@ -1,4 +1,4 @@
-use Rattle.std.proofs.Common.{rules, arith, ◌≡◌, ◌∙◌, ◌<◌, ◌≤◌, List, length, map, ap}
+use Rattle.std.proofs.Common.{rules, arith, ◌∙◌, ◌≤◌, List, length, map}
 use Rattle.std.proofs.lemmas.List.{length-map, length-set}
 use Rattle.pipe_columns.proofs.FrameFacts.{changed_all}
 use Rattle.pipe_regroup.specs.declared.group.Group.{Group}

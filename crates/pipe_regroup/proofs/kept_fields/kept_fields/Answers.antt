@@ -1,4 +1,4 @@
-use Rattle.std.proofs.Common.{rules, ◌≡◌, ◌∙◌, ℕ, ◌++◌, ◌-◌, [], List, length, take, drop, sym, ap}
+use Rattle.std.proofs.Common.{◌≡◌, ◌∙◌, ℕ, ◌++◌, ◌-◌, List, length, take, drop, ap}
 use Rattle.std.proofs.lemmas.List.{length-map}
 use Rattle.pipe_aggs.specs.QueryTrees.{query_tree}
 use Rattle.pipe_columns.specs.declared.schema.Field.{Field}
@@ -7,7 +7,7 @@ use Rattle.pipe_model.specs.Output.{output_schema}
 use Rattle.pipe_model.specs.Query.{QueryTree}
 use Rattle.pipe_model.specs.Typing.{known_type}
 use Rattle.pipe_regroup.specs.Frames.{fields_at}
-use Rattle.pipe_regroup.proofs.FieldFacts.{front-wide, kept-schema}
+use Rattle.pipe_regroup.proofs.FieldFacts.{kept-schema}
 use Rattle.pipe_regroup.proofs.kept_fields.kept_fields.Goals as goal
 
 pub returns : goal.returns

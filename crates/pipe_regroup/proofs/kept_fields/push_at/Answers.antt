@@ -1,4 +1,4 @@
-use Rattle.std.proofs.Common.{rules, ◌≡◌, ◌∙◌, ◌<◌, ◌++◌, ◌∷◌, [], List, length, take, get_or, append_assoc, ap}
+use Rattle.std.proofs.Common.{rules, ◌∙◌, ◌<◌, ◌++◌, ◌∷◌, [], List, length, take, get_or, append_assoc, ap}
 use Rattle.pipe_columns.specs.declared.schema.Field.{Field}
 use Rattle.pipe_regroup.specs.Frames.{fields_at}
 use Rattle.pipe_regroup.proofs.FieldFacts.{fields-more}

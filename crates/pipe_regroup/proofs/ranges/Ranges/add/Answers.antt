@@ -1,8 +1,8 @@
-use Rattle.std.proofs.Common.{rules, arith, ◌≡◌, ◌∙◌, ◌<◌, ◌≤◌, ◌||◌, ℕ, Bool, false, not, List, length, get_or, sym, ap, subst}
+use Rattle.std.proofs.Common.{rules, arith, ◌≡◌, ◌∙◌, ◌<◌, ◌≤◌, ◌||◌, ℕ, false, not, List, length, get_or, sym, ap, subst}
 use Rattle.pipe_states.specs.Ranges.{share_number}
 use Rattle.pipe_regroup.specs.declared.ranges.Range.{Range}
 use Rattle.pipe_regroup.specs.Spread.{AreSpread, meets}
-use Rattle.pipe_regroup.proofs.RangeOrder.{meets-no_range, meets-none, meets-range, numbers-insert, numbers-same, spread-insert}
+use Rattle.pipe_regroup.proofs.RangeOrder.{meets-no_range, meets-none, meets-range, numbers-insert, spread-insert}
 use Rattle.pipe_regroup.proofs.ranges.Ranges.add.Goals as goal
 
 pub returns-then-first-end-clause-free : goal.returns-then-first-end-clause-free

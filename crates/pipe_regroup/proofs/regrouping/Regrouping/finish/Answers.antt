@@ -1,7 +1,6 @@
 use Rattle.std.proofs.Common.{rules, ◌≡◌, ◌∙◌, List, map, Err, sym, ap, subst}
 use Rattle.pipe_aggs.specs.QueryTrees.{query_tree}
 use Rattle.pipe_columns.specs.Frame.{frame_of}
-use Rattle.pipe_model.specs.Query.{QueryTree}
 use Rattle.pipe_states.specs.Regrouped.{regrouped}
 use Rattle.pipe_states.specs.States.{StateSeen}
 use Rattle.pipe_regroup.specs.declared.group.Group.{Group}
