@@ -19,9 +19,9 @@ use Rattle.pipe_source.specs.CsvChunks.{csv_chunks, CsvChunks, Stop, too_large, 
 use Rattle.pipe_source.specs.Reader.{chunks_left, ReaderState}
 use Rattle.pipe_source.proofs.ChunksFit.{chunks-fit}
 use Rattle.pipe_states.specs.Parts.{part_of, saved}
-use Rattle.pipe_states.specs.States.{StateSeen}
 use Rattle.pipe_states.specs.StateText.{state_text}
-use Rattle.rollup_save.specs.Saves.{are_few, end_of, end_of_files, file_chunks, IsSavedOf, save_options, Tells, text_of_files}
+use Rattle.rollup_save.specs.Saves.{are_few, end_of, end_of_files, file_chunks, save_options, Tells, text_of_files}
+use Rattle.rollup_save.specs.Taken.{IsTextOf}
 use Rattle.rollup_save.proofs.RoundFacts.{end-few}
 use Rattle.rollup_save.proofs.StateFacts.{state-same, text-same}
 
@@ -60,19 +60,18 @@ module _ (q : Query) (ws : List Bool) (first : ℕ) (names : List (List ℕ)) (c
   file-told (Some files) e h = subst (Tells e) (end-left files) h
 
   -- where all of it was saved, nothing ended the files
-  pub file-whole : (told : Option Files) (s : StateSeen) → IsSavedOf (query_tree (narrowed_query ws q)) first told r s → IfSome told (λ files. end_of_files files names (query_tree q) first ≡ None)
-  file-whole None s is = tt
-  file-whole (Some files) s is = sym (end-left files) ∙ ap (end_of first) is.all ∙ end-few first is.chunks None is.can.few
+  pub file-whole : (told : Option Files) (text : List ℕ) → IsTextOf (query_tree (narrowed_query ws q)) first told r text → IfSome told (λ files. end_of_files files names (query_tree q) first ≡ None)
+  file-whole None text is = tt
+  file-whole (Some files) text is = sym (end-left files) ∙ ap (end_of first) is.saved.all ∙ end-few first is.saved.chunks None is.saved.can.few
 
   -- and the text is that of the files
-  pub file-text : (told : Option Files) (s : StateSeen) (text : List ℕ) → IsSavedOf (query_tree (narrowed_query ws q)) first told r s → text ≡ state_text (query_tree (narrowed_query ws q)) s
-      → IfSome told (λ files. text ≡ text_of_files files names (query_tree q) first)
-  file-text None s text is e = tt
-  file-text (Some files) s text is e =
+  pub file-text : (told : Option Files) (text : List ℕ) → IsTextOf (query_tree (narrowed_query ws q)) first told r text → IfSome told (λ files. text ≡ text_of_files files names (query_tree q) first)
+  file-text None text is = tt
+  file-text (Some files) text is =
       let t : QueryTree = query_tree q in
       let narrow : QueryTree = narrowed_tree ws t in
       let whole : List DataChunk = (file_chunks files names t).chunks in
-      let all : narrowed_chunks ws whole ≡ is.chunks = ap (λ (c : CsvChunks). c.chunks) (sym (left files) ∙ is.all) in
-      let state : s ≡ saved t (part_of t first whole) =
-      is.state ∙ ap (λ (cs : List DataChunk). saved narrow (part_of narrow first cs)) (sym all) ∙ state-same ws t first whole (chunks-fit save_options t.schema files names) covered in
-      e ∙ ap (state_text narrow) state ∙ text-same ws t (saved t (part_of t first whole)) covered
+      let all : narrowed_chunks ws whole ≡ is.saved.chunks = ap (λ (c : CsvChunks). c.chunks) (sym (left files) ∙ is.saved.all) in
+      let state : is.state ≡ saved t (part_of t first whole) =
+      is.saved.state ∙ ap (λ (cs : List DataChunk). saved narrow (part_of narrow first cs)) (sym all) ∙ state-same ws t first whole (chunks-fit save_options t.schema files names) covered in
+      is.text ∙ ap (state_text narrow) state ∙ text-same ws t (saved t (part_of t first whole)) covered
