@@ -20,4 +20,4 @@ pub record IsTextOf
     : Type 0 where
   pub state : StateSeen
   pub saved : IsSavedOf q first told left state
-  pub text : text ≡ state_text q state
+  pub is : text ≡ state_text q state
