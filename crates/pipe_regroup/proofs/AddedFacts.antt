@@ -1,14 +1,12 @@
 -- States that are added one by one to groups by kept keys, and what these come to.
-use Rattle.std.proofs.Common.{◌≡◌, ◌∙◌, ℕ, ◌+◌, ◌<◌, ◌≤◌, ◌^◌, ◌&&◌, ◌↔◌, Bool, true, false, not, Option, Some, None, is_some, Result, Ok, Err, List, [], ◌∷◌, ◌++◌, length, map, All, IsErrOf, refl, sym, ap, subst, arith}
+use Rattle.std.proofs.Common.{◌≡◌, ◌∙◌, ℕ, ◌+◌, ◌<◌, ◌^◌, ◌↔◌, Bool, true, false, not, is_some, Result, Ok, Err, List, [], ◌∷◌, ◌++◌, map, All, IsErrOf, refl, sym, ap, subst, arith}
 use Rattle.std.specs.List.{IsDistinct}
 use Rattle.std.specs.Ordering.{eq_by_cmp}
 use Rattle.std.proofs.lemmas.Bool.{and_parts, false≢true}
-use Rattle.std.proofs.lemmas.List.{map-append}
-use Rattle.std.proofs.lemmas.List.Elements.{All-append, All-cons, All-head, All-nil, All-push, All-tail}
+use Rattle.std.proofs.lemmas.List.Elements.{All-cons, All-head, All-nil, All-push, All-tail}
 use mathlib.Core.List.{map-map}
-use Rattle.pipe_columns.specs.declared.any_value.AnyValue.{AnyValue}
 use Rattle.pipe_columns.specs.declared.schema.Field.{Field}
-use Rattle.pipe_columns.specs.Frame.{frame_of, FrameData}
+use Rattle.pipe_columns.specs.Frame.{frame_of}
 use Rattle.pipe_model.specs.Answer.{tuple_cmp}
 use Rattle.pipe_model.specs.Groupable.{IsGroupable}
 use Rattle.pipe_model.specs.Output.{output_schema}
@@ -25,12 +23,12 @@ use Rattle.pipe_regroup.specs.declared.group.Group.{Group}
 use Rattle.pipe_regroup.specs.declared.regroup_error.RegroupError.{RegroupError}
 use Rattle.pipe_regroup.specs.declared.regroup_error.RegroupError.TheVariants as fault
 use Rattle.pipe_regroup.specs.declared.row_groups.RowGroups.{RowGroups}
-use Rattle.pipe_regroup.specs.Added.{AreTooLarge, IsRegrouping}
-use Rattle.pipe_regroup.specs.Covered.{is_sound, IsCoverageOf, IsToldBy}
+use Rattle.pipe_regroup.specs.Added.{AreTooLarge, CanRegroup, IsRegrouping}
+use Rattle.pipe_regroup.specs.Covered.{is_sound, IsCoverageOf}
 use Rattle.pipe_regroup.specs.Frames.{AreRowsOf, values_of}
 use Rattle.pipe_regroup.specs.Groups.{AreInOrder, count_rows, group_row, groups_of, HasAdded, IsJoinable, with_rows}
-use Rattle.pipe_regroup.specs.Regrouping.{AreGroupsBy, held_count}
-use Rattle.pipe_regroup.proofs.CoverFacts.{first-sole, held-few, held-many, none-first}
+use Rattle.pipe_regroup.specs.Regrouping.{AreGroupsBy}
+use Rattle.pipe_regroup.proofs.CoverFacts.{first-sole, held-few, none-first, told-none}
 use Rattle.pipe_regroup.proofs.FieldFacts.{row-tuple}
 use Rattle.pipe_regroup.proofs.QueryGroups.{AreOfStates, count-of, in-order, of-more, rows-joinable, total-more, tuples-differ}
 
@@ -42,10 +40,10 @@ begun q keep fields groups c g k f by none covered = record {
   groupable = g;
   kept = subst (AreKept q) (sym by.kept) k;
   of_query = All-nil (IsStateOf q);
-  fields = f ∙ ap (λ (ks : List ℕ). output_schema (with_keys q ks)) (sym by.kept);
+  columns = f ∙ ap (λ (ks : List ℕ). output_schema (with_keys q ks)) (sym by.kept);
   covered = covered;
   by = subst (λ (ks : List ℕ). AreGroupsBy q ks groups) (sym by.kept) by;
-  groups = λ s. none;
+  joined = λ s. none;
 }
 
 -- what forbids nothing
@@ -72,16 +70,16 @@ module _ (q : QueryTree) (states : List StateSeen) (s : StateSeen) (fields : Lis
     groupable = r.groupable;
     kept = r.kept;
     of_query = All-push (IsStateOf q) states s r.of_query h;
-    fields = r.fields;
+    columns = r.columns;
     covered = covered;
     by = r.by;
-    groups = λ e. absurd (false≢true (sym f ∙ e));
+    joined = λ e. absurd (false≢true (sym f ∙ e));
   }
 
   module _ (sound : is_sound new ≡ true) (before : is_sound new ≡ true → is_sound old ≡ true) where
     -- else the groups are those of the states before
     of-before : AreOfStates q groups.keep.items states groups
-    of-before = record { by = r.by; groups_are = r.groups (before sound) }
+    of-before = record { by = r.by; groups_are = r.joined (before sound) }
 
     -- its rows are few enough to join them
     pub on-few : (rows : List StateRow) → rows ≡ s.rows → count_rows (groups_of groups) + count_rows rows < 2 ^ 32
@@ -107,17 +105,17 @@ module _ (q : QueryTree) (states : List StateSeen) (s : StateSeen) (fields : Lis
           groupable = r.groupable;
           kept = subst (AreKept q) keep r.kept;
           of_query = All-push (IsStateOf q) states s r.of_query h;
-          fields = r.fields ∙ ap (λ (ks : List ℕ). output_schema (with_keys q ks)) keep;
+          columns = r.columns ∙ ap (λ (ks : List ℕ). output_schema (with_keys q ks)) keep;
           covered = covered;
           by = subst (λ (ks : List ℕ). AreGroupsBy q ks more) keep are.by;
-          groups = λ e. are.groups_are ∙ ap (λ (ks : List ℕ). with_rows ks more.rules.items [] (rows_of_states (states ++ s ∷ []))) keep;
+          joined = λ e. are.groups_are ∙ ap (λ (ks : List ℕ). with_rows ks more.rules.items [] (rows_of_states (states ++ s ∷ []))) keep;
         }
 
 -- ---- in the end
 
 module _ (q : QueryTree) (states : List StateSeen) (fields : List Field) (groups : RowGroups) (c : Coverage) (r : IsRegrouping q states fields groups c) (sound : is_sound c ≡ true) where
   of-all : AreOfStates q groups.keep.items states groups
-  of-all = record { by = r.by; groups_are = r.groups sound }
+  of-all = record { by = r.by; groups_are = r.joined sound }
 
   few : total_rows states < 2 ^ 32
   few = sound-few states c r.covered sound
@@ -132,7 +130,7 @@ module _ (q : QueryTree) (states : List StateSeen) (fields : List Field) (groups
     -- the rows of the groups are of the types of the columns
     pub rows-typed : AreRowsOf fields sorted
     rows-typed =
-        subst (λ (fs : List Field). AreRowsOf fs sorted) (sym r.fields)
+        subst (λ (fs : List Field). AreRowsOf fs sorted) (sym r.columns)
         (each sorted (subst (All (IsRowOf (with_keys q groups.keep.items))) (sym are-regrouped) (regrouped-states-of q states groups.keep.items r.kept.keys r.of_query few)))
       where
         each : (gs : List Group) → All (IsRowOf (with_keys q groups.keep.items)) (map group_row gs) → AreRowsOf (output_schema (with_keys q groups.keep.items)) gs
@@ -145,44 +143,41 @@ module _ (q : QueryTree) (states : List StateSeen) (fields : List Field) (groups
     -- their frame is that of the states regrouped
     pub frame-is : frame_of fields (map values_of sorted) ≡ regrouped q states groups.keep.items
     frame-is =
-        (λ i. frame_of (r.fields i) (map-map (λ (s : StateRow). s.key ++ s.results) group_row sorted (sym i)))
+        (λ i. frame_of (r.columns i) (sym (map-map (λ (s : StateRow). s.key ++ s.results) group_row sorted) i))
         ∙ ap (λ (rows : List StateRow). frame_of (output_schema (with_keys q groups.keep.items)) (map (λ s. s.key ++ s.results) rows)) are-regrouped
 
 -- ---- what is told
 
-module _ {X : Type 0} (states : List StateSeen) where
-  index_or : ℕ → Result X RegroupError → ℕ
-  index_or d (Ok x) = d
-  index_or d (Err (fault.Overlap i)) = i
-  index_or d (Err fault.TooLarge) = d
-  index_or d (Err fault.Memory) = d
+module _ (states : List StateSeen) where
+  -- the state that is named
+  abbrev file_or : {X : Type 0} → ℕ → Result X RegroupError → ℕ
+  file_or d (Ok x) = d
+  file_or d (Err (fault.Overlap i)) = i
+  file_or d (Err fault.TooLarge) = d
+  file_or d (Err fault.Memory) = d
 
-  -- the one that overlaps is the first
-  pub overlap-told : (file i : ℕ) (r : Result X RegroupError) → r ≡ Err (fault.Overlap file) → IsFirstOverlap states file → (r ≡ Err (fault.Overlap i)) ↔ IsFirstOverlap states i
+  -- it is the first that overlaps
+  pub overlap-told : {X : Type 0} (file i : ℕ) (r : Result X RegroupError) → r ≡ Err (fault.Overlap file) → IsFirstOverlap states file → (r ≡ Err (fault.Overlap i)) ↔ IsFirstOverlap states i
   overlap-told file i r is f = (
-    λ e. subst (IsFirstOverlap states) (ap (index_or file) (sym is ∙ e)) f,
+    λ e. subst (IsFirstOverlap states) (ap (file_or file) (sym is ∙ e)) f,
     λ g. is ∙ ap (λ (n : ℕ). Err (fault.Overlap n)) (first-sole states file i f g),
   )
 
-  -- and not too many rows are told
-  pub overlap-not_large : (file : ℕ) (r : Result X RegroupError) → r ≡ Err (fault.Overlap file) → IsFirstOverlap states file → IsErrOf r fault.TooLarge ↔ AreTooLarge states
-  overlap-not_large file r is f = (λ e. absurd (apart (sym is ∙ e)), λ l. absurd (none-first states file l.apart f)) where
-    apart : Err (fault.Overlap file) ≡ Err fault.TooLarge → ⊥
-    apart e = cc
+  -- and no other fault is told
+  pub overlap-alone : {X : Type 0} (file : ℕ) (r : Result X RegroupError) → (IsErrOf r fault.TooLarge → ⊥) → IsFirstOverlap states file → IsErrOf r fault.TooLarge ↔ AreTooLarge states
+  overlap-alone file r not f = (λ e. absurd (not e), λ l. absurd (none-first states file l.apart f))
 
   -- where none overlaps
-  pub none-told : (i : ℕ) (r : Result X RegroupError) → (r ≡ Err (fault.Overlap i) → ⊥) → NoneOverlap states → (r ≡ Err (fault.Overlap i)) ↔ IsFirstOverlap states i
+  pub none-told : {X : Type 0} (i : ℕ) (r : Result X RegroupError) → (r ≡ Err (fault.Overlap i) → ⊥) → NoneOverlap states → (r ≡ Err (fault.Overlap i)) ↔ IsFirstOverlap states i
   none-told i r not none = (λ e. absurd (not e), λ f. absurd (none-first states i none f))
 
-  -- and of how many rows they are
-  pub large-told : (c : Coverage) (r : Result X RegroupError) → r ≡ Err fault.TooLarge → IsCoverageOf states c → c.overlap ≡ None → c.rows ≡ None → IsErrOf r fault.TooLarge ↔ AreTooLarge states
-  large-told c r is covered o rows = (
-    λ e. record { apart = (subst (IsToldBy states c.ranges) o covered.overlap).0; many = held-many (total_rows states) (sym rows ∙ covered.rows) },
-    λ l. is,
-  )
+  module _ (c : Coverage) (covered : IsCoverageOf states c) where
+    -- they can be regrouped
+    pub sound-can : is_sound c ≡ true → CanRegroup states
+    sound-can sound = record { apart = (told-none states c.ranges c.overlap (sound-parts c sound).0 covered.overlap).0; few = sound-few states c covered sound }
 
-  pub not-large : (c : Coverage) (r : Result X RegroupError) → (IsErrOf r fault.TooLarge → ⊥) → IsCoverageOf states c → is_sound c ≡ true → IsErrOf r fault.TooLarge ↔ AreTooLarge states
-  not-large c r not covered sound = (
-    λ e. absurd (not e),
-    λ l. let few = sound-few states c covered sound in absurd (omega (arith, few, l.many)),
-  )
+-- a fault that is handed on
+pub same-fault : {X Y : Type 0} {P : Type 0} (x e : RegroupError) (r : Result X RegroupError) (s : Result Y RegroupError) → r ≡ Err x → s ≡ Err x → (r ≡ Err e) ↔ P → (s ≡ Err e) ↔ P
+same-fault x e r s is was same = (λ h. same.0 (is ∙ ap Err (own s was h)), λ p. was ∙ ap Err (own r is (same.1 p))) where
+  own : {Z : Type 0} (t : Result Z RegroupError) → t ≡ Err x → t ≡ Err e → x ≡ e
+  own t f g = cc (sym f ∙ g)

@@ -1,16 +1,16 @@
 -- The first state that overlaps an earlier one, and one state more.
-use Rattle.std.proofs.Common.{◌≡◌, ◌∙◌, ℕ, zero, suc, ◌+◌, ◌<◌, ◌≤◌, ◌^◌, ◌||◌, ◌&&◌, nat_lt, ltb-true, ltb-false, Bool, true, false, cond, not, Option, Some, None, is_some, List, [], ◌∷◌, ◌++◌, length, take, drop, get_or, refl, sym, ap, subst, arith}
+use Rattle.std.proofs.Common.{◌≡◌, ◌∙◌, ℕ, zero, suc, ◌<◌, ◌^◌, ◌||◌, ◌&&◌, nat_lt, ltb-true, ltb-false, Bool, true, false, cond, not, Option, Some, None, is_some, List, [], ◌∷◌, ◌++◌, length, take, refl, sym, ap, subst, arith}
 use Rattle.std.specs.List.{AllByRecursion, IsDistinct, list_any, slice_get}
 use Rattle.std.proofs.lemmas.Bool.{false≢true}
 use Rattle.std.proofs.lemmas.List.Folds.{list_any-append}
 use Rattle.pipe_states.specs.Ranges.{share_number}
 use Rattle.pipe_states.specs.States.{StateSeen}
 use Rattle.pipe_states.specs.Together.{do_overlap, IsFirstOverlap, NoneOverlap, total_rows}
-use Rattle.pipe_regroup.specs.declared.coverage.Coverage.{Coverage}
 use Rattle.pipe_regroup.specs.declared.ranges.Range.{Range}
-use Rattle.pipe_regroup.specs.Covered.{HaveNumbers, HaveNumbersOf, is_sound, IsCoverageOf, IsToldBy, meets}
+use Rattle.pipe_regroup.specs.Covered.{HaveNumbers, IsToldBy}
 use Rattle.pipe_regroup.specs.Groups.{count_rows}
 use Rattle.pipe_regroup.specs.Regrouping.{held_count, with_more}
+use Rattle.pipe_regroup.specs.Spread.{HaveNumbersOf, meets}
 use Rattle.pipe_regroup.proofs.QueryGroups.{held-more, total-more}
 
 -- ---- lists with one more
@@ -35,11 +35,7 @@ module _ {X : Type 0} (e : X → X → Bool) where
   -- one of them is apart from those before it
   apart-at : (x : X) (xs : List X) (i : ℕ) (y : X) → AllByRecursion (λ z. e x z ≡ false) xs → slice_get xs i ≡ Some y → e x y ≡ false
   apart-at x [] i y a at = cc
-  apart-at x (z ∷ xs) zero y a at = subst (λ (o : Option X). OfSome o) at a.0
-    where
-      abbrev OfSome : Option X → Type 0
-      OfSome None = Unit {0}
-      OfSome (Some w) = e x w ≡ false
+  apart-at x (z ∷ xs) zero y a at = let same : z ≡ y = cc at in subst (λ (w : X). e x w ≡ false) same a.0
   apart-at x (z ∷ xs) (suc i) y a at = apart-at x xs i y a.1 at
 
   pub distinct-at : (xs : List X) (i : ℕ) (y : X) → IsDistinct e xs → slice_get xs i ≡ Some y → list_any (λ x. e x y) (take i xs) ≡ false
@@ -141,21 +137,45 @@ module _ (states : List StateSeen) (s : StateSeen) where
     none-here new m more = (
       distinct-push do_overlap states s none (numbers s.first s.end ∙ m),
       λ f e.
-      list_any-append (λ (t : StateSeen). share_number t.first t.end f e) states (s ∷ [])
-      ∙ either (list_any (λ t. share_number t.first t.end f e) states) (share_number s.first s.end f e)
-      ∙ ap (λ (b : Bool). share_number s.first s.end f e || b) (numbers f e)
-      ∙ sym (more f e),
+          list_any-append (λ (t : StateSeen). share_number t.first t.end f e) states (s ∷ [])
+          ∙ either (list_any (λ t. share_number t.first t.end f e) states) (share_number s.first s.end f e)
+          ∙ ap (λ (b : Bool). share_number s.first s.end f e || b) (numbers f e)
+          ∙ sym (more f e),
     )
 
-  -- what is found, and that it is of so many rows more
+  -- it is of so many rows more
   pub rows-more : (rows more : Option ℕ) (n : ℕ) → rows ≡ held_count (total_rows states) → n ≡ count_rows s.rows → more ≡ with_more rows n → more ≡ held_count (total_rows (states ++ s ∷ []))
   rows-more rows more n was is e =
       e ∙ (λ i. with_more (was i) (is i)) ∙ held-more (total_rows states) (count_rows s.rows) ∙ ap held_count (sym (total-more states s))
 
   -- where one was found already
-  pub told-on : (old : Coverage) (ranges : List Range) (o : Option ℕ) → is_some o ≡ true → o ≡ old.overlap → ranges ≡ old.ranges → IsToldBy states old.ranges old.overlap → IsToldBy (states ++ s ∷ []) ranges o
-  told-on old ranges None some e r t = cc
-  told-on old ranges (Some i) some e r t = first-stays i (subst (IsToldBy states old.ranges) (sym e) t)
+  pub told-on : (ranges : List Range) (o : Option ℕ) → is_some o ≡ true → IsToldBy states ranges o → IsToldBy (states ++ s ∷ []) ranges o
+  told-on ranges None some t = cc
+  told-on ranges (Some i) some t = first-stays i t
+
+-- where none was found
+pub told-none : (states : List StateSeen) (ranges : List Range) (o : Option ℕ) → is_some o ≡ false → IsToldBy states ranges o → NoneOverlap states × HaveNumbers states ranges
+told-none states ranges None none t = t
+told-none states ranges (Some i) none t = cc
+
+-- and none is found yet
+pub told-still : (states : List StateSeen) (ranges : List Range) (o : Option ℕ) → is_some o ≡ false → IsToldBy states ranges None → IsToldBy states ranges o
+told-still states ranges None none t = t
+told-still states ranges (Some i) none t = cc
+
+-- no states don't overlap
+pub none-yet : (ranges : List Range) → ranges ≡ [] → IsToldBy [] ranges None
+unfolding IsDistinct
+none-yet ranges e = (tt, λ f g. sym (ap (λ (l : List Range). meets l f g) e))
+
+-- a range that isn't free meets one
+pub free-not : (free m : Bool) → free ≡ not m → not free ≡ true → m ≡ true
+free-not free true e h = refl
+free-not free false e h = absurd (false≢true (sym (ap not e) ∙ h))
+
+pub free-so : (free m : Bool) → free ≡ not m → not free ≡ false → m ≡ false
+free-so free false e h = refl
+free-so free true e h = absurd (false≢true (sym h ∙ ap not e))
 
 -- ---- what forbids
 
@@ -171,10 +191,3 @@ held-few n h = by (nat_lt n (2 ^ 32)) refl h where
   by : (b : Bool) → nat_lt n (2 ^ 32) ≡ b → is_some (cond b (Some n) None) ≡ true → n < 2 ^ 32
   by true e h = ltb-true n (2 ^ 32) e
   by false e h = cc
-
--- and one that isn't is not
-pub held-many : (n : ℕ) → None ≡ held_count n → 2 ^ 32 ≤ n
-held-many n h = by (nat_lt n (2 ^ 32)) refl h where
-  by : (b : Bool) → nat_lt n (2 ^ 32) ≡ b → None ≡ cond b (Some n) None → 2 ^ 32 ≤ n
-  by true e h = cc
-  by false e h = ltb-false n (2 ^ 32) e

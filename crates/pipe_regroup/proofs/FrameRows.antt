@@ -1,8 +1,8 @@
 -- Rows whose values are taken out place by place, and the columns of these values.
-use Rattle.std.proofs.Common.{◌≡◌, ◌∙◌, ℕ, zero, suc, ◌+◌, ◌-◌, ◌<◌, ◌≤◌, ◌&&◌, Bool, true, false, List, [], ◌∷◌, ◌++◌, length, map, get_or, set, take, All, refl, sym, ap, subst, arith}
+use Rattle.std.proofs.Common.{◌≡◌, ◌∙◌, ℕ, zero, suc, ◌+◌, ◌-◌, ◌<◌, ◌≤◌, Bool, true, false, List, [], ◌∷◌, ◌++◌, length, map, get_or, set, take, All, Option, Some, None, IfNone, IsSome, refl, sym, ap, subst, arith}
 use Rattle.std.specs.Cmp.Derive as derive
 use Rattle.std.proofs.lemmas.Bool.{eq-eqb}
-use Rattle.std.proofs.lemmas.List.{length-map, length-take-le, map-append, map-set, take_more}
+use Rattle.std.proofs.lemmas.List.{get_or-map, length-map, length-take-le, map-append, map-set, take_more}
 use Rattle.std.proofs.lemmas.List.Elements.{All-cons, All-head, All-nil, All-tail}
 use Rattle.pipe_columns.specs.declared.any_value.AnyValue.{AnyValue}
 use Rattle.pipe_columns.specs.declared.any_value.AnyValue.TheVariants as av
@@ -23,6 +23,12 @@ pub value-left : (xs ys : List AnyValue) (i : ℕ) → i < length xs → value_a
 value-left [] ys i lt = absurd (omega (arith, lt))
 value-left (x ∷ xs) ys zero lt = refl
 value-left (x ∷ xs) ys (suc i) lt = value-left xs ys i (omega (arith, lt))
+
+-- read at an index
+pub value-is : (xs : List AnyValue) (i : ℕ) (d : AnyValue) → i < length xs → get_or xs i d ≡ value_at xs i
+value-is [] i d lt = absurd (omega (arith, lt))
+value-is (x ∷ xs) zero d lt = refl
+value-is (x ∷ xs) (suc i) d lt = value-is xs i d (omega (arith, lt))
 
 -- of the second
 pub value-right : (xs ys : List AnyValue) (i : ℕ) → length xs ≤ i → value_at ys (i - length xs) ≡ value_at (xs ++ ys) i
@@ -81,24 +87,24 @@ values-more : (place : ℕ) (rows : List (List AnyValue)) (i : ℕ) → i < leng
 values-more place rows i lt =
     sym (ap (values_at place) (take_more rows i [] lt) ∙ map-append (λ (row : List AnyValue). value_at row place) (take i rows) (get_or rows i [] ∷ []))
 
-module _ (place : ℕ) (old now : List Group) (i : ℕ) (g new : Group) (lt : i < length old) (many : length now ≡ length old) (is : g ≡ get_or now i g)
+module _ (place : ℕ) (old now : List Group) (i : ℕ) (d new : Group) (lt : i < length old) (many : length now ≡ length old)
     (rows : map values_of now ≡ changed (without place) i (map values_of old)) where
   there : i < length (map values_of old)
   there = let long = length-map old values_of in omega (arith, lt, long)
 
-  own : values_of g ≡ get_or (map values_of now) i []
-  own = ap values_of is ∙ sym (get_or-map values_of now i g [] (omega (arith, lt, many)))
+  own : values_of (get_or now i d) ≡ get_or (map values_of now) i []
+  own = sym (get_or-map values_of now i d [] (omega (arith, lt, many)))
 
-  before : values_of g ≡ get_or (map values_of old) i []
+  before : values_of (get_or now i d) ≡ get_or (map values_of old) i []
   before = own ∙ ap (λ (l : List (List AnyValue)). get_or l i []) rows ∙ changed_get (without place) i (map values_of old) []
 
   -- its value comes to the others
-  pub value-step : (v : AnyValue) (vs : List AnyValue) → vs ≡ values_at place (take i (map values_of old)) → v ≡ value_at (values_of g) place
+  pub value-step : (v : AnyValue) (vs : List AnyValue) → vs ≡ values_at place (take i (map values_of old)) → v ≡ value_at (values_of (get_or now i d)) place
       → vs ++ v ∷ [] ≡ values_at place (take (i + 1) (map values_of old))
   value-step v vs e f = (λ j. e j ++ (f ∙ ap (λ (row : List AnyValue). value_at row place) before) j ∷ []) ∙ values-more place (map values_of old) i there
 
   -- and its row is without it
-  pub row-step : values_of new ≡ without place (values_of g) → map values_of (set now i new) ≡ changed (without place) (i + 1) (map values_of old)
+  pub row-step : values_of new ≡ without place (values_of (get_or now i d)) → map values_of (set now i new) ≡ changed (without place) (i + 1) (map values_of old)
   row-step f =
       map-set values_of now i new
       ∙ changed_step (without place) (map values_of old) (map values_of now) i [] (values_of new) there rows (f ∙ ap (without place) own)
@@ -128,6 +134,11 @@ columns-high i [] rows = refl
 columns-high i (f ∷ fs) rows =
     derive.both_true (eq-eqb (length (map (λ row. value_at row i) rows)) (length rows) (length-map rows (λ row. value_at row i))) (columns-high (i + 1) fs rows)
 
+-- what is none only where a test fails is there where it passes
+pub is_there : {X : Type 0} (r : Option X) (b : Bool) → IfNone r (b ≡ false) → b ≡ true → IsSome r
+is_there None b e t = cc
+is_there (Some x) b e t = refl
+
 -- ---- types
 
 -- the value at a place of a tuple is of the type there
@@ -143,24 +154,27 @@ type-of [] i f d lt is = absurd (omega (arith, lt))
 type-of (g ∷ fields) zero f d lt is = ap (λ (x : Field). x.dtype) (sym is)
 type-of (g ∷ fields) (suc i) f d lt is = type-of fields i f d (omega (arith, lt)) is
 
--- so the values at a place of rows are of its type
-pub column-typed : (fields : List Field) (groups : List Group) (i : ℕ) (f : Field) → i < length fields → f ≡ get_or fields i f → AreRowsOf fields groups → AreOfType f.dtype (values_at i (map values_of groups))
-column-typed fields groups i f lt is h = record { fit = fit groups h; utf8 = utf8 groups h } where
-  abbrev Fit : Group → Type 0
-  Fit g = IsTuple (map (λ x. x.dtype) fields) (values_of g)
+-- a group's row has values of the types of fields
+abbrev Fits : List Field → Group → Type 0
+Fits fields g = IsTuple (map (λ f. f.dtype) fields) (values_of g)
 
-  wide : (fs : List Field) → length (map (λ (x : Field). x.dtype) fs) ≡ length fs
-  wide fs = length-map fs (λ (x : Field). x.dtype)
+module _ (fields : List Field) (i : ℕ) (f : Field) (lt : i < length fields) (is : f ≡ get_or fields i f) where
+  wide : length (map (λ (g : Field). g.dtype) fields) ≡ length fields
+  wide = length-map fields (λ (g : Field). g.dtype)
 
-  fit : (gs : List Group) → All Fit gs → all_fit f.dtype (values_at i (map values_of gs)) ≡ true
+  fit : (gs : List Group) → All (Fits fields) gs → all_fit f.dtype (values_at i (map values_of gs)) ≡ true
   fit [] a = refl
   fit (g ∷ gs) a =
-      let here = All-head Fit g gs a in
-      let long = wide fields in
+      let here = All-head (Fits fields) g gs a in
+      let long = wide in
       derive.both_true
       (subst (λ (t : DataType). fits (value_at (values_of g) i) t ≡ true) (type-of fields i f f.dtype lt is) (typed-at (map (λ x. x.dtype) fields) (values_of g) i f.dtype (omega (arith, lt, long)) here.of_types))
-      (fit gs (All-tail Fit g gs a))
+      (fit gs (All-tail (Fits fields) g gs a))
 
-  utf8 : (gs : List Group) → All Fit gs → All HasUtf8 (values_at i (map values_of gs))
+  utf8 : (gs : List Group) → All (Fits fields) gs → All HasUtf8 (values_at i (map values_of gs))
   utf8 [] a = All-nil HasUtf8
-  utf8 (g ∷ gs) a = All-cons HasUtf8 (value_at (values_of g) i) (values_at i (map values_of gs)) (utf8-at (values_of g) i (All-head Fit g gs a).utf8) (utf8 gs (All-tail Fit g gs a))
+  utf8 (g ∷ gs) a = All-cons HasUtf8 (value_at (values_of g) i) (values_at i (map values_of gs)) (utf8-at (values_of g) i (All-head (Fits fields) g gs a).utf8) (utf8 gs (All-tail (Fits fields) g gs a))
+
+  -- so the values at a place of rows are of its type
+  pub column-typed : (groups : List Group) → AreRowsOf fields groups → AreOfType f.dtype (values_at i (map values_of groups))
+  column-typed groups h = record { fit = fit groups h; utf8 = utf8 groups h }

@@ -1,11 +1,11 @@
 -- Ranges in order: where one more stands, and whether it shares a number with one of them.
-use Rattle.std.proofs.Common.{◌≡◌, ◌∙◌, ℕ, zero, suc, ◌+◌, ◌<◌, ◌≤◌, ◌||◌, min, max, Bool, true, false, List, [], ◌∷◌, ◌++◌, length, take, drop, get_or, le-ltb, lt-ltb, refl, sym, ap, arith}
-use Rattle.std.specs.List.{insert, list_any}
+use Rattle.std.proofs.Common.{◌≡◌, ◌∙◌, ℕ, zero, suc, ◌<◌, ◌≤◌, ◌||◌, min, max, Bool, true, false, List, [], ◌∷◌, length, get_or, le-ltb, lt-ltb, refl, sym, ap, arith}
+use Rattle.std.specs.List.{insert}
 use Rattle.std.specs.List.Sorted.{IsNonDecreasingBy}
 use Rattle.std.proofs.lemmas.List.Sorted.{IsPermutation-insert, list_any-IsPermutation}
 use Rattle.pipe_states.specs.Ranges.{share_number}
 use Rattle.pipe_regroup.specs.declared.ranges.Range.{Range}
-use Rattle.pipe_regroup.specs.Covered.{AreSpread, HaveNumbersOf, meets}
+use Rattle.pipe_regroup.specs.Spread.{AreSpread, HaveNumbersOf, meets}
 
 -- ---- ranges in order
 
@@ -77,14 +77,16 @@ meets-no_range n (x ∷ xs) (suc i) f e s before behind =
     ∙ meets-no_range x.end xs i f e s.2 (λ k d lt there. before (suc k) d (omega (arith, lt)) (omega (arith, there))) (λ d lt. behind d (omega (arith, lt)))
 
 -- it meets one that ends behind its begin, and begins before its end
-pub meets-range : (n : ℕ) (xs : List Range) (i f e : ℕ) (r : Range) → AreSpread n xs → i < length xs → r ≡ get_or xs i r → f < r.end → r.first < e → f < e → meets xs f e ≡ true
-meets-range n [] i f e r s lt is behind before some = absurd (omega (arith, lt))
-meets-range n (x ∷ xs) zero f e r s lt is behind before some =
-    let ends : r.end ≡ x.end = ap (λ (t : Range). t.end) is in
-    let begins : r.first ≡ x.first = ap (λ (t : Range). t.first) is in
-    ap (λ (b : Bool). b || meets xs f e) (lt-ltb (max x.first f) (min x.end e) (omega (arith, s.1, behind, before, some, ends, begins)))
-meets-range n (x ∷ xs) (suc i) f e r s lt is behind before some =
-    by (share_number x.first x.end f e) (meets-range x.end xs i f e r s.2 (omega (arith, lt)) is behind before some)
+pub meets-range : (n : ℕ) (xs : List Range) (i f e : ℕ) → AreSpread n xs → i < length xs → ((d : Range) → i < length xs → f < (get_or xs i d).end) → ((d : Range) → (get_or xs i d).first < e) → f < e
+    → meets xs f e ≡ true
+meets-range n [] i f e s lt behind before some = absurd (omega (arith, lt))
+meets-range n (x ∷ xs) zero f e s lt behind before some =
+    let ends = behind x lt in
+    let begins = before x in
+    ap (λ (b : Bool). b || meets xs f e) (lt-ltb (max x.first f) (min x.end e) (omega (arith, s.1, ends, begins, some)))
+meets-range n (x ∷ xs) (suc i) f e s lt behind before some =
+    by (share_number x.first x.end f e)
+    (meets-range x.end xs i f e s.2 (omega (arith, lt)) (λ d there. behind d (omega (arith, there))) before some)
   where
     by : (b : Bool) → meets xs f e ≡ true → (b || meets xs f e) ≡ true
     by true h = refl
@@ -97,12 +99,12 @@ pub spread-insert : (n : ℕ) (xs : List Range) (i : ℕ) (r : Range) → AreSpr
     → ((k : ℕ) (d : Range) → k < i → k < length xs → (get_or xs k d).end ≤ r.first) → ((d : Range) → i < length xs → r.end ≤ (get_or xs i d).first) → AreSpread n (insert xs i r)
 spread-insert n [] zero r s from some le before behind = (from, some, tt)
 spread-insert n [] (suc i) r s from some le before behind = absurd (omega (arith, le))
-spread-insert n (x ∷ xs) zero r s from some le before behind = (from, some, behind x (omega arith), s.1, s.2)
+spread-insert n (x ∷ xs) zero r s from some le before behind = (from, some, (behind x (omega arith), s.1, s.2))
 spread-insert n (x ∷ xs) (suc i) r s from some le before behind = (
   s.0,
   s.1,
   spread-insert x.end xs i r s.2 (before zero x (omega arith) (omega arith)) some (omega (arith, le))
-    (λ k d lt there. before (suc k) d (omega (arith, lt)) (omega (arith, there))) (λ d lt. behind d (omega (arith, lt))),
+      (λ k d lt there. before (suc k) d (omega (arith, lt)) (omega (arith, there))) (λ d lt. behind d (omega (arith, lt))),
 )
 
 -- and its numbers are added

@@ -1,5 +1,5 @@
 -- States that are added one by one, to be regrouped.
-use Rattle.std.specs.Prelude.{◌≡◌, ◌≤◌, ◌^◌, ℕ, true, List, [], All}
+use Rattle.std.specs.Prelude.{◌≡◌, ◌≤◌, ◌<◌, ◌^◌, ℕ, true, List, [], All}
 use Rattle.pipe_columns.specs.declared.schema.Field.{Field}
 use Rattle.pipe_aggs.specs.declared.query.Query.{Query}
 use Rattle.pipe_model.specs.Groupable.{IsGroupable}
@@ -21,6 +21,11 @@ pub record RegroupingSeen : Type 0 where
   pub keep : List ℕ
   pub files : List StateSeen
 
+-- states can be regrouped: no two ranges share a number, and they are of fewer than 2^32 rows
+pub record CanRegroup (states : List StateSeen) : Type 0 where
+  pub apart : NoneOverlap states
+  pub few : total_rows states < 2 ^ 32
+
 -- states of which no two ranges share a number are of 2^32 rows or more
 pub record AreTooLarge (states : List StateSeen) : Type 0 where
   pub apart : NoneOverlap states
@@ -33,9 +38,9 @@ pub record IsRegrouping (q : QueryTree) (states : List StateSeen) (fields : List
   pub groupable : IsGroupable q
   pub kept : AreKept q groups.keep.items
   pub of_query : All (IsStateOf q) states
-  pub fields : fields ≡ output_schema (with_keys q groups.keep.items)
+  pub columns : fields ≡ output_schema (with_keys q groups.keep.items)
   pub covered : IsCoverageOf states c
   pub by : AreGroupsBy q groups.keep.items groups
-  pub groups : is_sound c ≡ true
+  pub joined : is_sound c ≡ true
       → groups_of groups
       ≡ with_rows groups.keep.items groups.rules.items [] (rows_of_states states)

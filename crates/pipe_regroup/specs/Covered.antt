@@ -1,5 +1,5 @@
 -- Of the proofs alone: what is found of the ranges of states, and of how many rows they are.
-use Rattle.std.specs.Prelude.{◌≡◌, ◌≤◌, ◌<◌, ◌&&◌, ◌||◌, ℕ, Bool, is_some, not, List, [], ◌∷◌, Option, Some, None}
+use Rattle.std.specs.Prelude.{◌≡◌, ◌&&◌, ℕ, Bool, is_some, not, List, Option, Some, None}
 use Rattle.std.specs.List.{list_any}
 use Rattle.pipe_states.specs.Ranges.{share_number}
 use Rattle.pipe_states.specs.States.{StateSeen}
@@ -7,21 +7,7 @@ use Rattle.pipe_states.specs.Together.{IsFirstOverlap, NoneOverlap, total_rows}
 use Rattle.pipe_regroup.specs.declared.coverage.Coverage.{Coverage}
 use Rattle.pipe_regroup.specs.declared.ranges.Range.{Range}
 use Rattle.pipe_regroup.specs.Regrouping.{held_count}
-
--- ranges in order from a number on: none is empty, and each begins at the end of the one before or
--- behind it
-abbrev pub AreSpread : ℕ → List Range → Type 0
-AreSpread from [] = Unit {0}
-AreSpread from (r ∷ ranges) = (from ≤ r.first) × (r.first < r.end) × AreSpread r.end ranges
-
--- whether one of some ranges shares a number with another
-abbrev pub meets : List Range → ℕ → ℕ → Bool
-meets ranges first end = list_any (λ r. share_number r.first r.end first end) ranges
-
--- ranges have the numbers of others and of one more
-abbrev pub HaveNumbersOf : List Range → ℕ → ℕ → List Range → Type 0
-HaveNumbersOf old first end new =
-    (f e : ℕ) → meets new f e ≡ (share_number first end f e || meets old f e)
+use Rattle.pipe_regroup.specs.Spread.{meets}
 
 -- ranges have the numbers of states
 abbrev pub HaveNumbers : List StateSeen → List Range → Type 0

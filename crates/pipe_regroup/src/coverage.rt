@@ -1,9 +1,14 @@
 //! What is found of the ranges of states, and of how many rows they are.
 
-ghost use Rattle.std.specs.Prelude.{◌≡◌, ◌∷◌, ◌++◌, [], map, OnOk, true};
+ghost use Rattle.std.specs.Prelude.{◌≡◌, ◌↔◌, ◌∷◌, ◌++◌, ℕ, List, [], Err, IsErrOf, map, OnOk, true};
+ghost use Rattle.pipe_regroup.specs.Added.{AreTooLarge};
 ghost use Rattle.pipe_regroup.specs.Covered.{IsCoverageOf, is_sound};
+ghost use Rattle.pipe_regroup.specs.declared.regroup_error.RegroupError.TheVariants as fault;
+ghost use Rattle.pipe_states.specs.States.{StateSeen};
+ghost use Rattle.pipe_states.specs.Together.{IsFirstOverlap};
 
 use crate::ranges::Ranges;
+use crate::regroup_error::RegroupError;
 use crate::total::{counted, more};
 use pipe_states::StateFile;
 use std::alloc::{AllocError, Global};
@@ -57,6 +62,24 @@ impl Coverage {
     pub(crate) fn is_sound(&self) -> bool
         ensures { result ≡ is_sound self.now }
     {
-        !self.overlap.is_some() && self.rows.is_some()
+        self.overlap.is_none() && self.rows.is_some()
+    }
+
+    /// What forbids to regroup the states, if anything does.
+    pub(crate) fn check(&self) -> Result<(), RegroupError>
+        ensures ok { OnOk result (is_sound self.now ≡ true) }
+        ensures memory { IsErrOf result fault.Memory → is_sound self.now ≡ true }
+        ensures overlap { (states : List StateSeen) (i : ℕ) → IsCoverageOf states self.now
+            → (result ≡ Err (fault.Overlap i)) ↔ IsFirstOverlap states i }
+        ensures large { (states : List StateSeen) → IsCoverageOf states self.now
+            → IsErrOf result fault.TooLarge ↔ AreTooLarge states }
+    {
+        if let Some(file) = self.overlap {
+            return Err(RegroupError::Overlap { file });
+        }
+        if self.rows.is_none() {
+            return Err(RegroupError::TooLarge);
+        }
+        Ok(())
     }
 }

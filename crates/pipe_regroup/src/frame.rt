@@ -1,7 +1,6 @@
 //! The frame of groups: a row for each, its key and then its results.
 
-ghost use Rattle.std.specs.Prelude.{◌≡◌, ◌<◌, false, IfOk, length, map, OnOk, set};
-ghost use Rattle.pipe_columns.specs.declared.any_value.AnyValue.TheVariants as av;
+ghost use Rattle.std.specs.Prelude.{◌≡◌, false, IfOk, map, OnOk};
 ghost use Rattle.pipe_columns.specs.Frame.{AreOfType, frame_of, value_at};
 ghost use Rattle.pipe_regroup.specs.Frames.{AreRowsOf, values_at, values_of, without};
 
@@ -10,15 +9,6 @@ use pipe_columns::{AnyValue, Column, DataFrame, Field, Schema};
 use std::alloc::{AllocError, Global};
 use std::mem;
 
-/// Takes the value at an index out, and leaves a null.
-fn take_out(values: &mut [AnyValue], index: usize) -> AnyValue
-    requires { index < length values.old }
-    ensures value { result ≡ value_at values.old index }
-    ensures rest { values.new ≡ set values.old index av.Null }
-{
-    mem::replace(&mut values[index], AnyValue::Null)
-}
-
 /// Takes the value at a place of a group's row out, null past the last.
 fn take_value(group: &mut Group, place: usize) -> AnyValue
     ensures value { result ≡ value_at (values_of group.old) place }
@@ -26,10 +16,10 @@ fn take_value(group: &mut Group, place: usize) -> AnyValue
 {
     let width = group.key.len();
     if place < width {
-        return take_out(&mut group.key, place);
+        return mem::replace(&mut group.key[place], AnyValue::Null);
     }
     if place - width < group.results.len() {
-        return take_out(&mut group.results, place - width);
+        return mem::replace(&mut group.results[place - width], AnyValue::Null);
     }
     AnyValue::Null
 }

@@ -1,6 +1,7 @@
 //! Saved states regrouped by some of their keys, and merged into one.
 #![tactic(auto)]
 
+mod at_once;
 mod coverage;
 mod frame;
 mod group;
@@ -9,7 +10,6 @@ mod kept_fields;
 mod merge;
 mod merge_error;
 mod ranges;
-mod regroup;
 mod regroup_error;
 mod regrouping;
 mod row_groups;
@@ -17,8 +17,8 @@ mod rule;
 mod setup;
 mod total;
 
+pub use at_once::regroup;
 pub use merge::merge_files;
 pub use merge_error::MergeError;
-pub use regroup::regroup;
 pub use regroup_error::RegroupError;
 pub use regrouping::Regrouping;

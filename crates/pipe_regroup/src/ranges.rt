@@ -1,7 +1,7 @@
 //! Ranges of positions, in order.
 
 ghost use Rattle.std.specs.Prelude.{◌≡◌, ◌≤◌, ◌<◌, ℕ, [], false, IfOk, IsTrue, length, not, slice_index_or};
-ghost use Rattle.pipe_regroup.specs.Covered.{AreSpread, HaveNumbersOf, meets};
+ghost use Rattle.pipe_regroup.specs.Spread.{AreSpread, HaveNumbersOf, meets};
 ghost use Rattle.pipe_regroup.specs.declared.ranges.Range.{Range};
 
 use std::alloc::{AllocError, Global};
@@ -48,7 +48,7 @@ pub struct Ranges {
 impl Model for Ranges {
     ghost use Rattle.std.specs.Prelude.{List};
     ghost use Rattle.pipe_regroup.specs.declared.ranges.Range.{Range};
-    ghost use Rattle.pipe_regroup.specs.Covered.{AreSpread};
+    ghost use Rattle.pipe_regroup.specs.Spread.{AreSpread};
 
     ghost Value = { List Range };
 

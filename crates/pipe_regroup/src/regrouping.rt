@@ -1,8 +1,8 @@
 //! States that are added one by one, and then regrouped by some of the keys.
 
-ghost use Rattle.std.specs.Prelude.{◌≡◌, ◌↔◌, ◌∷◌, ◌++◌, [], ℕ, Err, IfOk, IsErrOf};
+ghost use Rattle.std.specs.Prelude.{◌≡◌, ◌↔◌, ◌∷◌, ◌++◌, [], ℕ, Err, IfOk, IsErrOf, OnOk};
 ghost use Rattle.pipe_aggs.specs.QueryTrees.{query_tree};
-ghost use Rattle.pipe_regroup.specs.Added.{AreTooLarge};
+ghost use Rattle.pipe_regroup.specs.Added.{AreTooLarge, CanRegroup};
 ghost use Rattle.pipe_regroup.specs.declared.regroup_error.RegroupError.TheVariants as fault;
 ghost use Rattle.pipe_states.specs.Fair.{IsStateOf};
 ghost use Rattle.pipe_states.specs.Regrouped.{regrouped};
@@ -117,20 +117,19 @@ impl<'a> Regrouping<'a> {
         ensures overlap { (i : ℕ) → (result ≡ Err (fault.Overlap i))
             ↔ IsFirstOverlap self.entry.files i }
         ensures large { IsErrOf result fault.TooLarge ↔ AreTooLarge self.entry.files }
+        ensures ok { OnOk result (CanRegroup self.entry.files) }
+        ensures memory { IsErrOf result fault.Memory → CanRegroup self.entry.files }
     {
+        self.coverage.check()?;
         let Regrouping {
             query: _query,
             schema,
             groups,
             coverage,
-            added: _added,
+            added,
         } = self;
-        if let Some(file) = coverage.overlap {
-            return Err(RegroupError::Overlap { file });
-        }
-        if coverage.rows.is_none() {
-            return Err(RegroupError::TooLarge);
-        }
+        drop(coverage);
+        drop(added);
         let mut sorted = groups.sorted();
         Ok(frame_of_groups(alloc, &schema, &mut sorted)?)
     }

@@ -61,10 +61,7 @@ fn added<'a>(
 
 /// Whether the states of two chunks give the known frame. Where memory is wanting, they are added
 /// again.
-pub(crate) fn are_regrouped<'a>(
-    alloc: Global,
-    query: &'a CheckedQuery<'a>,
-) -> Result<bool, Fail> {
+pub(crate) fn are_regrouped<'a>(alloc: Global, query: &'a CheckedQuery<'a>) -> Result<bool, Fail> {
     let before = state_of(alloc, query, 0, three_rows(alloc)?)?;
     let behind = state_of(alloc, query, 1, one_row(alloc)?)?;
     match added(alloc, query, &behind, &before) {

@@ -26,7 +26,13 @@ pub(crate) fn is_of_both(file: &StateFile) -> bool {
     file.first() == 0
         && file.end() == 2
         && rows.len() == 3
-        && is_row(&rows[0], [1, 1], [at(0, 0), at(1, 0)], 2, &[14, 5, 14, 2, 9])
+        && is_row(
+            &rows[0],
+            [1, 1],
+            [at(0, 0), at(1, 0)],
+            2,
+            &[14, 5, 14, 2, 9],
+        )
         && is_row(&rows[1], [1, 2], [at(0, 1), at(0, 1)], 1, &[6, 6, 6, 1, 6])
         && is_row(&rows[2], [2, 1], [at(0, 2), at(0, 2)], 1, &[7, 7, 7, 1, 7])
 }

@@ -69,10 +69,7 @@ pub(crate) fn gives_worked<'a>(
 }
 
 /// Whether the second of two states of one position is told.
-pub(crate) fn tells_overlap<'a>(
-    alloc: Global,
-    query: &'a CheckedQuery<'a>,
-) -> Result<bool, Fail> {
+pub(crate) fn tells_overlap<'a>(alloc: Global, query: &'a CheckedQuery<'a>) -> Result<bool, Fail> {
     let before = state_of(alloc, query, 0, three_rows(alloc)?)?;
     let same = state_of(alloc, query, 0, one_row(alloc)?)?;
     match by_first_key(alloc, query, &[before, same]) {

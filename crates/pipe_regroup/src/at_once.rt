@@ -1,8 +1,8 @@
 //! States that are at hand, regrouped by some of the keys.
 
-ghost use Rattle.std.specs.Prelude.{◌≡◌, ◌↔◌, ℕ, All, Err, IfOk, IsErrOf};
+ghost use Rattle.std.specs.Prelude.{◌≡◌, ℕ, All, Err, IfOk, IsErrOf, OnOk};
 ghost use Rattle.pipe_aggs.specs.QueryTrees.{query_tree};
-ghost use Rattle.pipe_regroup.specs.Added.{AreTooLarge};
+ghost use Rattle.pipe_regroup.specs.Added.{AreTooLarge, CanRegroup};
 ghost use Rattle.pipe_regroup.specs.declared.regroup_error.RegroupError.TheVariants as fault;
 ghost use Rattle.pipe_states.specs.Fair.{IsStateOf};
 ghost use Rattle.pipe_states.specs.Regrouped.{regrouped};
@@ -27,8 +27,9 @@ pub fn regroup<'a>(
     requires kept { AreKept (query_tree query.now) keep.now }
     requires of_query { All (IsStateOf (query_tree query.now)) files.now }
     ensures frame { IfOk result (λ f. f ≡ regrouped (query_tree query.now) files.now keep.now) }
-    ensures overlap { (i : ℕ) → (result ≡ Err (fault.Overlap i)) ↔ IsFirstOverlap files.now i }
-    ensures large { IsErrOf result fault.TooLarge ↔ AreTooLarge files.now }
+    ensures ok { OnOk result (CanRegroup files.now) }
+    ensures overlap { (i : ℕ) → result ≡ Err (fault.Overlap i) → IsFirstOverlap files.now i }
+    ensures large { IsErrOf result fault.TooLarge → AreTooLarge files.now }
 {
     let mut regrouping = Regrouping::begin(alloc, query, keep)?;
     for file in files {
