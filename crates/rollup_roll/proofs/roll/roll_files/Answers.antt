@@ -7,7 +7,7 @@ use Rattle.pipe_states.specs.Regrouped.{regrouped}
 use Rattle.pipe_states.specs.States.{StateSeen}
 use Rattle.pipe_states.specs.Together.{IsFirstOverlap}
 use Rattle.rollup_roll.specs.Told.{TellsState}
-use Rattle.rollup_roll.proofs.RollFacts.{first-within}
+use Rattle.rollup_roll.proofs.OverlapFacts.{first-within}
 use Rattle.rollup_roll.proofs.roll.roll_files.Goals as goal
 
 pub returns-in_err-begun-clause-tried : goal.returns-in_err-begun-clause-tried
