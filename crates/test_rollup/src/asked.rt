@@ -7,10 +7,12 @@ use std::alloc::{AllocError, Global};
 use std::thread::Threads;
 
 /// The sum s of v by k.
-const QUERY: &str = r#"{"schema":[["k","Int64"],["v","Int64"]],"keys":["k"],"aggs":[{"alias":[{"sum":"v"},"s"]}]}"#;
+const QUERY: &str =
+    r#"{"schema":[["k","Int64"],["v","Int64"]],"keys":["k"],"aggs":[{"alias":[{"sum":"v"},"s"]}]}"#;
 
 /// The state of the row 1,5 in chunk 0.
-pub(crate) const STATE: &[u8] = b"\0\0\0\0\0\0\0\x01\0\0\0\0\0\0\0\x01\0\0\0\0\0\0\0\0\0\0\0\0\0\0\0\x09\x01\x80\0\0\0\0\0\0\x01\x01\0\0\0\0\x01\0\0\0\0\x01\0\0\0\x01\x01\x80\0\0\0\0\0\0\x05";
+pub(crate) const STATE: &[u8] =
+    b"\0\0\0\0\0\0\0\x01\0\0\0\0\0\0\0\x01\0\0\0\0\0\0\0\0\0\0\0\0\0\0\0\x09\x01\x80\0\0\0\0\0\0\x01\x01\0\0\0\0\x01\0\0\0\0\x01\0\0\0\x01\x01\x80\0\0\0\0\0\0\x05";
 
 /// Files: the row 1,5 as CSV, its state, that of the row 1,7 in chunk 1, and bytes that are none.
 const FILES: [(&str, &[u8]); 4] = [
@@ -130,5 +132,5 @@ pub(crate) fn ends<H: Threads + Sync>(
     told: &[u8],
 ) -> Result<bool, AllocError> {
     let end = ended(rt, alloc, asked)?;
-    Ok(end.status == status && end.written == written && end.told == told)
+    Ok(end.status == status && end.written.as_slice() == written && end.told.as_slice() == told)
 }

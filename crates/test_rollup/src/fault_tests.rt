@@ -1,18 +1,27 @@
 //! Calls of inputs and outputs that fail.
 
 use crate::asked::{Asked, asked, ended, ends};
+use std::alloc::Global;
 use std::test::Fail;
+use std::thread::Threads;
 
 /// How many calls of the input a command takes: those that fail, if one of these does.
-fn failing_calls(rt: &HostRuntime, command: Asked<'_>) -> Result<u64, Fail> {
+fn failing_calls<H: Threads + Sync>(
+    rt: &H,
+    alloc: Global,
+    command: Asked<'_>,
+) -> Result<u64, Fail> {
     for call in 0..20 {
         let mut failing = command;
         failing.input = Some(call);
-        let end = ended(rt, rt.alloc(), failing)?;
+        let end = ended(rt, alloc, failing)?;
         if end.status == 0 {
             return Ok(call);
         }
-        if end.status != 5 || !end.written.is_empty() || end.told != b"input failed\n" {
+        if end.status != 5
+            || !end.written.is_empty()
+            || end.told.as_slice() != b"input failed\n".as_slice()
+        {
             return Err("another end".into());
         }
     }
@@ -22,7 +31,7 @@ fn failing_calls(rt: &HostRuntime, command: Asked<'_>) -> Result<u64, Fail> {
 /// Each call of the input that reads a file of CSV fails: its begin, its bytes and its end.
 #[test]
 fn each_call_of_a_saved_file_fails(rt: HostRuntime) -> Result<(), Fail> {
-    match failing_calls(&rt, asked("save", "0", &["a.csv"]))? {
+    match failing_calls(&rt, rt.alloc(), asked("save", "0", &["a.csv"]))? {
         3 => Ok(()),
         _ => Err("another number of calls".into()),
     }
@@ -31,7 +40,7 @@ fn each_call_of_a_saved_file_fails(rt: HostRuntime) -> Result<(), Fail> {
 /// Each call of the input that reads two states fails.
 #[test]
 fn each_call_of_states_fails(rt: HostRuntime) -> Result<(), Fail> {
-    match failing_calls(&rt, asked("roll", "[\"k\"]", &["b", "a"]))? {
+    match failing_calls(&rt, rt.alloc(), asked("roll", "[\"k\"]", &["b", "a"]))? {
         6 => Ok(()),
         _ => Err("another number of calls".into()),
     }

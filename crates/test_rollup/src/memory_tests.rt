@@ -8,7 +8,7 @@ use std::test::Fail;
 fn a_file_where_memory_wants(rt: HostRuntime) -> Result<(), Fail> {
     let end = ended(&rt, rt.alloc(), asked("save", "0", &["a.csv"]))?;
     match end.status {
-        0 if end.written == STATE => Ok(()),
+        0 if end.written.as_slice() == STATE => Ok(()),
         10 => Err("run_rollup wants memory".into()),
         _ => Err("something else".into()),
     }
@@ -19,7 +19,7 @@ fn a_file_where_memory_wants(rt: HostRuntime) -> Result<(), Fail> {
 fn states_where_memory_wants(rt: HostRuntime) -> Result<(), Fail> {
     let end = ended(&rt, rt.alloc(), asked("roll", "[\"k\"]", &["b", "a"]))?;
     match end.status {
-        0 if end.written == b"k,s\n1,12\n" => Ok(()),
+        0 if end.written.as_slice() == b"k,s\n1,12\n".as_slice() => Ok(()),
         10 => Err("run_rollup wants memory".into()),
         _ => Err("something else".into()),
     }
