@@ -431,7 +431,7 @@ def rooms():
     """The rooms of crates.txt, in order: the word of each heading, and its crates."""
     found = []
     for line in read("crates.txt").splitlines():
-        heading = re.match(r"# (\w+): ", line)
+        heading = re.match(r"# ([\w-]+): ", line)
         if heading:
             found.append((heading.group(1), []))
         elif found and ":" in line and not line.startswith("#"):
