@@ -1,4 +1,4 @@
-//! A first block of memory.
+//! Memory that a program takes first.
 
 use std::alloc::{AllocError, Global};
 
