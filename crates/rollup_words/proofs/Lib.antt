@@ -1,0 +1,3 @@
+pub mod DigitFacts
+pub mod KeyFacts
+pub mod AskedFacts

@@ -1,0 +1,3 @@
+pub mod QueryWord
+pub mod Names
+pub mod Reading
