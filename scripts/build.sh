@@ -13,9 +13,11 @@ if [ ! -x "$made/group_tool" ] || [ "$(cat "$made/built" 2>/dev/null)" != "$sum"
     tree=$(mktemp -d)
     trap 'rm -rf "$tree" "$tree.log"' EXIT
     chmod 711 "$tree"
-    python3 scripts/tree_below.py group_tool "$tree"
+    apart=$(python3 scripts/tree_below.py group_tool "$tree")
     echo "proving and building group_tool" >&2
-    source scripts/jobs.sh
+    # First the crates that can be proved side by side, one on each processor; then the chain above them, for which rt gives
+    # one crate several processors, as it does where it isn't told how many.
+    (source scripts/jobs.sh && cd "$tree" && rt ci $apart 2>&1) | grep --line-buffered -E '^rt: .* proved' >&2 || true
     if ! (cd "$tree" && rt ci 2>&1) | tee "$tree.log" | grep --line-buffered -E '^rt: .* (proved|is kept)' >&2 || ! tail -n 1 "$tree.log" | grep -q ' passed, 0 failed'; then
         tail -n 20 "$tree.log" >&2
         echo "build.sh: group_tool was not built" >&2
