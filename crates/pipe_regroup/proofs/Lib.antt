@@ -13,3 +13,8 @@ mod HoldFacts
 mod ExtremeFacts
 mod TupleLists
 mod RuleJoins
+mod RangeOrder
+mod CoverFacts
+mod FrameRows
+mod FieldFacts
+mod AddedFacts

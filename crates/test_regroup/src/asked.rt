@@ -33,8 +33,8 @@ fn named_agg(alloc: Global, arena: &mut Arena, agg: IRAggExpr, name: &str) -> Re
     added(arena, AExpr::Alias(value, Text::new(alloc, name)?))
 }
 
-/// The sum s, the first f and the mean m of v by k and g.
-pub(crate) fn three_aggregates(alloc: Global) -> Result<Query, Fail> {
+/// The sum s, the first f, the mean m and the last l of v by k and g.
+pub(crate) fn four_aggregates(alloc: Global) -> Result<Query, Fail> {
     let mut arena = Arena::new(alloc);
     let k = added(&mut arena, AExpr::Column(Text::new(alloc, "k")?))?;
     let g = added(&mut arena, AExpr::Column(Text::new(alloc, "g")?))?;
@@ -42,11 +42,12 @@ pub(crate) fn three_aggregates(alloc: Global) -> Result<Query, Fail> {
     let sum = named_agg(alloc, &mut arena, IRAggExpr::Sum(v), "s")?;
     let first = named_agg(alloc, &mut arena, IRAggExpr::First(v), "f")?;
     let mean = named_agg(alloc, &mut arena, IRAggExpr::Mean(v), "m")?;
+    let last = named_agg(alloc, &mut arena, IRAggExpr::Last(v), "l")?;
     Ok(Query {
         schema: schema_of(alloc)?,
         arena,
         keys: vec![in alloc; k, g]?,
-        aggs: vec![in alloc; sum, first, mean]?,
+        aggs: vec![in alloc; sum, first, mean, last]?,
         slice: None,
         maintain_order: false,
     })
@@ -65,7 +66,7 @@ fn column_of(alloc: Global, name: &str, numbers: &[i128]) -> Result<Column, Fail
 }
 
 /// A chunk of these numbers, column by column.
-pub(crate) fn chunk_of(alloc: Global, numbers: [&[i128]; 3]) -> Result<DataChunk, Fail> {
+fn chunk_of(alloc: Global, numbers: [&[i128]; 3]) -> Result<DataChunk, Fail> {
     let mut columns = Vec::new(alloc);
     for i in 0..3 {
         columns.push(column_of(alloc, COLUMNS[i], numbers[i])?)?;
@@ -77,4 +78,27 @@ pub(crate) fn chunk_of(alloc: Global, numbers: [&[i128]; 3]) -> Result<DataChunk
         }),
         None => Err("no frame".into()),
     }
+}
+
+/// The rows 1,1,5 and 1,2,6 and 2,1,7.
+pub(crate) fn three_rows(alloc: Global) -> Result<DataChunk, Fail> {
+    chunk_of(alloc, [&[1, 1, 2], &[1, 2, 1], &[5, 6, 7]])
+}
+
+/// The row 1,1,9.
+pub(crate) fn one_row(alloc: Global) -> Result<DataChunk, Fail> {
+    chunk_of(alloc, [&[1], &[1], &[9]])
+}
+
+/// Whether values are these numbers.
+pub(crate) fn are(values: &[AnyValue], numbers: &[i128]) -> bool {
+    if values.len() != numbers.len() {
+        return false;
+    }
+    for i in 0..numbers.len() {
+        if values[i] != AnyValue::Int(numbers[i]) {
+            return false;
+        }
+    }
+    true
 }
