@@ -333,7 +333,7 @@ def check_first_promises():
 
 # ---- files, options, crates
 
-FOLDERS = ["crates", "cases", "docs", "scripts", "bench", "src", "specs", "proofs", TRIED, MORE]
+FOLDERS = ["crates", "cases", "docs", "examples", "scripts", "bench", "src", "specs", "proofs", TRIED, MORE]
 ALONE_NAME = r"(?<![\w./*-])\w[\w.-]*\.(?:rt|antt|md|sh|py|edit|order)\b"
 HOLE = re.compile(r"NAME|<|\.\.\.")
 
@@ -443,7 +443,7 @@ def rooms():
     """The rooms of crates.txt, in order: the word of each heading, and its crates."""
     found = []
     for line in read("crates.txt").splitlines():
-        heading = re.match(r"# (\w+): ", line)
+        heading = re.match(r"# ([\w-]+): ", line)
         if heading:
             found.append((heading.group(1), []))
         elif found and ":" in line and not line.startswith("#"):

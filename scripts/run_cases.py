@@ -1,8 +1,9 @@
 #!/usr/bin/env python3
 """Runs the cases below cases/ on built programs, and says in a line each where a run differs from what its case says.
 
-usage: scripts/run_cases.py [PROGRAM..], where the programs are those that `rt ci` leaves in crates/group_tool/out if none is named.
-cases/README.md says what a case is. Each run has a fresh folder, and is nobody's where this script is root's.
+usage: scripts/run_cases.py [PROGRAM..], where the programs are those that `rt ci` leaves in the folders crates/NAME/out if none is named.
+cases/README.md says what a case is. A case is run on the programs of its name alone, with or without an ending such as `.by-rattle`.
+Each run has a fresh folder, and is nobody's where this script is root's.
 """
 
 import contextlib
@@ -16,9 +17,10 @@ from concurrent.futures import ThreadPoolExecutor
 
 ROOT = os.path.dirname(os.path.dirname(os.path.abspath(__file__)))
 CASES = os.path.join(ROOT, "cases")
-BUILT = [os.path.join(ROOT, "crates/group_tool/out", name) for name in ("group_tool", "group_tool.by-rattle")]
+NAMES = ["group_tool", "rollup_tool"]
+BUILT = [os.path.join(ROOT, "crates", name, "out", name + ending) for name in NAMES for ending in ("", ".by-rattle")]
 CHOSEN = os.path.join(ROOT, "bench/chosen_keys.py")
-PARTS = {"args", "options", "stdin", "chosen", "seconds", "stdout", "stderr", "status", "files", "made", "fed", "left"}
+PARTS = {"program", "args", "options", "stdin", "chosen", "seconds", "stdout", "stderr", "status", "files", "made", "fed", "left"}
 NOBODY = 65534
 AS_NOBODY = ["setpriv", f"--reuid={NOBODY}", f"--regid={NOBODY}", "--clear-groups", "--no-new-privs"]
 SECONDS = 60
@@ -59,9 +61,16 @@ def all_cases():
     return sorted(entry.path for subject in subjects for entry in os.scandir(subject) if entry.is_dir())
 
 
+def program_of(case):
+    """The name of the program that a case is for."""
+    return read(os.path.join(case, "program")).decode().strip() or NAMES[0]
+
+
 def fault_of(case):
     """What is wrong with a case itself, if anything is."""
     parts = set(os.listdir(case))
+    if program_of(case) not in NAMES:
+        return f"it is for {program_of(case)}, which is no program"
     if "args" not in parts:
         return "it has no args"
     if parts - PARTS:
@@ -200,7 +209,8 @@ def told_of(case, programs, room):
     fault = fault_of(case)
     if fault:
         return [f"{os.path.relpath(case, CASES)}: {fault}"]
-    return [line for program in programs for line in failures(case, program, room)]
+    mine = [program for program in programs if os.path.basename(program).split(".")[0] == program_of(case)]
+    return [line for program in mine for line in failures(case, program, room)]
 
 
 def copied(programs, room):
@@ -217,9 +227,10 @@ def main():
     for program in programs:
         if not os.access(program, os.X_OK) or os.path.isdir(program):
             raise SystemExit(f"run_cases: {program} is no program")
-    cases = all_cases()
+    named = {os.path.basename(program).split(".")[0] for program in programs}
+    cases = [case for case in all_cases() if fault_of(case) or program_of(case) in named]
     if not programs:
-        raise SystemExit("run_cases: no program is built; `rt ci` builds it, or `rt run` in crates/group_tool")
+        raise SystemExit("run_cases: no program is built; `rt ci` builds them, or `rt run` in crates/group_tool and crates/rollup_tool")
     if not cases:
         raise SystemExit("run_cases: there is no case")
     with tempfile.TemporaryDirectory(prefix="run-cases-") as room:

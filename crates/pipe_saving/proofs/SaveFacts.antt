@@ -1,13 +1,12 @@
 -- States of chunks that are taken one by one.
-use Rattle.std.proofs.Common.{◌≡◌, ◌∙◌, ℕ, ◌+◌, ◌<◌, List, [], ◌∷◌, ◌++◌, length, map, take, drop, get_or, sym, ap, subst, arith}
+use Rattle.std.proofs.Common.{◌≡◌, ◌∙◌, ℕ, ◌+◌, List, [], ◌∷◌, ◌++◌, length, map, sym, ap, subst}
 use Rattle.std.specs.declared.snapshot.Snapshot.{Snapshot}
-use Rattle.std.proofs.lemmas.List.{length-append, length-map, map-append, take-append-drop, take_more}
-use Rattle.std.proofs.lemmas.List.Sums.{sum_by-append}
+use Rattle.std.proofs.lemmas.List.{length-map, map-append}
 use Rattle.pipe_columns.specs.declared.data_chunk.DataChunk.{DataChunk}
 use Rattle.pipe_groups.specs.Groups.{Group}
 use Rattle.pipe_keyed.specs.Tables.{Table}
 use Rattle.pipe_model.specs.Query.{QueryTree}
-use Rattle.pipe_model.specs.Rows.{rows_from, total_height}
+use Rattle.pipe_model.specs.Rows.{rows_from}
 use Rattle.pipe_saving.specs.declared.extent.Extent.{Extent}
 use Rattle.pipe_saving.specs.Extents.{extent_of}
 use Rattle.pipe_saving.specs.Refusals.{AreFew}
@@ -42,17 +41,3 @@ file-is q first taken end rows e is = λ i. record { first = first; end = e i; r
 pub file-fair : (q : QueryTree) (first : ℕ) (taken : List DataChunk) (end : ℕ) (rows : List StateRow) → AreFew first taken → end ≡ first + length taken → rows ≡ state_rows q (rows_from q first taken)
     → IsFair (record { first = first; end = end; rows = rows })
 file-fair q first taken end rows few e is = subst IsFair (sym (file-is q first taken end rows e is)) (saved-fair q (part_of q first taken) (can-save q first taken few))
-
--- ---- chunks in turn
-
--- the first so many of few chunks are few
-pub few-front : (first : ℕ) (chunks : List DataChunk) (i : ℕ) (d : DataChunk) → AreFew first chunks → i < length chunks → AreFew first (take i chunks ++ get_or chunks i d ∷ [])
-few-front first chunks i d few lt =
-    let front : List DataChunk = take (i + 1) chunks in
-    let whole : front ++ drop (i + 1) chunks ≡ chunks = take-append-drop (i + 1) chunks in
-    let rows = sum_by-append (λ (c : DataChunk). c.frame.height) front (drop (i + 1) chunks) in
-    let all = ap total_height whole in
-    let count = length-append front (drop (i + 1) chunks) in
-    let many = ap (λ (l : List DataChunk). length l) whole in
-    subst (AreFew first) (take_more chunks i d lt)
-    (record { rows = omega (arith, few.rows, rows, all); positions = omega (arith, few.positions, count, many) })

@@ -27,11 +27,8 @@ fn save_all<'a>(
         f ≡ saved q (part_of q first chunks.now)) }
     ensures of_query { IfOk result (IsStateOf (query_tree query.now)) }
 {
-    let mut saving = Saving::new(alloc, query, first)?;
-    for chunk in chunks {
-        saving = saving.feed(alloc, chunk)?;
-    }
-    saving.finish(alloc)
+    let saving = Saving::new(alloc, query, first)?;
+    saving.feed_all(alloc, chunks)?.finish(alloc)
 }
 
 /// The state of chunks, of which the first has a position and each other one the next. The query's

@@ -22,7 +22,7 @@ fn first_misfit(chunks: &[DataChunk], schema: &Schema) -> Option<usize>
 }
 
 /// How many rows chunks have, where they are fewer than 2^32.
-fn total_rows(chunks: &[DataChunk]) -> Option<u64>
+pub(crate) fn total_rows(chunks: &[DataChunk]) -> Option<u64>
     ensures some { IfSome result (λ n. n ≡ total_height chunks.now) }
     ensures few { IfSome result (λ n. n < 2 ^ 32) }
     ensures none { IfNone result (2 ^ 32 ≤ total_height chunks.now) }

@@ -3,11 +3,12 @@
 ghost use Rattle.std.specs.Prelude.{◌≡◌, ◌↔◌, ◌∷◌, ◌++◌, [], IfOk, IsTrue, map, OnOk};
 ghost use Rattle.pipe_aggs.specs.QueryTrees.{query_tree};
 ghost use Rattle.pipe_columns.specs.Frame.{FitsSchema};
-ghost use Rattle.pipe_saving.specs.Refusals.{AreFew};
+ghost use Rattle.pipe_saving.specs.Refusals.{AllFit, AreFew};
 ghost use Rattle.pipe_saving.specs.Taken.{HasTaken};
 ghost use Rattle.pipe_states.specs.Fair.{IsStateOf};
 ghost use Rattle.pipe_states.specs.Parts.{part_of, saved};
 
+use crate::chunk_check::total_rows;
 use crate::fed_groups::FedGroups;
 use pipe_aggs::CheckedQuery;
 use pipe_columns::DataChunk;
@@ -124,6 +125,18 @@ impl<'a> Saving<'a> {
         chunk.frame.height() as u64 <= most - self.rows && end < most
     }
 
+    /// Whether there is room for some chunks more, all of them.
+    pub fn has_room_for(&self, chunks: &[DataChunk]) -> bool
+        ensures { IsTrue result ↔ AreFew self.now.first (self.now.taken ++ chunks.now) }
+    {
+        let most = u64::from(u32::MAX);
+        let end = u64::from(self.first) + self.taken.len() as u64;
+        match total_rows(chunks) {
+            Some(rows) => rows <= most - self.rows && chunks.len() as u64 <= most - end,
+            None => false,
+        }
+    }
+
     /// Takes the rows of the next chunk, which may then be dropped.
     pub fn feed(self, alloc: Global, chunk: &DataChunk) -> Result<Saving<'a>, AllocError>
         requires fits { FitsSchema self.query.schema chunk.now.frame }
@@ -149,6 +162,21 @@ impl<'a> Saving<'a> {
             rows,
             taken,
         })
+    }
+
+    /// Takes the rows of the next chunks, one after another.
+    pub fn feed_all(self, alloc: Global, chunks: &[DataChunk]) -> Result<Saving<'a>, AllocError>
+        requires fit { AllFit self.query.schema chunks.now }
+        requires few { AreFew self.first (self.taken ++ chunks.now) }
+        ensures query { IfOk result (λ s. s.query ≡ self.entry.query) }
+        ensures first { IfOk result (λ s. s.first ≡ self.entry.first) }
+        ensures taken { IfOk result (λ s. s.taken ≡ self.entry.taken ++ chunks.now) }
+    {
+        let mut saving = self;
+        for chunk in chunks {
+            saving = saving.feed(alloc, chunk)?;
+        }
+        Ok(saving)
     }
 
     /// The state of the chunks taken.

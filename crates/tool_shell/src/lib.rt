@@ -1,11 +1,13 @@
 //! The shell around a program: what it is given, its exit statuses, and the line that tells of a fault.
 #![tactic(auto)]
 
+mod first_block;
 mod given;
 mod line;
 mod status;
 mod untaken;
 
+pub use first_block::first_block;
 pub use given::{Given, given_by};
 pub use line::put_line;
 pub use status::{

@@ -1,0 +1,3 @@
+pub mod TellFacts
+pub mod CauseFacts
+pub mod RollupFacts

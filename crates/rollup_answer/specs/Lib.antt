@@ -1,0 +1,4 @@
+pub mod Faults
+pub mod Headline
+pub mod Inside
+pub mod Status

@@ -1,0 +1,4 @@
+pub mod TellFacts
+pub mod RollFacts
+pub mod OverlapFacts
+pub mod OneEnd

@@ -1,0 +1,3 @@
+pub mod Told
+pub mod Rolled
+pub mod Reading

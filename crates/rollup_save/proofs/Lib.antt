@@ -1,0 +1,3 @@
+pub mod StateFacts
+pub mod RoundFacts
+pub mod FileFacts

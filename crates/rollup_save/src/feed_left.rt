@@ -1,0 +1,84 @@
+//! Chunks that are read in rounds, and fed to a state in the making.
+
+ghost use Rattle.std.specs.Prelude.{◌≡◌, ◌<◌, ℕ, [], IfErr, IfOk, IfSome, IsErrOf, None};
+ghost use Rattle.pipe_columns.specs.Causes.{Rose};
+ghost use Rattle.pipe_csv.specs.declared.csv_error.CsvError.TheVariants as csv_error;
+ghost use Rattle.pipe_io.specs.Tried.{TriedFront};
+ghost use Rattle.pipe_saving.specs.Refusals.{AllFit, AreFew};
+ghost use Rattle.pipe_source.specs.CsvChunks.{chunks_then, CsvChunks};
+ghost use Rattle.pipe_source.specs.Reader.{chunks_left, given_fields};
+ghost use Rattle.pipe_source.specs.Rounds.{StopsWithin};
+ghost use Rattle.rollup_save.specs.Saves.{end_of, Tells};
+
+use pipe_columns::DataChunk;
+use pipe_csv::CsvError;
+use pipe_io::InputFiles;
+use pipe_saving::Saving;
+use pipe_source::ChunkReader;
+use std::alloc::Global;
+use std::thread::Threads;
+
+/// Chunks have fewer positions than this.
+const MOST: usize = 1 << 32;
+
+/// Why saving ends where the reading was refused behind some chunks more: there may be no room for these.
+fn ending_behind(saving: &Saving<'_>, error: CsvError, chunks: &[DataChunk]) -> CsvError
+    ensures ends { (left : CsvChunks) (most : ℕ) → StopsWithin most error chunks.now left
+        → Tells result (end_of saving.now.first (chunks_then saving.now.taken left)) }
+    ensures failed { result ≡ csv_error.Input → error ≡ csv_error.Input }
+{
+    if saving.has_room_for(chunks) {
+        return error;
+    }
+    match error {
+        CsvError::Input => CsvError::Input,
+        CsvError::Memory => CsvError::Memory,
+        _ => CsvError::TooLarge,
+    }
+}
+
+/// Feeds all chunks that a reader has left to a state in the making that has taken none, so many at a
+/// time, which are read in so many threads. The chunks of a round are read into the memory of those of
+/// the one before.
+pub(crate) fn feed_left<'a, I: InputFiles, H: Threads + Sync>(
+    rt: &H,
+    alloc: Global,
+    saving: Saving<'a>,
+    input: &mut I,
+    reader: &mut ChunkReader,
+    most: usize,
+    threads: usize,
+) -> Result<Saving<'a>, CsvError>
+    requires most { 0 < most }
+    requires threads { 0 < threads }
+    requires none { saving.taken ≡ [] }
+    requires few { AreFew saving.first [] }
+    requires fits { given_fields reader.old ≡ saving.query.schema }
+    ensures query { IfOk result (λ s. s.query ≡ saving.entry.query) }
+    ensures first { IfOk result (λ s. s.first ≡ saving.entry.first) }
+    ensures all { IfOk result (λ s. IfSome (I.told input.old)
+        (λ files. chunks_left files reader.old ≡ record { chunks = s.taken; stop = None })) }
+    ensures fit { IfOk result (λ s. AllFit saving.entry.query.schema s.taken) }
+    ensures few { IfOk result (λ s. AreFew saving.entry.first s.taken) }
+    ensures cause { IfErr result (λ e. IfSome (I.told input.old)
+        (λ files. Tells e (end_of saving.entry.first (chunks_left files reader.old)))) }
+    ensures failed { IsErrOf result csv_error.Input → Rose (I.faults input.old) (I.faults input.new) }
+    ensures tried { TriedFront (I.tried input.old) (I.tried input.new) reader.old.names }
+{
+    let mut saving = saving;
+    for _ in 0..MOST {
+        let chunks = match reader.get_round(rt, alloc, input, most, threads) {
+            Ok(chunks) => chunks,
+            Err((error, chunks)) => return Err(ending_behind(&saving, error, &chunks)),
+        };
+        if !saving.has_room_for(&chunks) {
+            return Err(CsvError::TooLarge);
+        }
+        saving = saving.feed_all(alloc, &chunks)?;
+        if chunks.len() < most {
+            return Ok(saving);
+        }
+        reader.take_back(chunks);
+    }
+    unreachable!()
+}

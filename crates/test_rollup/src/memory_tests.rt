@@ -1,0 +1,26 @@
+//! Commands where memory is wanting.
+
+use crate::asked::{STATE, asked, ended};
+use std::test::Fail;
+
+/// A refused allocation ends a command by its status, with nothing written.
+#[test]
+fn a_file_where_memory_wants(rt: HostRuntime) -> Result<(), Fail> {
+    let end = ended(&rt, rt.alloc(), asked("save", "0", &["a.csv"]))?;
+    match end.status {
+        0 if end.written == STATE => Ok(()),
+        10 => Err("run_rollup wants memory".into()),
+        _ => Err("something else".into()),
+    }
+}
+
+/// So too of states.
+#[test]
+fn states_where_memory_wants(rt: HostRuntime) -> Result<(), Fail> {
+    let end = ended(&rt, rt.alloc(), asked("roll", "[\"k\"]", &["b", "a"]))?;
+    match end.status {
+        0 if end.written == b"k,s\n1,12\n" => Ok(()),
+        10 => Err("run_rollup wants memory".into()),
+        _ => Err("something else".into()),
+    }
+}
