@@ -1,5 +1,6 @@
 -- What is saved of files over the columns that a query names alone.
-use Rattle.std.proofs.Common.{◌≡◌, ◌∙◌, ◌+◌, ◌^◌, ◌&&◌, ℕ, nat_lt, Bool, true, if◌then◌else◌, List, [], ◌∷◌, length, Option, Some, None, refl, sym, ap, subst}
+use Rattle.std.proofs.Common.{◌≡◌, ◌∙◌, ◌+◌, ◌^◌, ◌&&◌, ℕ, nat_lt, Bool, true, if◌then◌else◌, List, [], ◌∷◌, length, Option, Some, None, Result, Ok, Err, IfOk, IfErr, OnOk, Vec, refl, sym, ap, subst}
+use Rattle.std.specs.declared.alloc.Global.{Global}
 use Rattle.std.specs.List.{fold, list_any}
 use Rattle.std.specs.Option.{IfSome}
 use Rattle.std.proofs.lemmas.List.{length-map}
@@ -19,9 +20,9 @@ use Rattle.pipe_source.specs.CsvChunks.{csv_chunks, CsvChunks, Stop, too_large, 
 use Rattle.pipe_source.specs.Reader.{chunks_left, ReaderState}
 use Rattle.pipe_source.proofs.ChunksFit.{chunks-fit}
 use Rattle.pipe_states.specs.Parts.{part_of, saved}
-use Rattle.pipe_states.specs.States.{StateSeen}
 use Rattle.pipe_states.specs.StateText.{state_text}
-use Rattle.rollup_save.specs.Saves.{are_few, end_of, end_of_files, file_chunks, IsSavedOf, save_options, Tells, text_of_files}
+use Rattle.rollup_save.specs.Saves.{are_few, end_of, end_of_files, file_chunks, save_options, Tells, text_of_files}
+use Rattle.rollup_save.specs.Taken.{IsTextOf}
 use Rattle.rollup_save.proofs.RoundFacts.{end-few}
 use Rattle.rollup_save.proofs.StateFacts.{state-same, text-same}
 
@@ -55,24 +56,36 @@ module _ (q : Query) (ws : List Bool) (first : ℕ) (names : List (List ℕ)) (c
   end-left files = ap (end_of first) (left files) ∙ end-same ws first (file_chunks files names (query_tree q))
 
   -- why saving it ends is why that of the files does
-  pub file-told : (told : Option Files) (e : CsvError) → IfSome told (λ files. Tells e (end_of first (chunks_left files r))) → IfSome told (λ files. Tells e (end_of_files files names (query_tree q) first))
+  file-told : (told : Option Files) (e : CsvError) → IfSome told (λ files. Tells e (end_of first (chunks_left files r))) → IfSome told (λ files. Tells e (end_of_files files names (query_tree q) first))
   file-told None e h = tt
   file-told (Some files) e h = subst (Tells e) (end-left files) h
 
   -- where all of it was saved, nothing ended the files
-  pub file-whole : (told : Option Files) (s : StateSeen) → IsSavedOf (query_tree (narrowed_query ws q)) first told r s → IfSome told (λ files. end_of_files files names (query_tree q) first ≡ None)
-  file-whole None s is = tt
-  file-whole (Some files) s is = sym (end-left files) ∙ ap (end_of first) is.all ∙ end-few first is.chunks None is.can.few
+  file-whole : (told : Option Files) (text : List ℕ) → IsTextOf (query_tree (narrowed_query ws q)) first told r text → IfSome told (λ files. end_of_files files names (query_tree q) first ≡ None)
+  file-whole None text is = tt
+  file-whole (Some files) text is = sym (end-left files) ∙ ap (end_of first) is.saved.all ∙ end-few first is.saved.chunks None is.saved.can.few
 
   -- and the text is that of the files
-  pub file-text : (told : Option Files) (s : StateSeen) (text : List ℕ) → IsSavedOf (query_tree (narrowed_query ws q)) first told r s → text ≡ state_text (query_tree (narrowed_query ws q)) s
-      → IfSome told (λ files. text ≡ text_of_files files names (query_tree q) first)
-  file-text None s text is e = tt
-  file-text (Some files) s text is e =
+  file-text : (told : Option Files) (text : List ℕ) → IsTextOf (query_tree (narrowed_query ws q)) first told r text → IfSome told (λ files. text ≡ text_of_files files names (query_tree q) first)
+  file-text None text is = tt
+  file-text (Some files) text is =
       let t : QueryTree = query_tree q in
       let narrow : QueryTree = narrowed_tree ws t in
       let whole : List DataChunk = (file_chunks files names t).chunks in
-      let all : narrowed_chunks ws whole ≡ is.chunks = ap (λ (c : CsvChunks). c.chunks) (sym (left files) ∙ is.all) in
-      let state : s ≡ saved t (part_of t first whole) =
-      is.state ∙ ap (λ (cs : List DataChunk). saved narrow (part_of narrow first cs)) (sym all) ∙ state-same ws t first whole (chunks-fit save_options t.schema files names) covered in
-      e ∙ ap (state_text narrow) state ∙ text-same ws t (saved t (part_of t first whole)) covered
+      let all : narrowed_chunks ws whole ≡ is.saved.chunks = ap (λ (c : CsvChunks). c.chunks) (sym (left files) ∙ is.saved.all) in
+      let state : is.state ≡ saved t (part_of t first whole) =
+      is.saved.state ∙ ap (λ (cs : List DataChunk). saved narrow (part_of narrow first cs)) (sym all) ∙ state-same ws t first whole (chunks-fit save_options t.schema files names) covered in
+      is.is ∙ ap (state_text narrow) state ∙ text-same ws t (saved t (part_of t first whole)) covered
+
+  -- so of what saving them answers
+  pub answer-told : (told : Option Files) (answer : Result (Vec ℕ Global) CsvError) → IfErr answer (λ e. IfSome told (λ files. Tells e (end_of first (chunks_left files r)))) → IfErr answer (λ e. IfSome told (λ files. Tells e (end_of_files files names (query_tree q) first)))
+  answer-told told (Ok v) h = tt
+  answer-told told (Err e) h = file-told told e h
+
+  pub answer-whole : (told : Option Files) (answer : Result (Vec ℕ Global) CsvError) → IfOk answer (λ v. IsTextOf (query_tree (narrowed_query ws q)) first told r v.items) → OnOk answer (IfSome told (λ files. end_of_files files names (query_tree q) first ≡ None))
+  answer-whole told (Ok v) is = file-whole told v.items is
+  answer-whole told (Err e) is = tt
+
+  pub answer-text : (told : Option Files) (answer : Result (Vec ℕ Global) CsvError) → IfOk answer (λ v. IsTextOf (query_tree (narrowed_query ws q)) first told r v.items) → IfOk answer (λ v. IfSome told (λ files. v.items ≡ text_of_files files names (query_tree q) first))
+  answer-text told (Ok v) is = file-text told v.items is
+  answer-text told (Err e) is = tt

@@ -97,21 +97,28 @@ taken-all (Some files) first now taken h none = h ∙ ap (chunks_then taken) non
 
 -- ---- why this ends
 
--- the rest stops behind what was taken
-pub stop-told : (told : Option Files) (n most : ℕ) (first now : ReaderState) (taken chunks : List DataChunk) (e result : CsvError) → WereTaken told first taken now
+-- the rest stops there
+pub stop-told : (told : Option Files) (n most : ℕ) (now : ReaderState) (taken chunks : List DataChunk) (e result : CsvError)
     → ((left : CsvChunks) (most : ℕ) → StopsWithin most e chunks left → Tells result (end_of n (chunks_then taken left))) → IfSome told (λ files. StopsWithin most e chunks (chunks_left files now))
-    → IfSome told (λ files. Tells result (end_of n (chunks_left files first)))
-stop-told None n most first now taken chunks e result h ends stops = tt
-stop-told (Some files) n most first now taken chunks e result h ends stops =
-    subst (λ (l : CsvChunks). Tells result (end_of n l)) (sym h) (ends (chunks_left files now) most stops)
+    → IfSome told (λ files. Tells result (end_of n (chunks_then taken (chunks_left files now))))
+stop-told None n most now taken chunks e result ends stops = tt
+stop-told (Some files) n most now taken chunks e result ends stops = ends (chunks_left files now) most stops
 
 -- too many were taken
-pub many-told : (told : Option Files) (n : ℕ) (first now : ReaderState) (taken : List DataChunk) → WereTaken told first taken now → (AreFew n taken → ⊥)
-    → IfSome told (λ files. Tells csv_error.TooLarge (end_of n (chunks_left files first)))
-many-told None n first now taken h many = tt
-many-told (Some files) n first now taken h many =
+pub many-told : (told : Option Files) (n : ℕ) (old now : ReaderState) (taken chunks : List DataChunk) → WereTaken told old chunks now → (AreFew n (taken ++ chunks) → ⊥)
+    → IfSome told (λ files. Tells csv_error.TooLarge (end_of n (chunks_then taken (chunks_left files old))))
+many-told None n old now taken chunks h many = tt
+many-told (Some files) n old now taken chunks h many =
     let rest : CsvChunks = chunks_left files now in
-    ap (end_of n) h ∙ end-many n (taken ++ rest.chunks) rest.stop (λ few. many (few-before n taken rest.chunks few))
+    let whole : List DataChunk = taken ++ (chunks ++ rest.chunks) in
+    let few : AreFew n whole → ⊥ = λ few. many (few-before n (taken ++ chunks) rest.chunks (subst (AreFew n) (sym (append_assoc taken chunks rest.chunks)) few)) in
+    ap (λ (c : CsvChunks). end_of n (chunks_then taken c)) h ∙ end-many n whole rest.stop few
+
+-- what is told behind chunks that were taken is told of all
+pub behind-told : (told : Option Files) (n : ℕ) (first old : ReaderState) (taken : List DataChunk) (e : CsvError) → WereTaken told first taken old
+    → IfSome told (λ files. Tells e (end_of n (chunks_then taken (chunks_left files old)))) → IfSome told (λ files. Tells e (end_of n (chunks_left files first)))
+behind-told None n first old taken e h tells = tt
+behind-told (Some files) n first old taken e h tells = subst (λ (c : CsvChunks). Tells e (end_of n c)) (sym h) tells
 
 -- of want of memory nothing is said
 pub memory-told : (told : Option Files) (end : Files → Option Stop) → IfSome told (λ files. Tells csv_error.Memory (end files))

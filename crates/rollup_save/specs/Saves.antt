@@ -14,7 +14,7 @@ use Rattle.pipe_source.specs.declared.read_options.CsvReadOptions.{CsvReadOption
 use Rattle.pipe_states.specs.Parts.{part_of, saved}
 use Rattle.pipe_states.specs.States.{StateSeen}
 use Rattle.pipe_states.specs.StateText.{state_text}
-use Rattle.rollup_save.specs.declared.save_files.TheConstants.{CHUNK_ROWS}
+use Rattle.rollup_save.specs.declared.files.TheConstants.{CHUNK_ROWS}
 
 -- how files are read to be saved
 abbrev pub save_options : CsvReadOptions

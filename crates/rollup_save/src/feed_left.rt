@@ -1,16 +1,14 @@
 //! Chunks that are read in rounds, and fed to a state in the making.
 
-ghost use Rattle.std.specs.Prelude.{◌≡◌, ◌<◌, ℕ, [], IfErr, IfOk, IfSome, IsErrOf, None};
+ghost use Rattle.std.specs.Prelude.{◌≡◌, ◌<◌, [], IfErr, IfOk, IfSome, IsErrOf, None};
 ghost use Rattle.pipe_columns.specs.Causes.{Rose};
 ghost use Rattle.pipe_csv.specs.declared.csv_error.CsvError.TheVariants as csv_error;
 ghost use Rattle.pipe_io.specs.Tried.{TriedFront};
 ghost use Rattle.pipe_saving.specs.Refusals.{AllFit, AreFew};
-ghost use Rattle.pipe_source.specs.CsvChunks.{chunks_then, CsvChunks};
 ghost use Rattle.pipe_source.specs.Reader.{chunks_left, given_fields};
-ghost use Rattle.pipe_source.specs.Rounds.{StopsWithin};
 ghost use Rattle.rollup_save.specs.Saves.{end_of, Tells};
 
-use pipe_columns::DataChunk;
+use crate::next_round::next_round;
 use pipe_csv::CsvError;
 use pipe_io::InputFiles;
 use pipe_saving::Saving;
@@ -20,22 +18,6 @@ use std::thread::Threads;
 
 /// Chunks have fewer positions than this.
 const MOST: usize = 1 << 32;
-
-/// Why saving ends where the reading was refused behind some chunks more: there may be no room for these.
-fn ending_behind(saving: &Saving<'_>, error: CsvError, chunks: &[DataChunk]) -> CsvError
-    ensures ends { (left : CsvChunks) (most : ℕ) → StopsWithin most error chunks.now left
-        → Tells result (end_of saving.now.first (chunks_then saving.now.taken left)) }
-    ensures failed { result ≡ csv_error.Input → error ≡ csv_error.Input }
-{
-    if saving.has_room_for(chunks) {
-        return error;
-    }
-    match error {
-        CsvError::Input => CsvError::Input,
-        CsvError::Memory => CsvError::Memory,
-        _ => CsvError::TooLarge,
-    }
-}
 
 /// Feeds all chunks that a reader has left to a state in the making that has taken none, so many at a
 /// time, which are read in so many threads. The chunks of a round are read into the memory of those of
@@ -67,13 +49,13 @@ pub(crate) fn feed_left<'a, I: InputFiles, H: Threads + Sync>(
 {
     let mut saving = saving;
     for _ in 0..MOST {
-        let chunks = match reader.get_round(rt, alloc, input, most, threads) {
+        let chunks = match next_round(rt, alloc, &saving, input, reader, most, threads) {
             Ok(chunks) => chunks,
-            Err((error, chunks)) => return Err(ending_behind(&saving, error, &chunks)),
+            Err(error) => {
+                drop(saving);
+                return Err(error);
+            }
         };
-        if !saving.has_room_for(&chunks) {
-            return Err(CsvError::TooLarge);
-        }
         saving = saving.feed_all(alloc, &chunks)?;
         if chunks.len() < most {
             return Ok(saving);

@@ -3,10 +3,12 @@
 #![tactic(auto)]
 
 mod feed_left;
+mod files;
 mod laws;
+mod left;
+mod next_round;
 mod reader;
-mod save_files;
-mod save_left;
+mod text;
 
-pub use save_files::{CHUNK_ROWS, save_files};
-pub use save_left::save_left;
+pub use files::{CHUNK_ROWS, save_files};
+pub use left::save_left;

@@ -7,7 +7,7 @@ ghost use Rattle.pipe_source.specs.CsvChunks.{csv_chunks, wanted_chunks};
 ghost use Rattle.pipe_source.specs.Reader.{chunks_left, given_fields};
 ghost use Rattle.rollup_save.specs.Saves.{save_options};
 
-use crate::save_files::CHUNK_ROWS;
+use crate::files::CHUNK_ROWS;
 use pipe_columns::{Schema, Text};
 use pipe_source::{ChunkReader, CsvReadOptions};
 use std::alloc::{AllocError, Global};

@@ -1,4 +1,4 @@
-//! The bytes of the state of files.
+//! The text of the state of files.
 
 ghost use Rattle.std.specs.Prelude.{◌≡◌, ◌<◌, IfErr, IfOk, IfSome, IsErrOf, None, OnOk};
 ghost use Rattle.pipe_aggs.specs.Faults.{first_fault};
@@ -9,34 +9,18 @@ ghost use Rattle.pipe_io.specs.Tried.{TriedFront};
 ghost use Rattle.rollup_save.specs.Saves.{end_of_files, Tells, text_of_files};
 
 use crate::reader::reader_of;
-use crate::save_left::save_left;
+use crate::text::text_by;
 use narrow_query::{Narrowed, narrow};
-use pipe_aggs::{CheckError, CheckedQuery, Query};
+use pipe_aggs::Query;
 use pipe_columns::Text;
 use pipe_csv::CsvError;
 use pipe_io::InputFiles;
-use pipe_states::write_state;
-use std::alloc::{AllocError, Global};
+use std::alloc::Global;
 use std::hash::RandomState;
 use std::thread::Threads;
 
 /// The most rows of a chunk.
 pub const CHUNK_ROWS: usize = 50_000;
-
-/// How many chunks are read by each thread before they are fed.
-const CHUNKS_OF_THREAD: usize = 4;
-
-/// A query without fault, checked.
-fn checked_of<'a>(alloc: Global, query: &'a Query) -> Result<CheckedQuery<'a>, AllocError>
-    requires { first_fault query.now ≡ None }
-    ensures { IfOk result (λ c. c ≡ query.now) }
-{
-    match query.check(alloc) {
-        Ok(checked) => Ok(checked),
-        Err(CheckError::Memory) => Err(AllocError),
-        Err(CheckError::Fault(_)) => unreachable!(),
-    }
-}
 
 /// The text of the state of the files of some names, by a query, of whose columns those alone are read
 /// that it names. Chunks have 50,000 rows at most and are numbered over all files, the first by `first`.
@@ -75,19 +59,21 @@ pub fn save_files<I: InputFiles, H: Threads + Sync>(
         wanted,
         query,
     } = narrow(alloc, query)?;
-    let mut reader = reader_of(alloc, names, schema, wanted)?;
-    let mut checked = checked_of(alloc, &query)?;
-    checked.hash_under(hash_keys);
-    let most = threads.saturating_mul(CHUNKS_OF_THREAD);
-    let file = save_left(
+    let mut reader = match reader_of(alloc, names, schema, wanted) {
+        Ok(reader) => reader,
+        Err(error) => {
+            drop(query);
+            return Err(error.into());
+        }
+    };
+    text_by(
         rt,
         alloc,
-        &checked,
+        threads,
+        hash_keys,
+        &query,
         first,
         input,
         &mut reader,
-        most,
-        threads,
-    )?;
-    Ok(write_state(alloc, &checked, &file)?)
+    )
 }
