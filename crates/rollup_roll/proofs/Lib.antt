@@ -1,4 +1,3 @@
 pub mod TellFacts
-pub mod RollFacts
 pub mod OverlapFacts
 pub mod OneEnd

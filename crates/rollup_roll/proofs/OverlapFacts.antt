@@ -5,7 +5,14 @@ use Rattle.std.proofs.lemmas.Bool.{cases_order, false≢true}
 use Rattle.std.proofs.lemmas.List.{take_all, take-take}
 use Rattle.pipe_states.specs.States.{StateSeen}
 use Rattle.pipe_states.specs.Together.{do_overlap, IsFirstOverlap, NoneOverlap}
-use Rattle.rollup_roll.proofs.RollFacts.{first-within}
+
+-- the first that overlaps is one of them
+pub first-within : (states : List StateSeen) (i : ℕ) → IsFirstOverlap states i → i < length states
+first-within states i first = within states i first.state first.at where
+  within : (ss : List StateSeen) (k : ℕ) (s : StateSeen) → slice_get ss k ≡ Some s → k < length ss
+  within [] k s at = cc at
+  within (t ∷ ss) zero s at = omega arith
+  within (t ∷ ss) (suc k) s at = omega (arith, within ss k s at)
 
 -- of elements of which none is tied to a later one, none before one is tied to it
 none-tied : {X : Type 0} (e : X → X → Bool) (before after : List X) (y : X) → IsDistinct e (before ++ y ∷ after) → list_any (λ x. e x y) before ≡ false

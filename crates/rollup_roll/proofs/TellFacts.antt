@@ -12,14 +12,6 @@ use Rattle.rollup_roll.specs.Reading.{AreUnread, IsUnread}
 use Rattle.rollup_roll.specs.Told.{TellsNone, TellsState, TellStates, TellUpTo}
 
 module _ (q : QueryTree) (told : Option Files) where
-  -- no file tells no state
-  pub tell-none : (names : List (List ℕ)) (states : List StateSeen) → states ≡ [] → TellStates q told (take 0 names) states
-  tell-none names states none = subst (TellStates q told []) (sym none) tt
-
-  -- all files are those from the first on
-  pub tell-all : (names : List (List ℕ)) (states : List StateSeen) (i : ℕ) → take i names ≡ names → TellStates q told (take i names) states → TellStates q told names states
-  tell-all names states i all tell = subst (λ (ns : List (List ℕ)). TellStates q told ns states) all tell
-
   -- behind files that tell states, the next one by its name
   module _ (names : List (List ℕ)) (states : List StateSeen) (i : ℕ) (name : List ℕ) (within : i < length names) (is : get_or names i [] ≡ name)
       (before : TellStates q told (take i names) states) where

@@ -70,7 +70,6 @@ pub fn roll_files<'a, I: InputFiles>(
     ensures cause { HasCause (I.faults input.old) (I.faults input.new)
         (IsErrOf result fault.Input) }
 {
-    let _count = names.len();
     let begun = Regrouping::begin(alloc, query, keep)?;
     let regrouping = add_files(alloc, query, begun, input, names)?;
     match regrouping.finish(alloc) {

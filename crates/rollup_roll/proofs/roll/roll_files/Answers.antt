@@ -5,9 +5,9 @@ use Rattle.pipe_io.proofs.TriedFacts.{front-none}
 use Rattle.pipe_regroup.specs.Added.{RegroupingSeen}
 use Rattle.pipe_states.specs.Regrouped.{regrouped}
 use Rattle.pipe_states.specs.States.{StateSeen}
-use Rattle.pipe_states.specs.Together.{IsFirstOverlap, NoneOverlap}
+use Rattle.pipe_states.specs.Together.{IsFirstOverlap}
 use Rattle.rollup_roll.specs.Told.{TellsState}
-use Rattle.rollup_roll.proofs.RollFacts.{are-few, first-within, none-overlap}
+use Rattle.rollup_roll.proofs.OverlapFacts.{first-within}
 use Rattle.rollup_roll.proofs.roll.roll_files.Goals as goal
 
 pub returns-in_err-begun-clause-tried : goal.returns-in_err-begun-clause-tried
@@ -29,11 +29,10 @@ returns-in-Ok-clause-rolled g c =
     let states : List StateSeen = c.in_ok-regrouping.regrouping.files in
     let query = c.in_ok-regrouping.ensures.query in
     let keep = c.in_ok-regrouping.ensures.keep ∙ ap (λ (r : RegroupingSeen). r.keep) c.in_ok-begun.ensures in
-    let apart : NoneOverlap states = none-overlap states (λ i first. cc ((c.in-Ok.ensures.overlap i).1 first)) in
     record {
       states = states;
       tell = c.in_ok-regrouping.ensures.tell;
-      apart = apart;
-      few = are-few states apart (λ large. cc (c.in-Ok.ensures.large.1 large));
+      apart = c.in-Ok.ensures.ok.apart;
+      few = c.in-Ok.ensures.ok.few;
       frame_is = c.in-Ok.ensures.frame ∙ (λ i. regrouped (query_tree (query i)) states (keep i));
     }
