@@ -12,14 +12,16 @@ cd "$(dirname "$0")/.."
 # All that programs are made of, and the toolchain that proves it.
 sum=$({ rt version; find crates.txt crates -name out -prune -o -type f \( -name crates.txt -o -name '*.rt' -o -name '*.antt' \) -print0 | sort -z | xargs -0 sha256sum; } | sha256sum)
 
+tree=
+trap '[ -z "$tree" ] || rm -rf "$tree" "$tree.log"' EXIT
+
 # Proves and builds a program into its crate's out/, unless that is done.
 build() {
-    local program=$1 made=crates/$1/out tree apart
+    local program=$1 made=crates/$1/out apart
     if [ -x "$made/$program" ] && [ "$(cat "$made/built" 2>/dev/null)" = "$sum" ]; then
         return
     fi
     tree=$(mktemp -d)
-    trap 'rm -rf "$tree" "$tree.log"' EXIT
     chmod 711 "$tree"
     apart=$(python3 scripts/tree_below.py "$program" "$tree")
     echo "proving and building $program" >&2
@@ -35,6 +37,7 @@ build() {
     install -m 755 "$tree/$made/$program" "$made/$program"
     echo "$sum" >"$made/built"
     rm -rf "$tree" "$tree.log"
+    tree=
 }
 
 mkdir -p "$folder"
