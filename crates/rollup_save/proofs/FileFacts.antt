@@ -4,7 +4,7 @@ use Rattle.std.specs.declared.alloc.Global.{Global}
 use Rattle.std.specs.List.{fold, list_any}
 use Rattle.std.specs.Option.{IfSome}
 use Rattle.std.proofs.lemmas.List.{length-map}
-use Rattle.narrow_columns.specs.Wanted.{chosen, narrowed_chunk, narrowed_chunks}
+use Rattle.narrow_columns.specs.Wanted.{narrowed_chunk, narrowed_chunks}
 use Rattle.narrow_query.specs.Names.{covers, is_column, named_fields}
 use Rattle.narrow_query.specs.Narrowed.{narrowed_query, narrowed_tree}
 use Rattle.pipe_aggs.specs.declared.query.Query.{Query}
@@ -16,12 +16,12 @@ use Rattle.pipe_exprs.specs.declared.expression.AExpr.{AExpr}
 use Rattle.pipe_io.specs.Files.{Files}
 use Rattle.pipe_model.specs.Query.{QueryTree}
 use Rattle.pipe_model.specs.Rows.{total_height}
-use Rattle.pipe_source.specs.CsvChunks.{csv_chunks, CsvChunks, Stop, too_large, wanted_chunks}
+use Rattle.pipe_source.specs.CsvChunks.{csv_chunks, CsvChunks, too_large, wanted_chunks}
 use Rattle.pipe_source.specs.Reader.{chunks_left, ReaderState}
 use Rattle.pipe_source.proofs.ChunksFit.{chunks-fit}
 use Rattle.pipe_states.specs.Parts.{part_of, saved}
 use Rattle.pipe_states.specs.StateText.{state_text}
-use Rattle.rollup_save.specs.Saves.{are_few, end_of, end_of_files, file_chunks, save_options, Tells, text_of_files}
+use Rattle.rollup_save.specs.Saves.{end_of, end_of_files, file_chunks, save_options, Tells, text_of_files}
 use Rattle.rollup_save.specs.Taken.{IsTextOf}
 use Rattle.rollup_save.proofs.RoundFacts.{end-few}
 use Rattle.rollup_save.proofs.StateFacts.{state-same, text-same}
@@ -47,10 +47,6 @@ end-same ws first given =
 
 module _ (q : Query) (ws : List Bool) (first : ℕ) (names : List (List ℕ)) (covered : covers ws (query_tree q) ≡ true) (r : ReaderState)
     (left : (files : Files) → chunks_left files r ≡ wanted_chunks save_options ws (csv_chunks files names q.schema save_options)) where
-  -- the chunks of the files, of all columns
-  given : Files → CsvChunks
-  given files = file_chunks files names (query_tree q)
-
   -- what a reader of the wanted columns gives ends as the files do
   end-left : (files : Files) → end_of first (chunks_left files r) ≡ end_of_files files names (query_tree q) first
   end-left files = ap (end_of first) (left files) ∙ end-same ws first (file_chunks files names (query_tree q))

@@ -8,7 +8,7 @@ use Rattle.pipe_saving.specs.Refusals.{AllFit, AreFew}
 use Rattle.pipe_source.specs.CsvChunks.{no_more}
 use Rattle.pipe_source.specs.Reader.{chunks_left, given_fields, ReaderState}
 use Rattle.rollup_save.specs.Taken.{WereTaken}
-use Rattle.rollup_save.proofs.RoundFacts.{fit-more, fit-none, taken-all, taken-none, taken-then}
+use Rattle.rollup_save.proofs.RoundFacts.{fed-taken, fit-more, fit-none, taken-all, taken-none, taken-then}
 use Rattle.rollup_save.proofs.feed_left.feed_left.Goals as goal
 
 pub loop-init : goal.loop-init
@@ -40,7 +40,7 @@ pub returns-then-len-most-clause-fit : goal.returns-then-len-most-clause-fit
 returns-then-len-most-clause-fit g c =
     let inv = c.loop.invariant in
     let more : List DataChunk = c.in-Ok.chunks.items in
-    let is : c.in_ok-saving.saving.taken ≡ c.loop.saving.taken ++ more = c.in_ok-saving.ensures.taken ∙ ap (λ (l : List DataChunk). c.loop.saving.taken ++ l) c.deref.ensures.value in
+    let is : c.in_ok-saving.saving.taken ≡ c.loop.saving.taken ++ more = fed-taken c.loop.saving.taken more c.deref.result.now _ c.deref.ensures.value c.in_ok-saving.ensures.taken in
     subst (AllFit c.args.saving.query.schema) (sym is) (fit-more c.args.saving.query.schema (given_fields c.loop.reader) c.loop.saving.taken more inv.fields inv.fit c.in-Ok.ensures.fit)
 
 pub returns-then-len-most-clause-all : goal.returns-then-len-most-clause-all
@@ -49,7 +49,7 @@ returns-then-len-most-clause-all g c =
     let told : Option Files = g.I.InputFiles.told c.args.input.now in
     let more : List DataChunk = c.in-Ok.chunks.items in
     let new : ReaderState = c.next_round.new.reader in
-    let is : c.in_ok-saving.saving.taken ≡ c.loop.saving.taken ++ more = c.in_ok-saving.ensures.taken ∙ ap (λ (l : List DataChunk). c.loop.saving.taken ++ l) c.deref.ensures.value in
+    let is : c.in_ok-saving.saving.taken ≡ c.loop.saving.taken ++ more = fed-taken c.loop.saving.taken more c.deref.result.now _ c.deref.ensures.value c.in_ok-saving.ensures.taken in
     let step : WereTaken told c.loop.reader more new = subst (λ (t : Option Files). WereTaken t c.loop.reader more new) inv.told c.in-Ok.ensures.taken in
     let last : length more < c.args.most = search rules in
     let none : IfSome told (λ files. chunks_left files new ≡ no_more) = subst (λ (t : Option Files). IfSome t (λ files. chunks_left files new ≡ no_more)) inv.told (c.in-Ok.ensures.over last) in
@@ -63,7 +63,7 @@ loop-preserved g c =
     let more : List DataChunk = c.in-Ok.chunks.items in
     let now : List DataChunk = c.in_ok-saving.saving.taken in
     let new : ReaderState = c.next_round.new.reader in
-    let is : now ≡ c.loop.saving.taken ++ more = c.in_ok-saving.ensures.taken ∙ ap (λ (l : List DataChunk). c.loop.saving.taken ++ l) c.deref.ensures.value in
+    let is : now ≡ c.loop.saving.taken ++ more = fed-taken c.loop.saving.taken more c.deref.result.now _ c.deref.ensures.value c.in_ok-saving.ensures.taken in
     let step : WereTaken told c.loop.reader more new = subst (λ (t : Option Files). WereTaken t c.loop.reader more new) inv.told c.in-Ok.ensures.taken in
     let full : c.args.most ≤ length more = search rules in
     let count : length now ≡ length c.loop.saving.taken + length more = ap (λ (l : List DataChunk). length l) is ∙ length-append c.loop.saving.taken more in

@@ -7,7 +7,6 @@ use Rattle.pipe_columns.specs.declared.schema.Field.{Field}
 use Rattle.pipe_io.specs.Files.{Files}
 use Rattle.pipe_io.proofs.TriedFacts.{front-none}
 use Rattle.pipe_source.specs.CsvChunks.{csv_chunks, wanted_chunks}
-use Rattle.pipe_source.specs.Reader.{chunks_left}
 use Rattle.rollup_save.specs.Saves.{save_options}
 use Rattle.rollup_save.specs.Taken.{IsTextOf}
 use Rattle.rollup_save.proofs.FileFacts.{answer-text, answer-told, answer-whole}
