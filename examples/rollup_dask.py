@@ -15,12 +15,20 @@ from distributed import Client
 TOOL = os.environ.get("ROLLUP_TOOL", os.path.expanduser("~/.local/bin/rollup_tool"))
 
 
-def save(tool, query, first, file):
-    """The state of a file, as the bytes that its worker sends back."""
+def save(first, file, tool, query):
+    """The state of a file, which its worker sends back."""
     return subprocess.run([tool, "save", query, str(first), file], check=True, stdout=subprocess.PIPE).stdout
 
 
+def put(path, state):
+    """Puts a state under its name once it is whole."""
+    with open(f"{path}.part", "wb") as file:
+        file.write(state)
+    os.replace(f"{path}.part", path)
+
+
 def client():
+    """That of the named cluster, or of two processes."""
     if os.environ.get("DASK_SCHEDULER_ADDRESS"):
         return Client()
     return Client(n_workers=2, threads_per_worker=1, dashboard_address=None)
@@ -31,13 +39,12 @@ def main():
     os.makedirs(folder, exist_ok=True)
     states = []
     with client() as cluster:
-        count = len(files)
-        firsts = [number * 100000 for number in range(count)]
-        saved = cluster.map(save, [TOOL] * count, [query] * count, firsts, map(os.path.abspath, files), pure=False)
-        for number, state in enumerate(saved, 1):
+        paths = [os.path.abspath(file) for file in files]
+        firsts = [number * 100000 for number in range(len(files))]
+        saved = cluster.map(save, firsts, paths, tool=TOOL, query=query, pure=False)
+        for number, saving in enumerate(saved, 1):
             states.append(os.path.join(folder, f"{number}.state"))
-            with open(states[-1], "wb") as file:
-                file.write(state.result())
+            put(states[-1], saving.result())
     return subprocess.run([TOOL, "roll", query, keys] + states).returncode
 
 

@@ -16,6 +16,9 @@ use pipe_io::{FileEnd, InputFiles, MOST_FILE_BYTES, end_of, read_begun};
 use pipe_states::{StateError, StateFile, read_state};
 use std::alloc::Global;
 
+/// Where a file has fewer bytes than this, or their number isn't known, there is room for so many.
+const PIECE_BYTES: usize = 1 << 16;
+
 /// Reads the file of a name whole, into room for about as many bytes as it has, and for one more, by
 /// which its end is seen.
 fn read_bytes<I: InputFiles>(alloc: Global, input: &mut I, name: &Text) -> Result<Vec<u8>, FileEnd>
@@ -32,7 +35,7 @@ fn read_bytes<I: InputFiles>(alloc: Global, input: &mut I, name: &Text) -> Resul
     if let Err(error) = input.begin(name) {
         return Err(end_of(error));
     }
-    let about = input.size_hint().min(MOST_FILE_BYTES);
+    let about = input.size_hint().max(PIECE_BYTES).min(MOST_FILE_BYTES);
     match Vec::with_capacity(alloc, about + 1) {
         Ok(room) => read_begun(input, name, room, 0),
         Err(_) => Err(FileEnd::Memory),

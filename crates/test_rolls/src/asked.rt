@@ -10,7 +10,8 @@ use std::alloc::{AllocError, Global};
 use std::test::Fail;
 
 /// The sum s of v by k.
-const QUERY: &str = r#"{"schema":[["k","Int64"],["v","Int64"]],"keys":["k"],"aggs":[{"alias":[{"sum":"v"},"s"]}]}"#;
+const QUERY: &str =
+    r#"{"schema":[["k","Int64"],["v","Int64"]],"keys":["k"],"aggs":[{"alias":[{"sum":"v"},"s"]}]}"#;
 
 /// Files: the states of the row 1,5 in chunk 0 and of the row 1,7 in chunk 1, and bytes that are
 /// none.
@@ -49,7 +50,7 @@ fn by_first_key<'a>(
 }
 
 /// What comes of files.
-#[derive(PartialEq)]
+#[derive(Drop, PartialEq)]
 pub(crate) enum Gives {
     /// The sum of one row.
     Sum(i128),
@@ -109,7 +110,7 @@ fn query(alloc: Global) -> Result<Query, Fail> {
 }
 
 /// What comes of the files of some names, where a call of the input fails.
-pub(crate) fn gives(alloc: Global, names: &[&str], failing: u64) -> Result<Gives, Fail> {
+pub(crate) fn come_of(alloc: Global, names: &[&str], failing: u64) -> Result<Gives, Fail> {
     let query = query(alloc)?;
     given(alloc, &query, names, failing)
 }

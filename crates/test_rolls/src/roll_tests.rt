@@ -1,6 +1,6 @@
 //! What comes of files.
 
-use crate::asked::{Gives, gives};
+use crate::asked::{Gives, come_of};
 use rollup_roll::RollError;
 use std::alloc::Global;
 use std::test::Fail;
@@ -10,7 +10,7 @@ const NONE: u64 = 99;
 
 /// Fails where something else comes of files.
 fn check(alloc: Global, names: &[&str], failing: u64, due: Gives) -> Result<(), Fail> {
-    if gives(alloc, names, failing)? == due {
+    if come_of(alloc, names, failing)? == due {
         Ok(())
     } else {
         Err("something else".into())
@@ -50,7 +50,12 @@ fn third_file_overlaps(rt: HostRuntime) -> Result<(), Fail> {
 #[test]
 fn each_call_fails(rt: HostRuntime) -> Result<(), Fail> {
     for call in 0..6 {
-        check(rt.alloc(), &["a", "b"], call, Gives::Error(RollError::Input))?;
+        check(
+            rt.alloc(),
+            &["a", "b"],
+            call,
+            Gives::Error(RollError::Input),
+        )?;
     }
     check(rt.alloc(), &["a", "b"], 6, Gives::Sum(12))
 }
