@@ -2,8 +2,6 @@
 # Builds programs and installs them into a folder: the first argument, or ~/.local/bin. The further arguments are their
 # names; without one it is group_tool.
 # Only a proved program is built, so the first build on a machine takes some minutes. Crates are proved side by side, as
-# Builds group_tool and rollup_tool and installs them into a folder: the argument, or ~/.local/bin.
-# Only proved programs are built, so the first build on a machine takes some minutes. Crates are proved side by side, as
 # many as processors and memory allow; RT_JOBS=1 in the environment proves one after another. What is proved is kept for
 # scripts/test.sh.
 set -eu
@@ -23,15 +21,6 @@ build() {
     if [ -x "$made/$program" ] && [ "$(cat "$made/built" 2>/dev/null)" = "$sum" ]; then
         return
     fi
-programs=(group_tool rollup_tool)
-# All that the programs are made of, and the toolchain that proves it.
-wanted=()
-for program in "${programs[@]}"; do
-    made=crates/$program/out
-    if [ ! -x "$made/$program" ] || [ "$(cat "$made/built" 2>/dev/null)" != "$sum" ]; then
-        wanted+=("$program")
-done
-if [ ${#wanted[@]} -gt 0 ]; then
     tree=$(mktemp -d)
     chmod 711 "$tree"
     apart=$(python3 scripts/tree_below.py "$program" "$tree")
@@ -54,18 +43,6 @@ if [ ${#wanted[@]} -gt 0 ]; then
 mkdir -p "$folder"
 for program in "${@:-group_tool}"; do
     build "$program"
-    python3 scripts/tree_below.py "$tree" "${wanted[@]}"
-    echo "proving and building ${wanted[*]}" >&2
-    source scripts/jobs.sh
-        echo "build.sh: ${wanted[*]}: not built" >&2
-    for program in "${wanted[@]}"; do
-        made=crates/$program/out
-        mkdir -p "$made"
-        install -m 755 "$tree/$made/$program" "$made/$program"
-        echo "$sum" >"$made/built"
-    done
-fi
-for program in "${programs[@]}"; do
     install -m 755 "crates/$program/out/$program" "$folder/$program"
     echo "installed $folder/$program" >&2
 done
