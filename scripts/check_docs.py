@@ -1,4 +1,4 @@
-"""Checks the pages against the tree: README.md, cases/README.md, docs/*.md and crates/*/README.md. And checks that each edit of must-fail/ and more-edits/ can be applied.
+"""Checks the pages against the tree: README.md, cases/README.md, docs/*.md, man/*.1 and crates/*/README.md. And checks that each edit of must-fail/ and more-edits/ can be applied.
 
 docs/DEFINITIONS.md and docs/DEFINITIONS_BY_CRATE.md are printed from docs/definitions.order and the comments over the definitions in crates/*/specs.
 A fault is one line, `page:line: what is wrong`, and the status is 1 where there is one.
@@ -427,6 +427,18 @@ def check_statuses(page, text):
                 fault(page, rows[0][0], f"{what} {status}")
 
 
+def check_manual(page, options):
+    """The manual page of group_tool has the options and the statuses of the program, each once."""
+    items = [line for line in read(page).splitlines() if line.startswith(".It ")]
+    told = [f"-{name}" for name in re.findall(r"^\.It Fl (-[a-z-]+)", "\n".join(items), re.M)]
+    statuses = re.findall(r"^\.It (\d+)$", "\n".join(items), re.M)
+    known = re.findall(r"pub const \w+: u8 = (\d+);", read("crates/tool_answer/src/status.rt"))
+    for what, found, wanted in (("option", told, options), ("status", statuses, known)):
+        for one in sorted(set(found) | set(wanted)):
+            if found.count(one) != (one in wanted):
+                fault(page, 0, f"the {what} {one} stands {found.count(one)} times, and the program has {'it' if one in wanted else 'none'}")
+
+
 def rooms():
     """The rooms of crates.txt, in order: the word of each heading, and its crates."""
     found = []
@@ -481,9 +493,10 @@ def main():
         check_statuses(page, text)
     check_first_promises()
     check_table_of_options(read("README.md"), options)
+    check_manual("man/group_tool.1", options)
     check_map("docs/ARCHITECTURE.md")
     check_edits()
-    words = len(read("README.md").split())
+    words = sum(bool(re.search(r"\w", word)) for word in read("README.md").split())
     if words > MOST_WORDS:
         fault("README.md", 0, f"{words} words, where {MOST_WORDS} are the most")
     for line in faults:

@@ -1,7 +1,8 @@
-"""Copies some crates and those that they stand on into a folder, as a repository of their own without edits.
+"""Copies a crate and those that it stands on into a folder, as a repository of their own without edits.
 
-usage: scripts/tree_below.py FOLDER CRATE..
+usage: scripts/tree_below.py CRATE FOLDER
 `rt ci` there proves and builds these alone. What it has proved is kept on the machine for every later `rt ci`, in whatever folder.
+It prints those of them that don't stand on pipe_tables: what does is a chain, in which hardly two can be proved at once.
 """
 
 import os
@@ -19,9 +20,9 @@ def crates():
     return {name.strip(): below.split() for name, colon, below in lines if colon}
 
 
-def with_below(names, known):
-    """Some crates and all that they stand on."""
-    found, todo = set(), list(names)
+def with_below(crate, known):
+    """A crate and all that it stands on."""
+    found, todo = set(), [crate]
     while todo:
         one = todo.pop()
         if one in known and one not in found:
@@ -31,14 +32,15 @@ def with_below(names, known):
 
 
 def main():
-    folder, *names = sys.argv[1:]
+    crate, folder = sys.argv[1:]
     known = crates()
-    wanted = with_below(names, known)
+    wanted = with_below(crate, known)
     with open(os.path.join(folder, "crates.txt"), "w", encoding="utf-8") as file:
         file.writelines(f"{name}: {' '.join(below)}\n" for name, below in known.items() if name in wanted)
     shutil.copy(os.path.join(ROOT, "HANDLES"), folder)
     for name in wanted:
         shutil.copytree(os.path.join(ROOT, "crates", name), os.path.join(folder, "crates", name), symlinks=True, ignore=LEFT_OUT)
+    print(*(name for name in known if name in wanted and "pipe_tables" not in with_below(name, known)))
 
 
 main()

@@ -26,8 +26,7 @@ use std::alloc::{AllocError, Global};
 use std::marker::Model;
 use std::snapshot::Snapshot;
 use std::sync::Wait;
-use std::thread;
-use std::thread::{Promise, PromisedHandle, SpawnError, Threads};
+use std::thread::{Builder, Promise, PromisedHandle, SpawnError, Threads};
 
 /// What a thread gives: what it wrote of what it received since it was this.
 #[derive(Drop)]
@@ -148,6 +147,14 @@ fn unled<H: Wait + Copy>(first: RuledSender<H>, second: Option<RuledSender<H>>) 
     }
 }
 
+/// What makes a thread, with a stack of so many bytes or with the default.
+fn with_stack_of(stack_size: Option<usize>) -> Builder {
+    match stack_size {
+        Some(size) => Builder::new().stack_size(size),
+        None => Builder::new(),
+    }
+}
+
 /// The ways of one or two senders, and these without them.
 type Unled<H> = (
     SenderWay,
@@ -183,6 +190,40 @@ where
         ensures senders { IfOk result (λ r. AreAllSenders r.0 r.1.items × AreUnused r.1.items) }
         ensures back { IfErr result (λ e. e.1 ≡ writer) }
     {
+        RuledFilesSink::with_stack(
+            rt,
+            alloc,
+            writer,
+            maintain_order,
+            morsels_per_sink,
+            senders,
+            None,
+        )
+    }
+
+    /// The same, whose thread has a stack of so many bytes, or of as many as other threads. Where a
+    /// stack can't be had, no thread can.
+    pub fn with_stack(
+        rt: H,
+        alloc: Global,
+        writer: W,
+        maintain_order: bool,
+        morsels_per_sink: usize,
+        senders: usize,
+        stack_size: Option<usize>,
+    ) -> Result<(RuledFilesSink<W, H>, Vec<RuledSender<H>>), (AllocError, W)>
+        requires fresh { IsFresh (W.calls writer) }
+        requires some { 0 < morsels_per_sink }
+        requires few { morsels_per_sink ≤ 4096 }
+        requires one { 0 < senders }
+        requires two { senders ≤ 2 }
+        ensures writer { IfOk result (λ r. r.0.made_of ≡ writer) }
+        ensures asked { IfOk result (λ r. (r.0.maintain_order ≡ maintain_order)
+            × (r.0.morsels ≡ morsels_per_sink) × (r.0.senders ≡ senders)) }
+        ensures fields { IfOk result (λ r. r.0.fields ≡ W.fields (W.format writer)) }
+        ensures senders { IfOk result (λ r. AreAllSenders r.0 r.1.items × AreUnused r.1.items) }
+        ensures back { IfErr result (λ e. e.1 ≡ writer) }
+    {
         match Line::new(rt, alloc, writer.schema(), 2 * morsels_per_sink, senders) {
             Ok(line) => Ok(RuledFilesSink::begin(
                 rt,
@@ -191,6 +232,7 @@ where
                 maintain_order,
                 morsels_per_sink,
                 senders,
+                stack_size,
                 line,
             )),
             Err(wanting) => Err((wanting, writer)),
@@ -205,6 +247,7 @@ where
         maintain_order: bool,
         morsels_per_sink: usize,
         senders: usize,
+        stack_size: Option<usize>,
         line: Line<H>,
     ) -> (RuledFilesSink<W, H>, Vec<RuledSender<H>>)
         requires fresh { IsFresh (W.calls writer) }
@@ -231,7 +274,8 @@ where
         let promise = SinceBegun {
             writer: Snapshot::of(&writer),
         };
-        match thread::spawn_with(&rt, promise, move || write_until_end(rt, writer)) {
+        let thread = with_stack_of(stack_size);
+        match thread.spawn_with(&rt, promise, move || write_until_end(rt, writer)) {
             Ok(thread) => {
                 let sink = RuledFilesSink {
                     rt,

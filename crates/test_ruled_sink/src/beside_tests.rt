@@ -22,7 +22,7 @@ where
     H: Threads + Wait + Copy + Send + 'static,
 {
     let room = Vec::with_capacity(alloc, 1)?;
-    let (sink, sender) = one_sender(rt, alloc, output, schema, 1)?;
+    let (sink, sender) = one_sender(rt, alloc, output, schema, 1, None)?;
     let mut sender = sender;
     let written = feed_all(&mut sender, schema, chunks) && is_raised(writes);
     Ok(ended(sink, sender, room).result.is_ok() && written)

@@ -17,7 +17,7 @@ where
     H: Threads + Wait + Copy + Send + 'static,
 {
     let output = output(alloc, calls)?;
-    run_one(rt, alloc, output, schema, 1, blank_chunks(alloc, 3)?)
+    run_one(rt, alloc, output, schema, 1, None, blank_chunks(alloc, 3)?)
 }
 
 /// Whether each call that fails is told, and a front written.

@@ -14,7 +14,7 @@ where
 {
     let schema = texts(alloc)?;
     let chunks = row_chunks(alloc, &[(3, "c"), (1, "a"), (0, "b")])?;
-    let end = run_one(rt, alloc, output(alloc, &[])?, &schema, 2, chunks)?;
+    let end = run_one(rt, alloc, output(alloc, &[])?, &schema, 2, None, chunks)?;
     Ok(is_whole(end, 3, b"t\na\nc\nb\n"))
 }
 

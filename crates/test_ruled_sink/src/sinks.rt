@@ -26,14 +26,15 @@ fn one_of<H: Drop>(senders: Vec<RuledSender<H>>) -> Option<RuledSender<H>>
     None
 }
 
-/// A sink of CSV with the names in front, in pieces of so many chunks by their numbers, and its one
-/// sender.
+/// A sink of CSV with the names in front, in pieces of so many chunks by their numbers, whose thread
+/// has such a stack, and its one sender.
 pub(crate) fn one_sender<O, H>(
     rt: H,
     alloc: Global,
     output: O,
     schema: &Schema,
     morsels_per_sink: usize,
+    stack_size: Option<usize>,
 ) -> Result<Ruled<O, H>, Fail>
 where
     O: Output + Drop + Send + 'static,
@@ -48,7 +49,7 @@ where
 {
     let fields = copy_schema(alloc, schema)?;
     let writer = CsvBatchedWriter::new(alloc, output, fields, true);
-    match RuledFilesSink::new(rt, alloc, writer, true, morsels_per_sink, 1) {
+    match RuledFilesSink::with_stack(rt, alloc, writer, true, morsels_per_sink, 1, stack_size) {
         Ok((sink, senders)) => match one_of(senders) {
             Some(sender) => Ok((sink, sender)),
             None => Err("no sender".into()),
@@ -125,13 +126,14 @@ where
 /// How a sink of CSV in memory ended.
 pub(crate) type Ended = RuledEnd<CsvBatchedWriter<MemoryOutput>>;
 
-/// How a sink of one sender ends that was given these chunks.
+/// How a sink of one sender ends that was given these chunks, and whose thread has such a stack.
 pub(crate) fn run_one<H>(
     rt: H,
     alloc: Global,
     output: MemoryOutput,
     schema: &Schema,
     morsels_per_sink: usize,
+    stack_size: Option<usize>,
     chunks: Vec<DataChunk>,
 ) -> Result<Ended, Fail>
 where
@@ -140,7 +142,7 @@ where
     requires few { morsels_per_sink ≤ 4096 }
 {
     let room = Vec::with_capacity(alloc, 1)?;
-    let (sink, sender) = one_sender(rt, alloc, output, schema, morsels_per_sink)?;
+    let (sink, sender) = one_sender(rt, alloc, output, schema, morsels_per_sink, stack_size)?;
     let mut sender = sender;
     feed_all(&mut sender, schema, chunks);
     Ok(ended(sink, sender, room))

@@ -1,0 +1,44 @@
+#!/usr/bin/env bash
+# Makes a Debian package of the proved program, its man page and its licence, without root: lavzimo_VERSION_amd64.deb in
+# the folder that is the argument, or in out/. The version stands in VERSION. Builds the program first, where it isn't built.
+set -eu
+cd "$(dirname "$0")/.."
+into=$(mkdir -p "${1:-out}" && cd "${1:-out}" && pwd)
+version=$(cat VERSION)
+tree=$(mktemp -d)
+trap 'rm -rf "$tree"' EXIT
+umask 022
+chmod 755 "$tree"
+scripts/build.sh "$tree/usr/bin"
+strip --strip-unneeded --remove-section=.comment --remove-section=.note "$tree/usr/bin/group_tool"
+
+docs=$tree/usr/share/doc/lavzimo
+pages=$tree/usr/share/man/man1
+mkdir -p "$docs" "$pages" "$tree/DEBIAN"
+for page in man/*.1; do
+    gzip -9n <"$page" >"$pages/$(basename "$page").gz"
+done
+{
+    printf 'Format: https://www.debian.org/doc/packaging-manuals/copyright-format/1.0/\nUpstream-Name: lavzimo\n\nFiles: *\nCopyright:\n'
+    grep '^Copyright' LICENSE | sed 's/^/ /'
+    printf 'License: Expat\n'
+    sed -n '/^Permission/,$p' LICENSE | sed 's/^$/./; s/^/ /'
+} >"$docs/copyright"
+printf 'lavzimo (%s) unstable; urgency=low\n\n  * Built from source.\n\n -- Lavzimo <lavzimo@localhost>  %s\n' \
+    "$version" "$(date -R -d "@${SOURCE_DATE_EPOCH:-$(git log -1 --format=%ct 2>/dev/null || date +%s)}")" | gzip -9n >"$docs/changelog.gz"
+cat >"$tree/DEBIAN/control" <<CONTROL
+Package: lavzimo
+Version: $version
+Architecture: amd64
+Maintainer: Lavzimo <lavzimo@localhost>
+Installed-Size: $(du -ks "$tree/usr" | cut -f 1)
+Depends: libc6
+Section: utils
+Priority: optional
+Description: group-by over CSV whose answers are proved
+ Groups the rows of CSV files by key expressions, with any number of worker
+ threads, in bounded memory. That workers, limits and spilled files change
+ nothing in the answer is proved of the program, from bytes to bytes.
+CONTROL
+(cd "$tree" && find usr -type f -exec md5sum {} + | sort -k 2 >DEBIAN/md5sums)
+dpkg-deb --root-owner-group -Zxz --build "$tree" "$into/lavzimo_${version}_amd64.deb"

@@ -1,0 +1,35 @@
+#!/usr/bin/env bash
+# Makes the package, asks lintian for errors, and tries it where there is no toolchain: as root in a system made by
+# debootstrap, else unpacked into a folder. The program answers README's first example there, its page is read, and what was
+# installed can be removed. Needs dpkg-deb, lintian, mandoc, and debootstrap or none.
+set -eu
+cd "$(dirname "$0")/.."
+work=$(mktemp -d)
+trap 'rm -rf "$work"' EXIT
+chmod 755 "$work"
+scripts/package.sh "$work" >/dev/null
+package=$(echo "$work"/lavzimo_*.deb)
+lintian --fail-on error "$package"
+
+system=$work/system
+mkdir "$system"
+if [ "$(id -u)" = 0 ] && command -v debootstrap >/dev/null && debootstrap --variant=minbase stable "$system" >"$work/log" 2>&1; then
+    inside() { chroot "$system" "$@"; }
+    cp "$package" "$system/tmp/"
+    inside dpkg -i "/tmp/$(basename "$package")" >/dev/null
+    program=/usr/bin/group_tool
+else
+    echo "try_package.sh: no debootstrap, so the package is unpacked into a folder" >&2
+    inside() { "$@"; }
+    dpkg -x "$package" "$system"
+    program=$system/usr/bin/group_tool
+fi
+query='{"schema":[["k","Int64"],["v","Int64"]],"keys":["k"],"aggs":[{"alias":[{"sum":"v"},"s"]},{"alias":[{"count":"v"},"c"]}]}'
+printf 'k,v\n1,5\n2,6\n1,7\n' | inside "$program" "$query" >"$work/answer"
+printf 'k,s,c\n1,12,2\n2,6,1\n' | diff - "$work/answer"
+gzip -dc "$system/usr/share/man/man1/group_tool.1.gz" | mandoc -Tascii | grep -q 'GROUP_TOOL(1)'
+if [ "$program" = /usr/bin/group_tool ]; then
+    inside dpkg -r lavzimo >/dev/null
+    [ ! -e "$system$program" ] && [ ! -e "$system/usr/share/doc/lavzimo" ]
+fi
+echo "try_package.sh: ok"
