@@ -1,0 +1,19 @@
+//! The rows that `lavzimo` shows of an answer: exact means, their order, and their texts.
+#![tactic(auto)]
+
+mod by_column;
+mod by_key;
+mod cell;
+mod columns;
+mod decimal;
+mod mean;
+mod order;
+mod row_order;
+mod shown;
+
+pub use columns::{MeanColumns, ShownColumn, Shows};
+pub use decimal::append_decimal;
+pub use mean::{Millionths, mean_micros};
+pub use order::shown_rows;
+pub use row_order::{ColumnOrder, RowOrder};
+pub use shown::Shown;
