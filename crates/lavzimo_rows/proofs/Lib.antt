@@ -1,1 +1,2 @@
 pub mod MeanFacts
+pub mod DecimalFacts

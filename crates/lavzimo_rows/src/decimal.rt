@@ -18,7 +18,7 @@ fn append_fraction(text: &mut Vec<u8>, millionths: u32) -> Result<(), AllocError
     }
     text.push(b'.')?;
     let mut rest = millionths;
-    for _ in 0..6 {
+    for _ in 0..6u32 {
         if rest == 0 {
             return Ok(());
         }
