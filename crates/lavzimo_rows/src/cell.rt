@@ -29,7 +29,7 @@ fn value_in(columns: &[Column], column: usize, row: usize) -> Option<&AnyValue>
 /// The mean of an exact sum and a count, where they have one.
 #[inline(always)]
 fn mean_of<'a>(sum: Option<&AnyValue>, count: Option<&AnyValue>) -> Cell<'a>
-    ensures { IsCell true (mean_value (value_lent sum) (value_lent count)) result }
+    ensures { IsCell true (mean_value (value_lent sum.entry) (value_lent count.entry)) result }
 {
     let (Some(AnyValue::Int(sum)), Some(AnyValue::Int(count))) = (sum, count) else {
         return Cell::Nothing;
