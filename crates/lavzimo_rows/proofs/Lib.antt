@@ -1,2 +1,3 @@
 pub mod MeanFacts
 pub mod DecimalFacts
+pub mod OrderFacts

@@ -2,6 +2,7 @@
 
 ghost use Rattle.std.specs.Prelude.{◌≡◌, IfOk};
 ghost use Rattle.std.specs.List.{range_with_len};
+ghost use Rattle.pipe_columns.specs.declared.any_value.AnyValue.{AnyValue};
 ghost use Rattle.pipe_columns.specs.AnyValue.{value_cmp};
 ghost use Rattle.pipe_columns.specs.Frame.{row_at, value_at};
 ghost use Rattle.pipe_model.specs.Answer.{tuple_cmp};
@@ -11,11 +12,17 @@ use pipe_columns::{AnyValue, Column};
 use std::alloc::{AllocError, Global};
 use std::cmp::Ordering;
 
+/// Values are compared in a program as the definition orders them.
+fn value_order()
+    ensures { (a b : AnyValue) → ⟦<AnyValue as Ord>⟧.cmp a b ≡ value_cmp a b }
+{}
+
 /// Compares the values at two places; past the end there are nulls.
 #[inline(always)]
 fn compare_values(values: &[AnyValue], a: usize, b: usize) -> Ordering
     ensures { result ≡ value_cmp (value_at values.now a) (value_at values.now b) }
 {
+    value_order();
     let null = AnyValue::Null;
     let first = values.get(a).unwrap_or(&null);
     let second = values.get(b).unwrap_or(&null);
