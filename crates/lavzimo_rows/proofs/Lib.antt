@@ -1,3 +1,4 @@
 pub mod MeanFacts
 pub mod DecimalFacts
 pub mod OrderFacts
+pub mod KeyFacts

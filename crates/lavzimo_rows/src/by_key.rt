@@ -43,6 +43,17 @@ fn compare_rows(columns: &[Column], a: usize, b: usize) -> Ordering
     Ordering::Equal
 }
 
+/// The numbers of so many rows.
+pub(crate) fn all_rows(alloc: Global, height: usize) -> Result<Vec<usize>, AllocError>
+    ensures { IfOk result (λ v. v.items ≡ range_with_len 0 height) }
+{
+    let mut rows = Vec::with_capacity(alloc, height)?;
+    for row in 0..height {
+        rows.push(row)?;
+    }
+    Ok(rows)
+}
+
 /// The numbers of so many rows, in the order of the rows of key columns.
 pub(crate) fn rows_by_key(
     alloc: Global,
@@ -53,7 +64,7 @@ pub(crate) fn rows_by_key(
         ≡ in_order (λ a b. tuple_cmp (row_at keys.now a) (row_at keys.now b))
         (range_with_len 0 height)) }
 {
-    let mut rows: Vec<usize> = (0..height).collect(alloc)?;
+    let mut rows = all_rows(alloc, height)?;
     rows.sort_by(|a, b| compare_rows(keys, *a, *b))?;
     Ok(rows)
 }

@@ -8,7 +8,7 @@ ghost use Rattle.lavzimo_rows.specs.Shown.{column_cmp, key_cmp, kept_rows, limit
 ghost use Rattle.lavzimo_rows.specs.StableOrder.{in_order};
 
 use crate::by_column::rows_by_column;
-use crate::by_key::rows_by_key;
+use crate::by_key::{all_rows, rows_by_key};
 use crate::columns::ShownColumn;
 use crate::row_order::{ColumnOrder, RowOrder};
 use crate::shown::Shown;
@@ -47,7 +47,7 @@ fn row_order(alloc: Global, shown: &Shown, frame: &DataFrame) -> Result<Vec<usiz
     let columns = frame.columns();
     let keys = key_columns(columns, shown.keys());
     match shown.order() {
-        RowOrder::First => (0..frame.height()).collect(alloc),
+        RowOrder::First => all_rows(alloc, frame.height()),
         RowOrder::Key => rows_by_key(alloc, keys, frame.height()),
         RowOrder::Column(by) => {
             let rows = rows_by_key(alloc, keys, frame.height())?;
