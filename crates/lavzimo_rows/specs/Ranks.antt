@@ -39,5 +39,5 @@ IsRankOf mean value (rank.Text s) = value ≡ av.Text s.now
 -- rows of which each has the rank of its value
 pub record AreRanked (mean : Bool) (value : ℕ → AnyValue) (rows : List ℕ) (ranked : List RankedRow)
     : Type 0 where
-  pub rows : map (λ r. r.row) ranked ≡ rows
+  pub numbers : map (λ r. r.row) ranked ≡ rows
   pub each : All (λ r. IsRankOf mean (value r.row) r.rank) ranked
