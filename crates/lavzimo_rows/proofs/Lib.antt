@@ -5,3 +5,6 @@ pub mod KeyFacts
 pub mod RankFacts
 pub mod ShownFacts
 pub mod TextFacts
+pub mod OrderLaws
+pub mod MeanLaws
+pub mod ShownLaws

@@ -1,5 +1,5 @@
 -- Rows in the order in which they are shown.
-use Rattle.std.proofs.Common.{◌≡◌, ◌∙◌, ◌+◌, ◌<◌, ◌≤◌, ◌∷◌, [], ℕ, false, List, Bool, Option, Some, None, length, map, take, drop, is_lt, slice_get, refl, sym, ap, arith}
+use Rattle.std.proofs.Common.{◌≡◌, ◌∙◌, ◌+◌, ◌<◌, ◌≤◌, ◌∷◌, [], ℕ, true, false, List, Bool, Option, Some, None, length, map, take, drop, is_lt, slice_get, refl, sym, ap, arith}
 use Rattle.std.specs.List.{range_with_len}
 use Rattle.std.specs.declared.cmp.Ordering.{Ordering}
 use Rattle.std.specs.declared.cmp.Ordering.TheVariants.{Equal}
@@ -61,12 +61,14 @@ by_column shown by column columns rows order found made =
     ap (map (row_at columns)) made ∙ map-in_order (row_at columns) R rows ∙ same
 
 -- where all elements tie, all stay
-all_tie : {X : Type 0} (order : X → X → Ordering) → ((a b : X) → is_lt (order a b) ≡ false) → (xs : List X) → xs ≡ in_order order xs
-all_tie order tied [] = refl
-all_tie order tied (x ∷ xs) = ap (λ (l : List X). x ∷ l) (all_tie order tied xs) ∙ stays x (in_order order xs) where
+module _ {X : Type 0} (order : X → X → Ordering) (tied : (a b : X) → is_lt (order a b) ≡ false) where
   stays : (x : X) (ys : List X) → x ∷ ys ≡ put_in order x ys
   stays x [] = refl
   stays x (y ∷ ys) = sym (cond-false _ _ _ (tied y x))
+
+  all_tie : (xs : List X) → xs ≡ in_order order xs
+  all_tie [] = refl
+  all_tie (x ∷ xs) = ap (λ (l : List X). x ∷ l) (all_tie xs) ∙ stays x (in_order order xs)
 
 -- an order by a column that isn't there moves no row
 pub by_none : (shown : List ShownColumn) (by : ColumnOrder) (rows : List Row) → slice_get shown by.column ≡ None → rows ≡ in_order (column_cmp shown by) rows

@@ -6,3 +6,5 @@ pub mod Shown
 pub mod Texts
 pub mod Cells
 pub mod Ranks
+pub mod Laws
+pub mod Worked

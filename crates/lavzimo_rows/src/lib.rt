@@ -8,10 +8,12 @@ mod columns;
 mod csv_rows;
 mod decimal;
 mod json_rows;
+mod laws;
 mod mean;
 mod order;
 mod row_order;
 mod shown;
+mod worked;
 
 pub use columns::{MeanColumns, ShownColumn, Shows};
 pub use csv_rows::csv_text;
