@@ -1,6 +1,6 @@
 -- Digits behind a point, written one by one.
-use Rattle.std.proofs.Common.{◌≡◌, ◌∙◌, ◌+◌, ◌-◌, ◌*◌, ◌/◌, ◌%◌, ◌<◌, ◌++◌, ◌∷◌, [], ◌==◌, ℕ, zero, suc, false, true, List, refl, sym, ap, arith, append-nil, append_assoc, if◌then◌else◌}
-use Rattle.std.proofs.lemmas.Bool.{cond-true, cond-false}
+use Rattle.std.proofs.Common.{◌≡◌, ◌∙◌, ◌+◌, ◌-◌, ◌*◌, ◌/◌, ◌%◌, ◌<◌, ◌++◌, ◌∷◌, [], ◌==◌, ℕ, zero, suc, false, List, refl, sym, ap, arith, append-nil, append_assoc}
+use Rattle.std.proofs.lemmas.Bool.{cond-false}
 use Rattle.lavzimo_rows.specs.Decimal.{digits_of_millionths}
 
 -- of nothing there are no digits

@@ -1,5 +1,5 @@
 -- Rounded quotients are nearest.
-use Rattle.std.proofs.Common.{◌≡◌, ◌∙◌, ◌+◌, ◌*◌, ◌/◌, ◌%◌, ◌<◌, ◌≤◌, ◌==◌, ℕ, ℤ, zero, suc, pos, negsuc, neg_ℤ, Bool, true, false, nat_lt, if◌then◌else◌, refl, sym, ap, arith, inl, inr}
+use Rattle.std.proofs.Common.{◌≡◌, ◌+◌, ◌*◌, ◌/◌, ◌%◌, ◌<◌, ◌≤◌, ◌==◌, ℕ, ℤ, zero, suc, pos, negsuc, neg_ℤ, nat_lt, if◌then◌else◌, refl, sym, arith, inl, inr}
 use Rattle.std.proofs.Math.Nat.{zero-div, zero-mod}
 use Rattle.std.proofs.lemmas.Bool.{cases_Bool, cond-true, cond-false, ltb-true, ltb-false}
 use Rattle.std.proofs.lemmas.Bool.Decides.{nat_tests}

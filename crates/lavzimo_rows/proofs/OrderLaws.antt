@@ -1,5 +1,5 @@
 -- Lists in order: each element once, ascending, and the same wherever the elements stood.
-use Rattle.std.proofs.Common.{◌≡◌, ◌∙◌, ◌∷◌, ◌++◌, [], Bool, true, false, cond, List, is_lt, refl, sym, ap, inl, inr}
+use Rattle.std.proofs.Common.{◌≡◌, ◌∙◌, ◌∷◌, [], Bool, true, false, cond, List, is_lt, refl, ap, inl, inr}
 use Rattle.std.specs.List.{AllByRecursion, IsDistinct}
 use Rattle.std.specs.List.Sorted.{IsPermutation}
 use Rattle.std.specs.Cmp.{IsTotalOrder, tied_back}
@@ -10,7 +10,7 @@ use Rattle.std.proofs.lemmas.Bool.{cases_Bool, cond-true, cond-false}
 use Rattle.std.proofs.lemmas.List.Sorted.{IsPermutation-cons, IsPermutation-middle, IsPermutation-refl, IsPermutation-sym, IsPermutation-trans}
 use Rattle.pipe_columns.specs.Groups.{IsAscending}
 use Rattle.pipe_columns.proofs.AscendingFacts.{AnyKey, any_keys, ascending_unique_on, below_trans, total_on}
-use Rattle.pipe_columns.proofs.ElementFacts.{Has, moved-has}
+use Rattle.pipe_columns.proofs.ElementFacts.{moved-has}
 use Rattle.lavzimo_rows.specs.StableOrder.{in_order, put_in}
 
 module _ {X : Type 0} (order : X → X → Ordering) where

@@ -1,23 +1,20 @@
 -- Rows that are put in order by their ranks.
-use Rattle.std.proofs.Common.{◌≡◌, ◌∙◌, ◌+◌, ◌*◌, ◌<◌, ◌++◌, ◌∷◌, [], ℕ, ℤ, pos, ◌+ℤ◌, ◌*ℤ◌, Bool, true, false, List, map, refl, sym, ap, arith, rules}
-use Rattle.std.specs.List.{All}
+use Rattle.std.proofs.Common.{◌≡◌, ◌∙◌, ◌<◌, ◌++◌, ◌∷◌, [], ℕ, ℤ, pos, ◌+ℤ◌, ◌*ℤ◌, Bool, true, false, List, map, refl, sym, ap, arith}
 use Rattle.std.specs.Cmp.{IsTotalOrder, on_total, then_total, nat_cmp_total}
 use Rattle.std.specs.declared.cmp.Ordering.{Ordering}
 use Rattle.std.specs.declared.cmp.Ordering.TheVariants.{Less, Equal, Greater}
-use Rattle.std.specs.Ordering.{int_cmp, nat_cmp, on, ordering_reverse, ordering_then}
+use Rattle.std.specs.Ordering.{int_cmp, nat_cmp, ordering_reverse, ordering_then}
 use Rattle.std.proofs.lemmas.Bool.Decides.{nat_tests}
 use Rattle.std.proofs.lemmas.Int.{ints}
 use Rattle.std.proofs.lemmas.List.{map-append}
 use Rattle.std.proofs.lemmas.List.Elements.{All-push}
 use Rattle.pipe_columns.specs.declared.any_value.AnyValue.{AnyValue}
-use Rattle.pipe_columns.specs.declared.any_value.AnyValue.TheVariants as av
 use Rattle.pipe_columns.specs.AnyValue.{value_cmp}
 use Rattle.pipe_columns.proofs.ValueOrder.{value_cmp_total}
 use Rattle.lavzimo_rows.specs.declared.by_column.Rank.{Rank}
 use Rattle.lavzimo_rows.specs.declared.by_column.Rank.TheVariants as rank
 use Rattle.lavzimo_rows.specs.declared.by_column.RankedRow.{RankedRow}
 use Rattle.lavzimo_rows.specs.declared.mean.Millionths.{Millionths}
-use Rattle.lavzimo_rows.specs.Cells.{IsMillionths, number_of}
 use Rattle.lavzimo_rows.specs.Ranks.{AreRanked, IsNumberRank, IsRankOf, rank_cmp, rank_parts}
 use Rattle.lavzimo_rows.specs.Shown.{turned}
 use Rattle.lavzimo_rows.specs.StableOrder.{in_order}

@@ -1,12 +1,11 @@
 -- Rows in the order in which they are shown.
-use Rattle.std.proofs.Common.{◌≡◌, ◌∙◌, ◌+◌, ◌<◌, ◌≤◌, ◌∷◌, [], ℕ, true, false, List, Bool, Option, Some, None, length, map, take, drop, is_lt, slice_get, refl, sym, ap, arith}
+use Rattle.std.proofs.Common.{◌≡◌, ◌∙◌, ◌∷◌, [], ℕ, true, false, List, Bool, Option, Some, None, map, take, drop, is_lt, slice_get, refl, sym, ap}
 use Rattle.std.specs.List.{range_with_len}
 use Rattle.std.specs.declared.cmp.Ordering.{Ordering}
 use Rattle.std.specs.declared.cmp.Ordering.TheVariants.{Equal}
 use Rattle.std.proofs.lemmas.Bool.{cond-false}
 use Rattle.std.proofs.lemmas.List.{drop-map, take-map}
 use Rattle.std.proofs.lemmas.Option.{slice_get-map}
-use Rattle.pipe_columns.specs.declared.any_value.AnyValue.{AnyValue}
 use Rattle.pipe_columns.specs.declared.any_value.AnyValue.TheVariants as av
 use Rattle.pipe_columns.specs.AnyValue.{value_cmp}
 use Rattle.pipe_columns.specs.Frame.{ColumnData, FrameData, row_at, value_at}
@@ -76,6 +75,7 @@ by_none shown by rows none = all_tie (column_cmp shown by) tied rows where
   level : (descending : Bool) → is_lt (turned descending Equal) ≡ false
   level false = refl
   level true = refl
+
   tied : (a b : Row) → is_lt (column_cmp shown by a b) ≡ false
   tied a b = ap (λ v. is_lt (turned by.descending (value_cmp v (value_at (shown_row shown b) by.column)))) (shown_past shown by.column a none)
       ∙ ap (λ v. is_lt (turned by.descending (value_cmp av.Null v))) (shown_past shown by.column b none) ∙ level by.descending

@@ -1,11 +1,11 @@
 -- Shown rows: each once, ascending, and the same wherever they stood.
-use Rattle.std.proofs.Common.{◌≡◌, ◌≢◌, ◌∙◌, ◌+◌, ◌++◌, ℕ, List, Some, take, drop, refl, sym, ap}
-use Rattle.std.specs.List.{IsDistinct}
+use Rattle.std.proofs.Common.{◌≡◌, ◌≢◌, ◌+◌, ◌++◌, ℕ, List, Some, take, refl, sym, ap}
 use Rattle.std.specs.List.Sorted.{IsPermutation}
-use Rattle.std.specs.Cmp.{IsTotalOrder, on_total}
+use Rattle.std.specs.Cmp.{IsTotalOrder, eq_by_cmp_equiv, on_total}
 use Rattle.std.specs.Ordering.{eq_by_cmp}
 use Rattle.std.proofs.Math.Seq.{take-add}
 use Rattle.std.proofs.lemmas.List.Sorted.{IsPermutation-refl, IsPermutation-sym, IsPermutation-trans}
+use Rattle.std.proofs.lemmas.Map.Keys.{IsDistinct-IsPermutation}
 use Rattle.pipe_columns.specs.Groups.{IsAscending}
 use Rattle.pipe_columns.proofs.ValueOrder.{tuples_total}
 use Rattle.pipe_lines.specs.Rows.{Row}
@@ -43,9 +43,12 @@ by_key-moved keys rows others apart distinct moved =
     (IsPermutation-trans rows others (in_order R others) moved (in_order-moved R others)))
 
 -- rows that are shown, wherever they stood
-pub kept-moved : (s : ShownData) (rows others : List Row) → s.order ≢ order.First → HaveDistinctKeys s.keys rows → HaveDistinctKeys s.keys others → IsPermutation rows others
+pub kept-moved : (s : ShownData) (rows others : List Row) → s.order ≢ order.First → HaveDistinctKeys s.keys rows → IsPermutation rows others
     → kept_rows s rows ≡ kept_rows s others
-kept-moved s rows others some apart distinct moved = ap (limited s.offset s.limit) (same s.order some) where
+kept-moved s rows others some apart moved = ap (limited s.offset s.limit) (same s.order some) where
+  distinct : HaveDistinctKeys s.keys others
+  distinct = IsDistinct-IsPermutation (eq_by_cmp (key_cmp s.keys)) (eq_by_cmp_equiv (keys_total s.keys)).symm rows others moved apart
+
   same : (o : RowOrder) → o ≢ order.First → ordered s.columns s.keys o rows ≡ ordered s.columns s.keys o others
   same order.First other = absurd (other refl)
   same order.Key other = by_key-moved s.keys rows others apart distinct moved

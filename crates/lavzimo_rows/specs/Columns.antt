@@ -1,5 +1,5 @@
 -- What columns show of an answer's rows.
-use Rattle.std.specs.Prelude.{ℕ, List, map, Option, Bool, true, false}
+use Rattle.std.specs.Prelude.{List, map, Bool, true, false}
 use Rattle.pipe_columns.specs.declared.any_value.AnyValue.{AnyValue}
 use Rattle.pipe_columns.specs.Frame.{value_at}
 use Rattle.pipe_lines.specs.Rows.{Row}

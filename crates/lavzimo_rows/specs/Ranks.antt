@@ -1,5 +1,5 @@
 -- Of the proofs alone: what rows are put in order by.
-use Rattle.std.specs.Prelude.{◌≡◌, ◌<◌, ℕ, ℤ, List, Bool, true, false, map}
+use Rattle.std.specs.Prelude.{◌≡◌, ℕ, ℤ, List, Bool, true, false, map}
 use Rattle.std.specs.List.{All}
 use Rattle.std.specs.declared.cmp.Ordering.{Ordering}
 use Rattle.std.specs.Ordering.{ordering_then, nat_cmp}
@@ -10,7 +10,7 @@ use Rattle.lavzimo_rows.specs.declared.by_column.Rank.{Rank}
 use Rattle.lavzimo_rows.specs.declared.by_column.Rank.TheVariants as rank
 use Rattle.lavzimo_rows.specs.declared.by_column.RankedRow.{RankedRow}
 use Rattle.lavzimo_rows.specs.declared.mean.Millionths.{Millionths}
-use Rattle.lavzimo_rows.specs.Cells.{IsMillionths, number_of}
+use Rattle.lavzimo_rows.specs.Cells.{IsMillionths}
 
 -- a rank as a value, of which a number is rounded downwards, and the millionths above that
 abbrev pub rank_parts : Rank → AnyValue × ℕ

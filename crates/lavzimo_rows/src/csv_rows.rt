@@ -185,6 +185,12 @@ pub fn csv_text(alloc: Global, shown: &Shown, frame: &DataFrame) -> Result<Vec<u
     };
     let mut writer = begin(alloc);
     write_names(&mut writer, shown.columns())?;
-    write_rows(&mut writer, &mut scratch, shown.columns(), frame.columns(), &rows)?;
+    write_rows(
+        &mut writer,
+        &mut scratch,
+        shown.columns(),
+        frame.columns(),
+        &rows,
+    )?;
     end(writer)
 }

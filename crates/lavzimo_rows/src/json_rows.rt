@@ -181,6 +181,12 @@ pub fn json_text(alloc: Global, shown: &Shown, frame: &DataFrame) -> Result<Vec<
         string: Vec::new(alloc),
     };
     let mut text = Vec::new(alloc);
-    append_lines(&mut text, &mut scratch, shown.columns(), frame.columns(), &rows)?;
+    append_lines(
+        &mut text,
+        &mut scratch,
+        shown.columns(),
+        frame.columns(),
+        &rows,
+    )?;
     Ok(text)
 }

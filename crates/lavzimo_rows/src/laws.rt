@@ -30,8 +30,7 @@ pub fn rows_stand_in_order()
 /// The rows that are shown don't depend on where they stood, but in the order of first rows.
 pub fn rows_are_moved()
     ensures { (s : ShownData) (rows others : List Row) → s.order ≢ order.First
-        → HaveDistinctKeys s.keys rows → HaveDistinctKeys s.keys others
-        → IsPermutation rows others
+        → HaveDistinctKeys s.keys rows → IsPermutation rows others
         → kept_rows s rows ≡ kept_rows s others }
 {}
 

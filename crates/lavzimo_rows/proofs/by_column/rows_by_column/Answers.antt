@@ -1,4 +1,4 @@
-use Rattle.std.proofs.Common.{◌≡◌, ◌∙◌, ℕ, List, map, ap}
+use Rattle.std.proofs.Common.{◌∙◌, ℕ, map, ap}
 use Rattle.pipe_columns.specs.declared.any_value.AnyValue.{AnyValue}
 use Rattle.pipe_columns.specs.Frame.{row_at}
 use Rattle.lavzimo_rows.specs.declared.by_column.RankedRow.{RankedRow}

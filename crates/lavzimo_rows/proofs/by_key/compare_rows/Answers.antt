@@ -1,6 +1,5 @@
-use Rattle.std.proofs.Common.{◌≡◌, ◌∙◌, ap₂, ap, sym, List}
+use Rattle.std.proofs.Common.{◌∙◌, ap, sym, List}
 use Rattle.pipe_columns.specs.declared.any_value.AnyValue.{AnyValue}
-use Rattle.std.specs.declared.cmp.Ordering.{Ordering}
 use Rattle.pipe_columns.specs.AnyValue.{value_cmp}
 use Rattle.pipe_columns.specs.Frame.{value_at}
 use Rattle.lavzimo_rows.proofs.KeyFacts.{compared_alike, compared_all, compared_apart, no_tie, tie}

@@ -1,4 +1,4 @@
-use Rattle.std.proofs.Common.{◌≡◌, ◌-◌, ◌<◌, ◌==◌, ℕ, false, arith}
+use Rattle.std.proofs.Common.{arith}
 use Rattle.std.proofs.lemmas.Bool.Decides.{nat_tests}
 use Rattle.lavzimo_rows.proofs.DecimalFacts.{digit_written, digits_ended, digits_written}
 use Rattle.lavzimo_rows.proofs.decimal.append_fraction.Goals as goal

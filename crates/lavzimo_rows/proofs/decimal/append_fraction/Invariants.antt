@@ -1,4 +1,4 @@
-use Rattle.std.proofs.Common.{◌≡◌, ◌++◌, ◌-◌, ◌<◌, ◌≤◌}
+use Rattle.std.proofs.Common.{◌≡◌, ◌++◌, ◌-◌, ◌<◌}
 use Rattle.lavzimo_rows.specs.Decimal.{digits_of_millionths, fraction_text}
 use Rattle.lavzimo_rows.proofs.decimal.append_fraction.Given as goal
 

@@ -1,4 +1,4 @@
-use Rattle.std.proofs.Common.{◌≡◌, ◌∙◌, ◌+◌, ◌*◌, ◌/◌, ◌%◌, ℕ, Bool, if◌then◌else◌, sym, ap, arith}
+use Rattle.std.proofs.Common.{sym, arith}
 use Rattle.lavzimo_rows.proofs.MeanFacts.{rounded_known}
 use Rattle.lavzimo_rows.proofs.mean.divide.Goals as goal
 

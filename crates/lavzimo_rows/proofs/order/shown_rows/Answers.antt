@@ -1,4 +1,4 @@
-use Rattle.std.proofs.Common.{◌≡◌, ◌∙◌, ℕ, List, map, ap}
+use Rattle.std.proofs.Common.{◌∙◌, ℕ, map, ap}
 use Rattle.pipe_columns.specs.Frame.{row_at}
 use Rattle.pipe_lines.specs.Rows.{Row}
 use Rattle.lavzimo_rows.specs.Shown.{limited}
