@@ -20,33 +20,37 @@ fn cities(alloc: Global) -> Result<Vec<AnyValue>, AllocError> {
     let oslo = AnyValue::Text(Text::new(alloc, "Oslo")?);
     let quoted = AnyValue::Text(Text::new(alloc, "a,\"b")?);
     let bonn = AnyValue::Text(Text::new(alloc, "Bonn")?);
-    vec![in alloc; oslo, AnyValue::Null, quoted, bonn]
+    Ok(vec![in alloc; oslo, AnyValue::Null, quoted, bonn]?)
 }
 
-/// Sums, of which one is that of no value and one the least of all.
-fn sums(alloc: Global) -> Result<Vec<AnyValue>, AllocError> {
-    vec![in alloc;
-        AnyValue::Int(5),
-        AnyValue::Null,
-        AnyValue::Int(i128::MIN),
-        AnyValue::Int(-1),
-    ]
+/// Numbers, and nulls.
+fn numbers(alloc: Global, numbers: &[Option<i128>]) -> Result<Vec<AnyValue>, AllocError> {
+    let mut values = Vec::new(alloc);
+    for number in numbers {
+        values.push(match number {
+            Some(number) => AnyValue::Int(*number),
+            None => AnyValue::Null,
+        })?;
+    }
+    Ok(values)
 }
 
-fn counts(alloc: Global) -> Result<Vec<AnyValue>, AllocError> {
-    vec![in alloc;
-        AnyValue::Int(2),
-        AnyValue::Int(0),
-        AnyValue::Int(1),
-        AnyValue::Int(3),
-    ]
-}
-
-/// An answer: cities, and both halves of a mean.
+/// An answer: cities, and both halves of a mean, of which one is that of no value and one has the
+/// least sum of all.
 pub(crate) fn answer(alloc: Global) -> Result<DataFrame, Fail> {
     let cities = column_of(alloc, "city", DataType::String, cities(alloc)?)?;
-    let sums = column_of(alloc, "n_sum", DataType::Int128, sums(alloc)?)?;
-    let counts = column_of(alloc, "n_count", DataType::UInt32, counts(alloc)?)?;
+    let sums = column_of(
+        alloc,
+        "n_sum",
+        DataType::Int128,
+        numbers(alloc, &[Some(5), None, Some(i128::MIN), Some(-1)])?,
+    )?;
+    let counts = column_of(
+        alloc,
+        "n_count",
+        DataType::UInt32,
+        numbers(alloc, &[Some(2), Some(0), Some(1), Some(3)])?,
+    )?;
     let columns = vec![in alloc; cities, sums, counts]?;
     Ok(DataFrame::new(4, columns).ok_or("no frame")?)
 }
