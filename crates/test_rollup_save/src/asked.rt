@@ -15,7 +15,8 @@ use std::test::Fail;
 use std::thread::Threads;
 
 /// The sum and the first of `v` by `k` and `g`.
-const QUERY: &str = r#"{"schema":[["k","Int64"],["x","String"],["g","Int64"],["v","Int64"]],"keys":["k","g"],"aggs":[{"alias":[{"sum":"v"},"s"]},{"alias":[{"first":"v"},"f"]}]}"#;
+const QUERY: &str =
+    r#"{"schema":[["k","Int64"],["x","String"],["g","Int64"],["v","Int64"]],"keys":["k","g"],"aggs":[{"alias":[{"sum":"v"},"s"]},{"alias":[{"first":"v"},"f"]}]}"#;
 
 /// The names and the texts of two files.
 const FILES: [(&str, &str); 2] = [

@@ -2,14 +2,16 @@
 
 use crate::asked::{is_right, saved};
 use pipe_csv::CsvError;
+use std::alloc::Global;
 use std::test::Fail;
+use std::thread::Threads;
 
 /// How many calls of the input both files take.
 const CALLS: u64 = 6;
 
 /// Whether saving fails for the input.
-fn fails(rt: &HostRuntime, call: u64) -> Result<bool, Fail> {
-    match saved(rt, rt.alloc(), Some(call))? {
+fn fails<H: Threads + Sync>(rt: &H, alloc: Global, call: u64) -> Result<bool, Fail> {
+    match saved(rt, alloc, Some(call))? {
         Err(CsvError::Input) => Ok(true),
         Err(_) => Err("another error".into()),
         Ok(text) => {
@@ -26,7 +28,7 @@ fn fails(rt: &HostRuntime, call: u64) -> Result<bool, Fail> {
 #[test]
 fn each_call_fails(rt: HostRuntime) -> Result<(), Fail> {
     for call in 0..CALLS + 2 {
-        if fails(&rt, call)? != (call < CALLS) {
+        if fails(&rt, rt.alloc(), call)? != (call < CALLS) {
             return Err("another end".into());
         }
     }
