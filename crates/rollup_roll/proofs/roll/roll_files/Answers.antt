@@ -24,6 +24,15 @@ overflow_add-result g c =
     let few : length names < 2 ^ 64 = search rules in
     omega (arith, within, long, few)
 
+pub returns-in-Err-Overlap-clause-refused : goal.returns-in-Err-Overlap-clause-refused
+returns-in-Err-Overlap-clause-refused g c = record {
+  states = c.in_ok-regrouping.regrouping.files;
+  tell = c.in_ok-regrouping.ensures.tell;
+  place = c.in-Err-Overlap.file;
+  number = refl;
+  overlap = search rules;
+}
+
 pub returns-in-Ok-clause-rolled : goal.returns-in-Ok-clause-rolled
 returns-in-Ok-clause-rolled g c =
     let states : List StateSeen = c.in_ok-regrouping.regrouping.files in
