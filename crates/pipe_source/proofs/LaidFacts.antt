@@ -12,7 +12,7 @@ use Rattle.pipe_scan.specs.Records.{Records, cut, records_at}
 use Rattle.pipe_scan.specs.Row.{Takes}
 use Rattle.pipe_source.specs.CsvChunks.{wanted_of}
 use Rattle.pipe_source.specs.LaidRows.{ChecksLaid}
-use Rattle.pipe_source.specs.Layout.{ArePlacedIn, FitsLayout, laid, picked}
+use Rattle.pipe_source.specs.Layout.{ArePlacedIn, FitsAny, FitsLayout, LayoutFits, laid, picked}
 use Rattle.pipe_source.specs.NamedRows.{fields_at, named_row, named_rows, named_text_rows, places_of, rows_behind, wanted_named_rows}
 use Rattle.pipe_source.specs.declared.layout.Layout.{Layout}
 use Rattle.pipe_source.proofs.FieldsLeft.{length-cut}
@@ -108,3 +108,8 @@ checked-laid l file cs text at most row cursor next d h r =
       rows = rows-more file cs _ row d.done _ _ (picked l r.1.0) r.0 d.rows first r.1.2;
       next = drop-next row (records_at text at) recs more r.1.0 d.next r.1.1;
     }
+
+-- columns fit the layout of their file, where it has one
+pub fits-any : (by_name : Bool) (cs : List Field) (layout : Option Layout) → LayoutFits cs by_name layout → FitsAny cs layout
+fits-any by_name cs None fit = tt
+fits-any by_name cs (Some l) fit = fit.1

@@ -19,5 +19,6 @@ pub mod PlainReads
 pub mod CheckedRows
 pub mod LayoutFacts
 pub mod LaidFacts
+pub mod NamedReads
 pub mod NamedAgree
 pub mod QuotedFacts

@@ -1,8 +1,8 @@
 -- Pieces of a text that are looked over each by itself, and the rows of all of them.
-use Rattle.std.proofs.Common.{◌≡◌, ◌∙◌, ◌≤◌, ◌<◌, ◌+◌, ◌-◌, ◌*◌, ◌/◌, ◌==◌, ℕ, zero, suc, not, Bool, true, false, List, [], ◌∷◌, ◌++◌, length, take, drop, get_or, nat_lt, IfOk, Result, Ok, refl, sym, ap, arith, append_assoc, subst}
+use Rattle.std.proofs.Common.{◌≡◌, ◌∙◌, ◌≤◌, ◌<◌, ◌+◌, ◌-◌, ◌*◌, ◌/◌, ◌==◌, ℕ, zero, suc, not, Bool, true, false, List, [], ◌∷◌, ◌++◌, length, take, drop, get_or, nat_lt, IfOk, Option, None, Some, Result, Ok, refl, sym, ap, arith, append_assoc, subst}
 use Rattle.std.proofs.lemmas.Bool.Decides.{nat_tests}
 use Rattle.std.proofs.lemmas.Bool.{and_parts}
-use Rattle.std.proofs.lemmas.List.{append-nil, drop_all, drop-append-le, drop-drop, drop-take, length-append, take_all}
+use Rattle.std.proofs.lemmas.List.{append-nil, drop_all, drop-append-le, drop-drop, drop-take, length-append, map-append, take_all}
 use Rattle.std.proofs.Math.Seq.{drop-append_seam}
 use Rattle.csv.specs.Reading.{default_config, records}
 use Rattle.csv.specs.declared.parser.State.TheVariants as st
@@ -18,11 +18,14 @@ use Rattle.pipe_scan.specs.Skipped.{Skips}
 use Rattle.pipe_scan.proofs.PieceEnds.{piece_at_end, piece_at_line}
 use Rattle.pipe_scan.proofs.RecordList.{all-none, ends-none, length-records}
 use Rattle.pipe_scan.proofs.ScanFacts.{between_none, length-between}
-use Rattle.pipe_source.proofs.TextRows.{after-parts, records-few, rows-anywhere, rows-placed}
-use Rattle.pipe_source.specs.Rows.{AreRowsAt, AreStarts, IsStart}
+use Rattle.pipe_source.proofs.TextRows.{after-parts, laid-placed, length-laid, records-few, rows-anywhere}
+use Rattle.pipe_source.specs.LaidRows.{AreLaidAt}
+use Rattle.pipe_source.specs.Layout.{laid, picked}
+use Rattle.pipe_source.specs.Rows.{AreStarts, IsStart}
 use Rattle.pipe_source.specs.Starts.{AreNoted}
 use Rattle.pipe_source.specs.declared.starts.Starts.{Starts}
 use Rattle.pipe_source.specs.PieceRows.{AreBounds, ArePlaces, AreRowsTo, IsLookedOver, IsPart}
+use Rattle.pipe_source.specs.declared.layout.Layout.{Layout}
 use Rattle.pipe_source.specs.declared.piece_check.PieceRows.{PieceRows}
 
 -- ---- a piece of a text
@@ -144,23 +147,33 @@ reads-append file row f r schema (x ∷ xs) ys front back e g =
     after-parts (read_row file row schema x) (read_rows file (row + 1) schema (xs ++ ys)) parts.0 (parts.1 ++ back) (front ++ back) parts.2
     (reads-append file (row + 1) f r schema xs ys parts.1 back parts.3 g) (ap (λ (t : List (List AnyValue)). t ++ back) parts.4)
 
+-- what is read of some fields of no record is none
+laid-none : (layout : Option Layout) → laid layout [] ≡ []
+laid-none None = refl
+laid-none (Some l) = refl
+
+-- what is read of them of some records, and of those behind these
+laid-append : (layout : Option Layout) (xs ys : Records) → laid layout (xs ++ ys) ≡ laid layout xs ++ laid layout ys
+laid-append None xs ys = refl
+laid-append (Some l) xs ys = map-append (picked l) xs ys
+
 -- there is no row before the first
-pub rows-none : (schema : List Field) (text : List ℕ) (at : ℕ) → AreRowsTo schema text at at 0
-rows-none schema text at = record { front = []; rows = []; records = refl; read = refl; count = refl }
+pub rows-none : (layout : Option Layout) (schema : List Field) (text : List ℕ) (at : ℕ) → AreRowsTo layout schema text at at 0
+rows-none layout schema text at = record { front = []; rows = []; records = refl; read = ap (read_rows 1 1 schema) (laid-none layout); count = refl }
 
 -- rows up to a place, and those of the piece there
-rows-join : (schema : List Field) (text : List ℕ) (at low high some more : ℕ) → AreRowsTo schema text at low some → AreRowsTo schema text low high more → AreRowsTo schema text at high (some + more)
-rows-join schema text at low high some more a b = record {
+rows-join : (layout : Option Layout) (schema : List Field) (text : List ℕ) (at low high some more : ℕ) → AreRowsTo layout schema text at low some → AreRowsTo layout schema text low high more → AreRowsTo layout schema text at high (some + more)
+rows-join layout schema text at low high some more a b = record {
   front = a.front ++ b.front;
   rows = a.rows ++ b.rows;
   records = a.records ∙ ap (λ (t : Records). a.front ++ t) b.records ∙ sym (append_assoc a.front b.front (records_at text high));
-  read = reads-append 1 1 1 1 schema a.front b.front a.rows b.rows a.read b.read;
+  read = ap (read_rows 1 1 schema) (laid-append layout a.front b.front) ∙ reads-append 1 1 1 1 schema (laid layout a.front) (laid layout b.front) a.rows b.rows a.read b.read;
   count = omega (arith, length-append a.front b.front, a.count, b.count);
 }
 
 -- the rows behind them begin there
-rows-begin : (schema : List Field) (text : List ℕ) (at low some : ℕ) → AreRowsTo schema text at low some → low ≤ length text → IsStart text at some low
-rows-begin schema text at low some a h =
+rows-begin : (layout : Option Layout) (schema : List Field) (text : List ℕ) (at low some : ℕ) → AreRowsTo layout schema text at low some → low ≤ length text → IsStart text at some low
+rows-begin layout schema text at low some a h =
     let skip : drop some (a.front ++ records_at text low) ≡ records_at text low = rw (← a.count) (drop-append_seam a.front (records_at text low)) in
     record { behind = sym skip ∙ ap (drop some) (sym a.records); within = h }
 
@@ -209,19 +222,20 @@ piece-few text low high part =
     omega (arith, part.within, bytes, length-records default_config (length (between text low high) + 1) st.StartRecord (between text low high) tt)
 
 -- a piece was looked over as a text of its own
-pub piece-rows : (file most : ℕ) (schema : List Field) (text : List ℕ) (low high grain : ℕ) (piece : PieceRows) (rows : List (List AnyValue)) → IsPart text low high → has_no_quote (between text low high) ≡ true → length text ≤ most → piece.low ≡ low
-    → read_rows file 1 schema (take most (records_at (between text low high) 0)) ≡ Ok rows → length rows ≡ piece.count → AreStarts (between text low high) 0 grain piece.count piece.places.items → IsLookedOver schema text low high grain piece
-piece-rows file most schema text low high grain piece rows part plain small e read size starts =
+pub piece-rows : (file most : ℕ) (layout : Option Layout) (schema : List Field) (text : List ℕ) (low high grain : ℕ) (piece : PieceRows) (rows : List (List AnyValue)) → IsPart text low high → has_no_quote (between text low high) ≡ true → length text ≤ most → piece.low ≡ low
+    → read_rows file 1 schema (take most (laid layout (records_at (between text low high) 0))) ≡ Ok rows → length rows ≡ piece.count → AreStarts (between text low high) 0 grain piece.count piece.places.items → IsLookedOver layout schema text low high grain piece
+piece-rows file most layout schema text low high grain piece rows part plain small e read size starts =
     let own : Records = records default_config (between text low high) in
-    let all : take most own ≡ own = take_all most own (omega (arith, piece-few text low high part, small)) in
-    let mine : read_rows file 1 schema own ≡ Ok rows = ap (read_rows file 1 schema) (sym all) ∙ read in
-    let many : length rows ≡ length own = length-rows file 1 schema own rows mine in record {
+    let read_of : Records = laid layout own in
+    let all : take most read_of ≡ read_of = take_all most read_of (omega (arith, length-laid layout own, piece-few text low high part, small)) in
+    let mine : read_rows file 1 schema read_of ≡ Ok rows = ap (read_rows file 1 schema) (sym all) ∙ read in
+    let many : length rows ≡ length own = length-rows file 1 schema read_of rows mine ∙ length-laid layout own in record {
       begin = e;
       rows = record {
         front = own;
         rows = rows;
         records = part.records plain low (omega arith) part.order;
-        read = rows-anywhere file 1 1 1 schema own rows mine;
+        read = rows-anywhere file 1 1 1 schema read_of rows mine;
         count = sym many ∙ size;
       };
       places = piece-places text low high grain piece e part plain (sym size ∙ many) starts;
@@ -234,8 +248,8 @@ end-none : (text : List ℕ) → records_at text (length text) ≡ []
 end-none text = rw (drop_all (length text) text (omega arith)) (all-none default_config st.StartRecord [] (ends-none default_config st.StartRecord tt))
 
 -- the rows of all pieces are the records
-pieces-all : (schema : List Field) (text : List ℕ) (begin count : ℕ) (a : AreRowsTo schema text begin (length text) count) → records_at text begin ≡ a.front
-pieces-all schema text begin count a = a.records ∙ ap (λ (t : Records). a.front ++ t) (end-none text) ∙ append-nil a.front
+pieces-all : (layout : Option Layout) (schema : List Field) (text : List ℕ) (begin count : ℕ) (a : AreRowsTo layout schema text begin (length text) count) → records_at text begin ≡ a.front
+pieces-all layout schema text begin count a = a.records ∙ ap (λ (t : Records). a.front ++ t) (end-none text) ∙ append-nil a.front
 
 -- ---- starts of chunks
 
@@ -273,26 +287,27 @@ bound-within text begin end n bounds b h =
     omega (arith, part.order, part.within)
 
 -- there are no more rows than bytes
-pub rows-few : (schema : List Field) (text : List ℕ) (low high many : ℕ) → AreRowsTo schema text low high many → many ≤ length text
-rows-few schema text low high many a = omega (arith, records-few text low, ap length a.records, length-append a.front (records_at text high), a.count)
+pub rows-few : (layout : Option Layout) (schema : List Field) (text : List ℕ) (low high many : ℕ) → AreRowsTo layout schema text low high many → many ≤ length text
+rows-few layout schema text low high many a = omega (arith, records-few text low, ap length a.records, length-append a.front (records_at text high), a.count)
 
 -- a piece that was looked over is told of
-pub told-piece : (schema : List Field) (text : List ℕ) (low high grain : ℕ) (d : Result PieceRows CsvError) (piece : PieceRows) → IfOk d (λ p. IsLookedOver schema text low high grain p) → d ≡ Ok piece → IsLookedOver schema text low high grain piece
-told-piece schema text low high grain d piece h e = rw e at h
+pub told-piece : (layout : Option Layout) (schema : List Field) (text : List ℕ) (low high grain : ℕ) (d : Result PieceRows CsvError) (piece : PieceRows) → IfOk d (λ p. IsLookedOver layout schema text low high grain p) → d ≡ Ok piece → IsLookedOver layout schema text low high grain piece
+told-piece layout schema text low high grain d piece h e = rw e at h
 
 -- the rows of one more piece
-pub rows-more : (schema : List Field) (text : List ℕ) (begin low high grain count : ℕ) (piece : PieceRows) → AreRowsTo schema text begin low count → IsLookedOver schema text low high grain piece → AreRowsTo schema text begin high (count + piece.count)
-rows-more schema text begin low high grain count piece a p = rows-join schema text begin low high count piece.count a p.rows
+pub rows-more : (layout : Option Layout) (schema : List Field) (text : List ℕ) (begin low high grain count : ℕ) (piece : PieceRows) → AreRowsTo layout schema text begin low count → IsLookedOver layout schema text low high grain piece → AreRowsTo layout schema text begin high (count + piece.count)
+rows-more layout schema text begin low high grain count piece a p = rows-join layout schema text begin low high count piece.count a p.rows
 
 -- where it begins
-pub piece-begin : (schema : List Field) (text : List ℕ) (begin low high grain count : ℕ) (piece : PieceRows) → AreRowsTo schema text begin low count → IsLookedOver schema text low high grain piece → low ≤ length text → IsStart text begin count piece.low
-piece-begin schema text begin low high grain count piece a p h = subst (IsStart text begin count) (sym p.begin) (rows-begin schema text begin low count a h)
+pub piece-begin : (layout : Option Layout) (schema : List Field) (text : List ℕ) (begin low high grain count : ℕ) (piece : PieceRows) → AreRowsTo layout schema text begin low count → IsLookedOver layout schema text low high grain piece → low ≤ length text → IsStart text begin count piece.low
+piece-begin layout schema text begin low high grain count piece a p h = subst (IsStart text begin count) (sym p.begin) (rows-begin layout schema text begin low count a h)
 
 -- the rows of all pieces are those of the file
-pub pieces-whole : (file most : ℕ) (schema : List Field) (text : List ℕ) (begin count : ℕ) (whole : Result (List (List AnyValue)) Misfit) → whole ≡ read_rows file 1 schema (take most (records_at text begin)) → AreRowsTo schema text begin (length text) count → length text ≤ most → begin ≤ length text
-    → (rows : List (List AnyValue)) × (whole ≡ Ok rows) × AreRowsAt schema text begin count rows
-pieces-whole file most schema text begin count whole w a small within =
-    let all : take most (records_at text begin) ≡ a.front = take_all most (records_at text begin) (omega (arith, records-few text begin, small)) ∙ pieces-all schema text begin count a in
-    let read : read_rows file 1 schema (take most (records_at text begin)) ≡ Ok a.rows = ap (read_rows file 1 schema) all ∙ rows-anywhere 1 1 file 1 schema a.front a.rows a.read in
-    let size : length a.rows ≡ count = length-rows 1 1 schema a.front a.rows a.read ∙ a.count in
-    (a.rows, w ∙ read, rows-placed file most count schema text begin a.rows read size within)
+pub pieces-whole : (file most : ℕ) (layout : Option Layout) (schema : List Field) (text : List ℕ) (begin count : ℕ) (whole : Result (List (List AnyValue)) Misfit) → whole ≡ read_rows file 1 schema (take most (laid layout (records_at text begin))) → AreRowsTo layout schema text begin (length text) count → length text ≤ most → begin ≤ length text
+    → (rows : List (List AnyValue)) × (whole ≡ Ok rows) × AreLaidAt layout schema text begin count rows
+pieces-whole file most layout schema text begin count whole w a small within =
+    let recs : Records = laid layout (records_at text begin) in
+    let all : take most recs ≡ laid layout a.front = take_all most recs (omega (arith, length-laid layout (records_at text begin), records-few text begin, small)) ∙ ap (laid layout) (pieces-all layout schema text begin count a) in
+    let read : read_rows file 1 schema (take most recs) ≡ Ok a.rows = ap (read_rows file 1 schema) all ∙ rows-anywhere 1 1 file 1 schema (laid layout a.front) a.rows a.read in
+    let size : length a.rows ≡ count = length-rows 1 1 schema (laid layout a.front) a.rows a.read ∙ length-laid layout a.front ∙ a.count in
+    (a.rows, w ∙ read, laid-placed file most count layout schema text begin a.rows read size within)

@@ -69,7 +69,7 @@ short-fits [] n e = absurd (none-some n e)
 short-fits (c ∷ cs) n e = let ds : List ℕ = if c == 45 then cs else c ∷ cs in sign_by (c == 45) ds n (read_few_digits ds) refl e
 
 -- a field that is as known has a value
-known-value : (is_ascii number : Bool) (f : Field) (text : List ℕ) (low high : ℕ) → (is_ascii ≡ true → IsAscii text) → IsKnownField is_ascii number f → IsAsKnown number (between text low high)
+pub known-value : (is_ascii number : Bool) (f : Field) (text : List ℕ) (low high : ℕ) → (is_ascii ≡ true → IsAscii text) → IsKnownField is_ascii number f → IsAsKnown number (between text low high)
     → (v : AnyValue) × (read_field f.dtype (between text low high) ≡ Some v)
 known-value is_ascii true f text low high a k h = (av.Int h.0, rw k (short-value dt.Int64 (between text low high) h.0 h.1 (short-fits (between text low high) h.0 h.1)))
 known-value is_ascii false f text low high a k h = rw k.0 (value-of (read_field dt.String (between text low high)) true (sym (ascii-reads text low high (a k.1))) refl)

@@ -18,12 +18,16 @@ use Rattle.pipe_scan.proofs.RecordList.{length-records}
 use Rattle.pipe_source.specs.CsvChunks.{text_rows, wanted_of, wanted_rows}
 use Rattle.pipe_source.specs.LaidRows.{AreLaidAt}
 use Rattle.pipe_source.specs.Layout.{laid, picked}
-use Rattle.pipe_source.specs.Rows.{AreRowsAt}
 use Rattle.pipe_source.specs.declared.layout.Layout.{Layout}
 
 -- a text has no more records from a place on than bytes
 pub records-few : (text : List ℕ) (at : ℕ) → length (records_at text at) ≤ length text
 records-few text at = omega (arith, length-records default_config (length (drop at text) + 1) st.StartRecord (drop at text) tt, length-drop at text)
+
+-- what is read of some fields of records is as many
+pub length-laid : (layout : Option Layout) (recs : Records) → length (laid layout recs) ≡ length recs
+length-laid None recs = refl
+length-laid (Some l) recs = length-map recs (picked l)
 
 -- a text without a record has no header
 pub header-none : (file : ℕ) (wanted : Option ℕ) (fs : List Field) (recs : Records) → recs ≡ [] → wanted_rows file wanted fs recs ≡ Err (header file)
@@ -79,21 +83,9 @@ rows-anywhere file row f r fs (x ∷ xs) rows e =
     after-parts (read_row f r fs x) (read_rows f (r + 1) fs xs) parts.0 parts.1 rows (row-anywhere file row f r fs x parts.0 _ refl parts.2) (rows-anywhere file (row + 1) f (r + 1) fs xs parts.1 parts.3) parts.4
 
 -- rows that were looked over stand in the text
-pub rows-placed : (file most count : ℕ) (fs : List Field) (text : List ℕ) (at : ℕ) (rows : List (List AnyValue)) → read_rows file 1 fs (take most (records_at text at)) ≡ Ok rows → length rows ≡ count → at ≤ length text → AreRowsAt fs text at count rows
-rows-placed file most count fs text at rows e n h =
-    let recs : Records = records_at text at in
-    let size : length rows ≡ length (take most recs) = length-rows file 1 fs (take most recs) rows e in
-    let same : take count recs ≡ take most recs = ap (λ (k : ℕ). take k recs) (sym n ∙ size) ∙ take-front most recs in
-    record {
-      read = ap (read_rows 1 1 fs) same ∙ rows-anywhere file 1 1 1 fs (take most recs) rows e;
-      size = n;
-      within = h;
-    }
-
--- so do those of which some fields are read
-pub laid-placed : (file most count : ℕ) (l : Layout) (fs : List Field) (text : List ℕ) (at : ℕ) (rows : List (List AnyValue)) → read_rows file 1 fs (take most (laid (Some l) (records_at text at))) ≡ Ok rows → length rows ≡ count → at ≤ length text → AreLaidAt (Some l) fs text at count rows
-laid-placed file most count l fs text at rows e n h =
-    let recs : Records = laid (Some l) (records_at text at) in
+pub laid-placed : (file most count : ℕ) (layout : Option Layout) (fs : List Field) (text : List ℕ) (at : ℕ) (rows : List (List AnyValue)) → read_rows file 1 fs (take most (laid layout (records_at text at))) ≡ Ok rows → length rows ≡ count → at ≤ length text → AreLaidAt layout fs text at count rows
+laid-placed file most count layout fs text at rows e n h =
+    let recs : Records = laid layout (records_at text at) in
     let size : length rows ≡ length (take most recs) = length-rows file 1 fs (take most recs) rows e in
     let same : take count recs ≡ take most recs = ap (λ (k : ℕ). take k recs) (sym n ∙ size) ∙ take-front most recs in
     record {
@@ -103,12 +95,9 @@ laid-placed file most count l fs text at rows e n h =
     }
 
 -- there are no more of them than bytes
-pub laid-few : (file most count : ℕ) (l : Layout) (fs : List Field) (text : List ℕ) (at : ℕ) (rows : List (List AnyValue)) → read_rows file 1 fs (take most (laid (Some l) (records_at text at))) ≡ Ok rows → length rows ≡ count → count ≤ length text
-laid-few file most count l fs text at rows e n =
-    omega (arith, length-rows file 1 fs (take most (laid (Some l) (records_at text at))) rows e, n, length-take most (laid (Some l) (records_at text at)), length-map (records_at text at) (picked l), records-few text at)
-
-pub count-few : (file most count : ℕ) (fs : List Field) (text : List ℕ) (at : ℕ) (rows : List (List AnyValue)) → read_rows file 1 fs (take most (records_at text at)) ≡ Ok rows → length rows ≡ count → count ≤ length text
-count-few file most count fs text at rows e n = omega (arith, length-rows file 1 fs (take most (records_at text at)) rows e, n, length-take most (records_at text at), records-few text at)
+pub laid-few : (file most count : ℕ) (layout : Option Layout) (fs : List Field) (text : List ℕ) (at : ℕ) (rows : List (List AnyValue)) → read_rows file 1 fs (take most (laid layout (records_at text at))) ≡ Ok rows → length rows ≡ count → count ≤ length text
+laid-few file most count layout fs text at rows e n =
+    omega (arith, length-rows file 1 fs (take most (laid layout (records_at text at))) rows e, n, length-take most (laid layout (records_at text at)), length-laid layout (records_at text at), records-few text at)
 
 -- the first of some rows that read
 front-reads : (n file row : ℕ) (fs : List Field) (recs : Records) (rows : List (List AnyValue)) → read_rows file row fs recs ≡ Ok rows → read_rows file row fs (take n recs) ≡ Ok (take n rows)

@@ -25,6 +25,11 @@ abbrev pub LayoutFits : List Field → Bool → Option Layout → Type 0
 LayoutFits columns by_name None = by_name ≡ false
 LayoutFits columns by_name (Some l) = (by_name ≡ true) × FitsLayout columns l
 
+-- where there is a layout, the columns fit it
+abbrev pub FitsAny : List Field → Option Layout → Type 0
+FitsAny columns None = ⊤
+FitsAny columns (Some l) = FitsLayout columns l
+
 -- where there is a layout, the columns fit it, and all are wanted
 abbrev pub IsWholeLayout : List Field → List Bool → Option Layout → Type 0
 IsWholeLayout columns wanted None = ⊤

@@ -11,10 +11,11 @@ use Rattle.pipe_csv.specs.declared.csv_error.CsvError.TheVariants as csv_error
 use Rattle.pipe_io.specs.Files.{Files, IsWhole, file_of}
 use Rattle.pipe_io.specs.declared.whole_file.TheConstants.{MOST_FILE_BYTES}
 use Rattle.pipe_scan.specs.Records.{records_at}
-use Rattle.pipe_source.specs.ByName.{file_rows_by}
+use Rattle.pipe_source.specs.ByName.{file_rows_by, text_rows_by}
 use Rattle.pipe_source.specs.CsvChunks.{Stop, misfit, text_rows, too_large}
 use Rattle.pipe_source.specs.LaidRows.{AreLaidAt}
-use Rattle.pipe_source.specs.Layout.{LayoutFits}
+use Rattle.pipe_source.specs.Layout.{LayoutFits, laid}
+use Rattle.pipe_source.specs.declared.layout.Layout.{Layout}
 use Rattle.pipe_source.specs.declared.read_options.CsvReadOptions.{CsvReadOptions}
 use Rattle.pipe_source.specs.declared.source_place.SourcePlace.{SourcePlace}
 use Rattle.pipe_source.specs.declared.file_text.FileText.{FileText}
@@ -47,6 +48,14 @@ abbrev pub HasRowsFrom : ℕ → List Field → List ℕ → ℕ → Type 0
 HasRowsFrom file schema text begin = (wanted : Option ℕ)
     → text_rows file wanted schema text
     ≡ read_rows file 1 schema (take (unwrap_or wanted (2 ^ 64 - 1)) (records_at text begin))
+
+-- the same by name or in order
+abbrev pub HasRowsBy :
+    Bool → ℕ → List Field → List ℕ → Option Layout → ℕ → Type 0
+HasRowsBy by_name file schema text layout begin = (wanted : Option ℕ)
+    → text_rows_by by_name file wanted schema text
+    ≡ read_rows file 1 schema
+    (take (unwrap_or wanted (2 ^ 64 - 1)) (laid layout (records_at text begin)))
 
 -- a text that was read whole and looked over has the wanted rows of its file
 pub record IsLoaded

@@ -12,7 +12,6 @@ ghost use Rattle.pipe_source.specs.Rows.{IsLoaded, StopsTold};
 
 use crate::file_text::FileText;
 use crate::looks::Looks;
-use crate::named_look::look_by;
 use crate::read_options::CsvReadOptions;
 use crate::source_place::SourcePlace;
 use pipe_columns::{Field, Text};
@@ -104,7 +103,7 @@ fn load_file<I: InputFiles, L: Looks>(
     let wanted = wanted_after(options.n_rows, at.rows);
     let size = options.chunk_size;
     let file = at.file;
-    let looked = look_by(looks, by_name, alloc, &text, fields, file, wanted, size);
+    let looked = looks.look(alloc, &text, fields, file, by_name, wanted, size);
     let (layout, begin, count, starts) = match looked {
         Ok(found) => found,
         Err(error) => return Err(error),

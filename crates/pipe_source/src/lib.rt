@@ -1,6 +1,7 @@
 //! A source of the chunks of several files of CSV.
 #![tactic(auto)]
 
+mod begins;
 mod chunk_reader;
 mod column_fill;
 mod csv_source;
@@ -9,6 +10,7 @@ mod file_load;
 mod file_text;
 mod kept_text;
 mod known_fields;
+mod laid_check;
 mod laid_push;
 mod laws;
 mod layout;
@@ -17,8 +19,8 @@ mod looks;
 mod named_begin;
 mod named_check;
 mod named_laws;
-mod named_look;
 mod named_push;
+mod ordered_begin;
 mod piece_check;
 mod piece_rows;
 mod piece_starts;

@@ -1,71 +1,52 @@
-//! The text of a file that is looked over before any row of it is given.
+//! The text of a file that is looked over before any row of it is given, with its columns by their names
+//! or in order.
 
-ghost use Rattle.std.specs.Prelude.{◌≡◌, ◌≤◌, ◌<◌, ℕ, IfErr, IfOk, List, Ok, Option, length};
+ghost use Rattle.std.specs.Prelude.{◌≡◌, ◌≤◌, ◌<◌, IfErr, IfOk, List, Ok, length};
 ghost use Rattle.pipe_columns.specs.declared.any_value.AnyValue.{AnyValue};
 ghost use Rattle.pipe_csv.specs.CsvError.{StopsBy};
 ghost use Rattle.pipe_io.specs.declared.whole_file.TheConstants.{MOST_FILE_BYTES};
-ghost use Rattle.pipe_source.specs.CsvChunks.{text_rows};
-ghost use Rattle.pipe_source.specs.Rows.{AreRowsAt, AreStarts, HasRowsFrom};
+ghost use Rattle.pipe_source.specs.ByName.{text_rows_by};
+ghost use Rattle.pipe_source.specs.LaidRows.{AreLaidAt};
+ghost use Rattle.pipe_source.specs.Layout.{LayoutFits};
+ghost use Rattle.pipe_source.specs.Rows.{AreStarts};
 
-use crate::row_check::check_rows;
-use csv::ByteRecord;
+use crate::begins::find_begin_by;
+use crate::laid_check::check_laid_rows;
+use crate::layout::Layout;
 use pipe_columns::Field;
-use pipe_csv::{CsvError, is_header};
-use pipe_scan::{read_record, text_start};
+use pipe_csv::CsvError;
 use std::alloc::Global;
 
-/// Where the rows of the text of a file begin, behind its header.
-pub(crate) fn find_begin(
-    alloc: Global,
-    text: &[u8],
-    fields: &[Field],
-    file: usize,
-) -> Result<usize, CsvError>
-    requires small { length text.now ≤ MOST_FILE_BYTES }
-    ensures rows { IfOk result
-        (λ begin. HasRowsFrom file fields.now text.now begin) }
-    ensures within { IfOk result (λ begin. begin ≤ length text.now) }
-    ensures stop { IfErr result
-        (λ e. (wanted : Option ℕ) → StopsBy e (text_rows file wanted fields.now text.now)) }
-{
-    let start = text_start(text);
-    let mut entry = ByteRecord::new(alloc);
-    let mut bytes = Vec::new(alloc);
-    let Some(begin) = read_record(text, start, &mut entry, &mut bytes)? else {
-        return Err(CsvError::Header { file });
-    };
-    if !is_header(fields, &entry) {
-        return Err(CsvError::Header { file });
-    }
-    Ok(begin)
-}
-
-/// Where the wanted rows of the text of a file begin, how many there are, and where each chunk of a
-/// size begins, or the first misfit. No value is made.
+/// Where columns stand in the text of a file, if they are found by their names, where its wanted rows
+/// begin, how many there are, and where each chunk of a size begins, or the first misfit. No value is
+/// made.
 pub(crate) fn look_over(
     alloc: Global,
     text: &[u8],
-    fields: &[Field],
+    columns: &[Field],
     file: usize,
+    by_name: bool,
     wanted: Option<usize>,
     size: usize,
-) -> Result<(usize, usize, Vec<usize>), CsvError>
+) -> Result<(Option<Layout>, usize, usize, Vec<usize>), CsvError>
     requires small { length text.now ≤ MOST_FILE_BYTES }
     requires size { 0 < size }
     ensures rows { IfOk result (λ r. (rows : List (List AnyValue))
-        × (text_rows file wanted fields.now text.now ≡ Ok rows)
-        × AreRowsAt fields.now text.now r.0 r.1 rows) }
-    ensures starts { IfOk result (λ r. AreStarts text.now r.0 size r.1 r.2.items) }
-    ensures few { IfOk result (λ r. r.1 ≤ MOST_FILE_BYTES) }
-    ensures stop { IfErr result (λ e. StopsBy e (text_rows file wanted fields.now text.now)) }
+        × (text_rows_by by_name file wanted columns.now text.now ≡ Ok rows)
+        × AreLaidAt r.0 columns.now text.now r.1 r.2 rows) }
+    ensures fit { IfOk result (λ r. LayoutFits columns.now by_name r.0) }
+    ensures starts { IfOk result (λ r. AreStarts text.now r.1 size r.2 r.3.items) }
+    ensures few { IfOk result (λ r. r.2 ≤ MOST_FILE_BYTES) }
+    ensures stop { IfErr result
+        (λ e. StopsBy e (text_rows_by by_name file wanted columns.now text.now)) }
 {
-    let begin = match find_begin(alloc, text, fields, file) {
-        Ok(begin) => begin,
+    let (layout, begin) = match find_begin_by(alloc, text, columns, file, by_name) {
+        Ok(found) => found,
         Err(error) => return Err(error),
     };
     let most = wanted.unwrap_or(usize::MAX);
-    match check_rows(alloc, text, begin, fields, file, most, size) {
-        Ok((count, starts)) => Ok((begin, count, starts)),
+    match check_laid_rows(alloc, text, begin, columns, &layout, file, most, size) {
+        Ok((count, starts)) => Ok((layout, begin, count, starts)),
         Err(error) => Err(error),
     }
 }

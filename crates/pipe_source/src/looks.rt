@@ -8,9 +8,12 @@ ghost use Rattle.pipe_csv.specs.CsvError.{StopsBy};
 ghost use Rattle.pipe_io.specs.Files.{IsRead};
 ghost use Rattle.pipe_io.specs.declared.input.InputError.TheVariants as input_error;
 ghost use Rattle.pipe_io.specs.declared.whole_file.TheConstants.{MOST_FILE_BYTES};
-ghost use Rattle.pipe_source.specs.CsvChunks.{text_rows};
-ghost use Rattle.pipe_source.specs.Rows.{AreRowsAt, AreStarts};
+ghost use Rattle.pipe_source.specs.ByName.{text_rows_by};
+ghost use Rattle.pipe_source.specs.LaidRows.{AreLaidAt};
+ghost use Rattle.pipe_source.specs.Layout.{LayoutFits};
+ghost use Rattle.pipe_source.specs.Rows.{AreStarts};
 
+use crate::layout::Layout;
 use crate::look_over::look_over;
 use crate::piece_rows::{PieceSizes, look_over_pieces};
 use crate::room::read_front_beside;
@@ -52,27 +55,29 @@ pub(crate) trait Looks {
         ensures cause { HasCause (I.faults input.old) (I.faults input.new)
             (IsErrOf result input_error.Failed) };
 
-    /// Where the wanted rows of the text of a file begin, how many there are, and where each chunk
-    /// of a size begins, or the first misfit.
+    /// Where columns stand in the text of a file, if they are found by their names, where its wanted
+    /// rows begin, how many there are, and where each chunk of a size begins, or the first misfit.
     fn look(
         &self,
         alloc: Global,
         text: &[u8],
         fields: &[Field],
         file: usize,
+        by_name: bool,
         wanted: Option<usize>,
         size: usize,
-    ) -> Result<(usize, usize, Vec<usize>), CsvError>
+    ) -> Result<(Option<Layout>, usize, usize, Vec<usize>), CsvError>
         requires ready { ready }
         requires small { length text.now ≤ MOST_FILE_BYTES }
         requires size { 0 < size }
         ensures rows { IfOk result (λ r. (rows : List (List AnyValue))
-            × (text_rows file wanted fields.now text.now ≡ Ok rows)
-            × AreRowsAt fields.now text.now r.0 r.1 rows) }
-        ensures starts { IfOk result (λ r. AreStarts text.now r.0 size r.1 r.2.items) }
-        ensures few { IfOk result (λ r. r.1 ≤ MOST_FILE_BYTES) }
+            × (text_rows_by by_name file wanted fields.now text.now ≡ Ok rows)
+            × AreLaidAt r.0 fields.now text.now r.1 r.2 rows) }
+        ensures fit { IfOk result (λ r. LayoutFits fields.now by_name r.0) }
+        ensures starts { IfOk result (λ r. AreStarts text.now r.1 size r.2 r.3.items) }
+        ensures few { IfOk result (λ r. r.2 ≤ MOST_FILE_BYTES) }
         ensures stop { IfErr result
-            (λ e. StopsBy e (text_rows file wanted fields.now text.now)) };
+            (λ e. StopsBy e (text_rows_by by_name file wanted fields.now text.now)) };
 }
 
 /// The caller's thread reads and looks over a text alone.
@@ -98,16 +103,17 @@ impl Looks for Alone {
         text: &[u8],
         fields: &[Field],
         file: usize,
+        by_name: bool,
         wanted: Option<usize>,
         size: usize,
-    ) -> Result<(usize, usize, Vec<usize>), CsvError> {
-        look_over(alloc, text, fields, file, wanted, size)
+    ) -> Result<(Option<Layout>, usize, usize, Vec<usize>), CsvError> {
+        look_over(alloc, text, fields, file, by_name, wanted, size)
     }
 }
 
 /// So many threads read a file that has no fewer bytes than that, in parts, and look over pieces of its
-/// text, where its front has no quote and all its rows are wanted. Where a row doesn't fit or a piece has a quote, the caller's thread
-/// looks over the text again, alone.
+/// text, where its front has no quote and all its rows are wanted. Where a row doesn't fit or a piece
+/// has a quote, the caller's thread looks over the text again, alone.
 #[derive(Drop)]
 pub(crate) struct SideBySide<'a, H: Threads + Sync> {
     pub(crate) rt: &'a H,
@@ -137,18 +143,19 @@ impl<H: Threads + Sync> Looks for SideBySide<'_, H> {
         text: &[u8],
         fields: &[Field],
         file: usize,
+        by_name: bool,
         wanted: Option<usize>,
         size: usize,
-    ) -> Result<(usize, usize, Vec<usize>), CsvError> {
+    ) -> Result<(Option<Layout>, usize, usize, Vec<usize>), CsvError> {
         let is_large = self.threads > 1 && text.len() >= self.fewest;
         let front = &text[..text.len().min(FEWEST_BYTES)];
         if is_large && wanted.is_none() && !has_quote(front) {
             let sizes = PieceSizes::new(text.len(), self.threads, size);
-            let found = look_over_pieces(self.rt, alloc, text, fields, file, size, sizes);
+            let found = look_over_pieces(self.rt, alloc, text, fields, file, by_name, size, sizes);
             if let Ok(found) = found {
                 return Ok(found);
             }
         }
-        look_over(alloc, text, fields, file, wanted, size)
+        look_over(alloc, text, fields, file, by_name, wanted, size)
     }
 }

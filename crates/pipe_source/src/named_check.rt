@@ -15,6 +15,7 @@ ghost use Rattle.pipe_source.specs.NamedRows.{fields_at};
 ghost use Rattle.pipe_source.specs.Rows.{AreStarts, StopsFirst};
 
 use crate::field_at::does_read_at;
+use crate::known_fields::known_columns;
 use crate::layout::Layout;
 use crate::row_check::is_known_ascii;
 use crate::row_push::field_bounds;
@@ -22,7 +23,7 @@ use crate::starts::Starts;
 use csv::ByteRecord;
 use pipe_columns::Field;
 use pipe_csv::{CsvError, does_read};
-use pipe_scan::{Row, Stops, next_row};
+use pipe_scan::{Row, Stops, next_row, skip_plain_rows};
 use std::alloc::Global;
 
 /// Looks over the columns of a row whose fields lie in the text.
@@ -182,6 +183,7 @@ pub(crate) fn check_named_rows(
         (take most (laid (Some layout.now) (records_at text.now at))))) }
 {
     let is_ascii = is_known_ascii(text, columns, most);
+    let numbers = known_columns(alloc, columns, layout, is_ascii)?;
     let mut ends = vec![in alloc; 0; layout.count]?;
     let mut entry = ByteRecord::new(alloc);
     let mut bytes = Vec::new(alloc);
@@ -208,6 +210,9 @@ pub(crate) fn check_named_rows(
             Err(error) => return Err(error),
         }
         row += 1;
+        let over = skip_plain_rows(text, &mut stops, &numbers, starts.until.min(most - row));
+        starts.pass(over);
+        row += over;
     }
     Ok((most, starts.places))
 }

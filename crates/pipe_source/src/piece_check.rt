@@ -5,9 +5,11 @@ ghost use Rattle.std.specs.Prelude.{◌≡◌, ◌≤◌, ◌<◌, ◌+◌, ℕ,
 ghost use Rattle.pipe_csv.specs.declared.csv_error.CsvError.{CsvError};
 ghost use Rattle.pipe_io.specs.declared.whole_file.TheConstants.{MOST_FILE_BYTES};
 ghost use Rattle.pipe_source.specs.declared.piece_check.PieceRows.{PieceRows};
+ghost use Rattle.pipe_source.specs.Layout.{FitsAny};
 ghost use Rattle.pipe_source.specs.PieceRows.{AreBounds, AreParts, IsPart, IsPieceAt};
 
-use crate::row_check::check_rows;
+use crate::laid_check::check_laid_rows;
+use crate::layout::Layout;
 use pipe_columns::Field;
 use pipe_csv::CsvError;
 use pipe_scan::{has_quote, piece_end};
@@ -54,6 +56,7 @@ fn check_piece(
     bounds: &[usize],
     n: usize,
     fields: &[Field],
+    layout: &Option<Layout>,
     file: usize,
     grain: usize,
 ) -> Result<PieceRows, CsvError>
@@ -61,15 +64,16 @@ fn check_piece(
     requires number { n + 1 < length bounds.now }
     requires part { IsPart text.now (get_or bounds.now n 0) (get_or bounds.now (n + 1) 0) }
     requires grain { 0 < grain }
+    requires fit { FitsAny fields.now layout.now }
     ensures { IfOk result
-        (λ piece. IsPieceAt fields.now text.now bounds.now grain n piece) }
+        (λ piece. IsPieceAt layout.now fields.now text.now bounds.now grain n piece) }
 {
     let low = bounds[n];
     let piece = &text[low..bounds[n + 1]];
     if has_quote(piece) {
         return Err(CsvError::Memory);
     }
-    match check_rows(alloc, piece, 0, fields, file, usize::MAX, grain) {
+    match check_laid_rows(alloc, piece, 0, fields, layout, file, usize::MAX, grain) {
         Ok((count, places)) => Ok(PieceRows { low, count, places }),
         Err(error) => Err(error),
     }
@@ -93,6 +97,7 @@ fn check_into(
     bounds: &[usize],
     n: usize,
     fields: &[Field],
+    layout: &Option<Layout>,
     file: usize,
     grain: usize,
     place: &mut Result<PieceRows, CsvError>,
@@ -101,10 +106,11 @@ fn check_into(
     requires number { n + 1 < length bounds.now }
     requires part { IsPart text.now (get_or bounds.now n 0) (get_or bounds.now (n + 1) 0) }
     requires grain { 0 < grain }
+    requires fit { FitsAny fields.now layout.now }
     ensures { IfOk place.new
-        (λ piece. IsPieceAt fields.now text.now bounds.now grain n piece) }
+        (λ piece. IsPieceAt layout.now fields.now text.now bounds.now grain n piece) }
 {
-    *place = check_piece(alloc, text, bounds, n, fields, file, grain);
+    *place = check_piece(alloc, text, bounds, n, fields, layout, file, grain);
 }
 
 /// Looks over the pieces of a text into their places, each in a thread of its own.
@@ -114,6 +120,7 @@ fn check_places<H: Threads + Sync>(
     text: &[u8],
     bounds: &[usize],
     fields: &[Field],
+    layout: &Option<Layout>,
     file: usize,
     grain: usize,
     places: &mut [Result<PieceRows, CsvError>],
@@ -122,17 +129,18 @@ fn check_places<H: Threads + Sync>(
     requires many { length places.old + 1 ≡ length bounds.now }
     requires parts { AreParts text.now bounds.now }
     requires grain { 0 < grain }
+    requires fit { FitsAny fields.now layout.now }
     ensures many { length places.new ≡ length places.old }
     ensures each { (n : ℕ) (d : Result PieceRows CsvError)
         → n < length places.old → IfOk (get_or places.new n d)
-        (λ piece. IsPieceAt fields.now text.now bounds.now grain n piece) }
+        (λ piece. IsPieceAt layout.now fields.now text.now bounds.now grain n piece) }
 {
     let threads = places.len();
     for_each_beside(
         rt,
         places,
         threads,
-        &|n, place| { check_into(alloc, text, bounds, n, fields, file, grain, place) },
+        &|n, place| { check_into(alloc, text, bounds, n, fields, layout, file, grain, place) },
     );
 }
 
@@ -143,6 +151,7 @@ pub(crate) fn check_each<H: Threads + Sync>(
     text: &[u8],
     bounds: &[usize],
     fields: &[Field],
+    layout: &Option<Layout>,
     file: usize,
     grain: usize,
 ) -> Result<Vec<Result<PieceRows, CsvError>>, AllocError>
@@ -150,10 +159,11 @@ pub(crate) fn check_each<H: Threads + Sync>(
     requires some { 0 < length bounds.now }
     requires parts { AreParts text.now bounds.now }
     requires grain { 0 < grain }
+    requires fit { FitsAny fields.now layout.now }
     ensures many { IfOk result (λ pieces. length pieces.items + 1 ≡ length bounds.now) }
     ensures each { IfOk result (λ pieces. (n : ℕ) (d : Result PieceRows CsvError)
         → n < length pieces.items → IfOk (get_or pieces.items n d)
-        (λ piece. IsPieceAt fields.now text.now bounds.now grain n piece)) }
+        (λ piece. IsPieceAt layout.now fields.now text.now bounds.now grain n piece)) }
 {
     let mut places = piece_places(alloc, bounds.len() - 1)?;
     check_places(
@@ -162,6 +172,7 @@ pub(crate) fn check_each<H: Threads + Sync>(
         text,
         bounds,
         fields,
+        layout,
         file,
         grain,
         places.as_mut_slice(),

@@ -3,11 +3,15 @@
 ghost use Rattle.std.specs.Prelude.{◌≡◌, ◌≤◌, ◌<◌, IfOk, List, None, Ok, length};
 ghost use Rattle.pipe_columns.specs.declared.any_value.AnyValue.{AnyValue};
 ghost use Rattle.pipe_io.specs.declared.whole_file.TheConstants.{MOST_FILE_BYTES};
-ghost use Rattle.pipe_source.specs.CsvChunks.{text_rows};
+ghost use Rattle.pipe_source.specs.ByName.{text_rows_by};
+ghost use Rattle.pipe_source.specs.LaidRows.{AreLaidAt};
+ghost use Rattle.pipe_source.specs.Layout.{FitsAny, LayoutFits};
 ghost use Rattle.pipe_source.specs.PieceRows.{AreRowsTo};
-ghost use Rattle.pipe_source.specs.Rows.{AreRowsAt, AreStarts};
+ghost use Rattle.pipe_source.specs.Rows.{AreStarts};
 
-use crate::look_over::find_begin;
+use crate::begins::find_begin_by;
+use crate::laid_check::row_width;
+use crate::layout::Layout;
 use crate::piece_check::{check_each, piece_bounds};
 use crate::piece_starts::note_piece;
 use crate::starts::Starts;
@@ -53,6 +57,7 @@ fn check_pieces<H: Threads + Sync>(
     text: &[u8],
     begin: usize,
     fields: &[Field],
+    layout: &Option<Layout>,
     file: usize,
     size: usize,
     sizes: PieceSizes,
@@ -62,14 +67,15 @@ fn check_pieces<H: Threads + Sync>(
     requires size { 0 < size }
     requires bytes { 0 < sizes.bytes }
     requires grain { 0 < sizes.grain }
+    requires fit { FitsAny fields.now layout.now }
     ensures rows { IfOk result
-        (λ r. AreRowsTo fields.now text.now begin (length text.now) r.0) }
+        (λ r. AreRowsTo layout.now fields.now text.now begin (length text.now) r.0) }
     ensures starts { IfOk result (λ r. AreStarts text.now begin size r.0 r.1.items) }
 {
     let grain = sizes.grain;
     let bounds = piece_bounds(alloc, text, begin, sizes.bytes)?;
-    let pieces = check_each(rt, alloc, text, &bounds, fields, file, grain)?;
-    let mut ends = vec![in alloc; 0; fields.len()]?;
+    let pieces = check_each(rt, alloc, text, &bounds, fields, layout, file, grain)?;
+    let mut ends = vec![in alloc; 0; row_width(fields, layout)]?;
     let mut entry = ByteRecord::new(alloc);
     let mut field = Vec::new(alloc);
     let mut starts = Starts::new(alloc, size);
@@ -99,23 +105,25 @@ pub(crate) fn look_over_pieces<H: Threads + Sync>(
     text: &[u8],
     fields: &[Field],
     file: usize,
+    by_name: bool,
     size: usize,
     sizes: PieceSizes,
-) -> Result<(usize, usize, Vec<usize>), CsvError>
+) -> Result<(Option<Layout>, usize, usize, Vec<usize>), CsvError>
     requires small { length text.now ≤ MOST_FILE_BYTES }
     requires size { 0 < size }
     requires bytes { 0 < sizes.bytes }
     requires grain { 0 < sizes.grain }
     ensures rows { IfOk result (λ r. (rows : List (List AnyValue))
-        × (text_rows file None fields.now text.now ≡ Ok rows)
-        × AreRowsAt fields.now text.now r.0 r.1 rows) }
-    ensures starts { IfOk result (λ r. AreStarts text.now r.0 size r.1 r.2.items) }
-    ensures few { IfOk result (λ r. r.1 ≤ MOST_FILE_BYTES) }
+        × (text_rows_by by_name file None fields.now text.now ≡ Ok rows)
+        × AreLaidAt r.0 fields.now text.now r.1 r.2 rows) }
+    ensures fit { IfOk result (λ r. LayoutFits fields.now by_name r.0) }
+    ensures starts { IfOk result (λ r. AreStarts text.now r.1 size r.2 r.3.items) }
+    ensures few { IfOk result (λ r. r.2 ≤ MOST_FILE_BYTES) }
 {
-    let begin = match find_begin(alloc, text, fields, file) {
-        Ok(begin) => begin,
+    let (layout, begin) = match find_begin_by(alloc, text, fields, file, by_name) {
+        Ok(found) => found,
         Err(error) => return Err(error),
     };
-    let (count, starts) = check_pieces(rt, alloc, text, begin, fields, file, size, sizes)?;
-    Ok((begin, count, starts))
+    let (count, starts) = check_pieces(rt, alloc, text, begin, fields, &layout, file, size, sizes)?;
+    Ok((layout, begin, count, starts))
 }

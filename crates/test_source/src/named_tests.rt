@@ -1,8 +1,11 @@
 //! Columns that are found by their names in each file's own header, by calls, by rounds and by sources.
 
-use crate::made::{Asked, Named, PLAIN};
+use crate::long_file::rows_of_input;
+use crate::made::{Asked, Named, PLAIN, input_of_text};
 use crate::shown::{Way, check};
 use pipe_columns::DataType;
+use std::alloc::{AllocError, Global};
+use std::fmt::Write;
 use std::test::Fail;
 
 /// The texts of files, and what they give in chunks of two rows of a number and a text.
@@ -121,4 +124,39 @@ fn rows_are_counted_where_no_column_is_named(rt: HostRuntime) -> Result<(), Fail
         ..BY_NAME
     };
     check(&rt, rt.alloc(), &asked, Way::Calls, "[0 p a a][1 p a]")
+}
+
+/// How many rows the large text has.
+const ROWS: u32 = 100000;
+
+/// A text of more than a megabyte, of whose fields two are columns, in another order.
+fn large_text(alloc: Global) -> Result<String, AllocError> {
+    let mut text = String::from_str(alloc, "x,v,y,k\n")?;
+    for row in 0..ROWS {
+        write!(
+            text,
+            "a b,{},\u{e9},{}\n",
+            100000u32.wrapping_add(row),
+            row % 97
+        )?;
+    }
+    Ok(text)
+}
+
+/// The columns of the large text, in chunks of many rows.
+const LARGE: Asked = Asked {
+    chunk_size: 7000,
+    by_name: true,
+    ..PLAIN
+};
+
+#[test]
+fn columns_of_a_large_text_are_found_by_threads(rt: HostRuntime) -> Result<(), Fail> {
+    let text = large_text(rt.alloc())?;
+    for threads in 1..6 {
+        let mut input = input_of_text(rt.alloc(), text.as_str(), None)?;
+        let count = rows_of_input(&rt, rt.alloc(), &LARGE, &mut input, threads)?;
+        assert!(rt; count == ROWS as usize, "{threads} {count}");
+    }
+    Ok(())
 }

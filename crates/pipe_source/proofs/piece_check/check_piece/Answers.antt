@@ -10,4 +10,4 @@ returns-in-Ok c =
     let bounds = c.args.bounds.now in
     let low : ℕ = get_or bounds c.args.n 0 in
     let high : ℕ = get_or bounds (c.args.n + 1) 0 in
-    piece-rows c.args.file (2 ^ 64 - 1) c.args.fields.now c.args.text.now low high c.args.grain (record { low = low; count = c.in-Ok.count; places = c.in-Ok.places }) rows.0 c.requires.part (plain-from (has_no_quote (between c.args.text.now low high)) (sym c.has_quote.ensures ∙ c.if-has_quote.false)) (omega (arith, c.requires.small)) refl rows.1 rows.2 c.in-Ok.ensures.starts
+    piece-rows c.args.file (2 ^ 64 - 1) c.args.layout.now c.args.fields.now c.args.text.now low high c.args.grain (record { low = low; count = c.in-Ok.count; places = c.in-Ok.places }) rows.0 c.requires.part (plain-from (has_no_quote (between c.args.text.now low high)) (sym c.has_quote.ensures ∙ c.if-has_quote.false)) (omega (arith, c.requires.small)) refl rows.1 rows.2 c.in-Ok.ensures.starts

@@ -1,6 +1,6 @@
 use Rattle.std.proofs.Common.{◌≡◌, true, rules}
 use Rattle.pipe_source.proofs.TextRows.{header-read}
-use Rattle.pipe_source.proofs.look_over.find_begin.Goals as goal
+use Rattle.pipe_source.proofs.ordered_begin.find_begin.Goals as goal
 
 pub returns-clause-rows : goal.returns-clause-rows
 returns-clause-rows c = λ wanted.

@@ -1,0 +1,10 @@
+pub mod MeanFacts
+pub mod DecimalFacts
+pub mod OrderFacts
+pub mod KeyFacts
+pub mod RankFacts
+pub mod ShownFacts
+pub mod TextFacts
+pub mod OrderLaws
+pub mod MeanLaws
+pub mod ShownLaws

@@ -1,0 +1,10 @@
+pub mod Mean
+pub mod Decimal
+pub mod Columns
+pub mod StableOrder
+pub mod Shown
+pub mod Texts
+pub mod Cells
+pub mod Ranks
+pub mod Laws
+pub mod Worked
