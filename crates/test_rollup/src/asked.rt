@@ -38,7 +38,7 @@ pub(crate) struct Asked<'a> {
 }
 
 /// A command with no call that fails.
-pub(crate) fn asked<'a>(mode: &'a str, third: &'a str, files: &'a [&'a str]) -> Asked<'a> {
+pub(crate) fn asks<'a>(mode: &'a str, third: &'a str, files: &'a [&'a str]) -> Asked<'a> {
     Asked {
         mode,
         third,
@@ -94,7 +94,7 @@ fn words_of(alloc: Global, asked: Asked<'_>) -> Result<Vec<Text>, AllocError> {
 }
 
 /// How a command ends.
-pub(crate) fn ended<H: Threads + Sync>(
+pub(crate) fn run_asked<H: Threads + Sync>(
     rt: &H,
     alloc: Global,
     asked: Asked<'_>,
@@ -131,6 +131,6 @@ pub(crate) fn ends<H: Threads + Sync>(
     written: &[u8],
     told: &[u8],
 ) -> Result<bool, AllocError> {
-    let end = ended(rt, alloc, asked)?;
+    let end = run_asked(rt, alloc, asked)?;
     Ok(end.status == status && end.written.as_slice() == written && end.told.as_slice() == told)
 }

@@ -1,6 +1,6 @@
 //! Commands that end as they should.
 
-use crate::asked::{Asked, STATE, asked, ends};
+use crate::asked::{Asked, STATE, asks, ends};
 use std::alloc::Global;
 use std::test::Fail;
 use std::thread::Threads;
@@ -27,7 +27,7 @@ fn a_file_is_saved(rt: HostRuntime) -> Result<(), Fail> {
     check(
         &rt,
         rt.alloc(),
-        asked("save", "0", &["a.csv"]),
+        asks("save", "0", &["a.csv"]),
         0,
         STATE,
         b"",
@@ -40,7 +40,7 @@ fn two_states_are_regrouped(rt: HostRuntime) -> Result<(), Fail> {
     check(
         &rt,
         rt.alloc(),
-        asked("roll", "[\"k\"]", &["b", "a"]),
+        asks("roll", "[\"k\"]", &["b", "a"]),
         0,
         b"k,s\n1,12\n",
         b"",
@@ -50,8 +50,8 @@ fn two_states_are_regrouped(rt: HostRuntime) -> Result<(), Fail> {
 /// Bytes that are no state, and one state twice.
 #[test]
 fn states_that_are_refused(rt: HostRuntime) -> Result<(), Fail> {
-    let cut = asked("roll", "[\"k\"]", &["a", "cut"]);
+    let cut = asks("roll", "[\"k\"]", &["a", "cut"]);
     check(&rt, rt.alloc(), cut, 12, b"", b"file 2: no state\n")?;
-    let twice = asked("roll", "[\"k\"]", &["a", "a"]);
+    let twice = asks("roll", "[\"k\"]", &["a", "a"]);
     check(&rt, rt.alloc(), twice, 13, b"", b"file 2: overlap\n")
 }
