@@ -1,12 +1,12 @@
 -- Why states that are at hand are not regrouped.
-use Rattle.std.proofs.Common.{◌≡◌, ◌∙◌, ℕ, zero, suc, ◌+◌, ◌<◌, ◌↔◌, Bool, true, false, Result, Ok, Err, Some, None, List, [], ◌∷◌, ◌++◌, length, take, get_or, IsErrOf, is_none, is_some, refl, sym, ap, subst, arith}
+use Rattle.std.proofs.Common.{◌≡◌, ◌∙◌, ℕ, zero, suc, ◌+◌, ◌<◌, ◌↔◌, true, false, Result, Err, Some, List, [], ◌∷◌, length, take, get_or, refl, sym, ap, subst, arith}
 use Rattle.std.specs.List.{IsDistinct, list_any, slice_get}
 use Rattle.std.proofs.lemmas.List.{take_more}
 use Rattle.pipe_states.specs.States.{StateSeen}
-use Rattle.pipe_states.specs.Together.{do_overlap, IsFirstOverlap, NoneOverlap, total_rows}
+use Rattle.pipe_states.specs.Together.{do_overlap, IsFirstOverlap, NoneOverlap}
 use Rattle.pipe_regroup.specs.declared.regroup_error.RegroupError.{RegroupError}
 use Rattle.pipe_regroup.specs.declared.regroup_error.RegroupError.TheVariants as fault
-use Rattle.pipe_regroup.specs.Added.{AreTooLarge, CanRegroup}
+use Rattle.pipe_regroup.specs.Added.{AreTooLarge}
 use Rattle.pipe_regroup.proofs.CoverFacts.{distinct-push, first-sole, none-first}
 
 -- what stands at an index
@@ -49,12 +49,8 @@ module _ (states : List StateSeen) where
   pub none-named : (x : RegroupError) (i : ℕ) → (x ≡ fault.Overlap i → ⊥) → NoneOverlap states → (x ≡ fault.Overlap i) ↔ IsFirstOverlap states i
   none-named x i not none = (λ e. absurd (not e), λ f. absurd (none-first states i none f))
 
-  -- where states can be regrouped, rows aren't too many
-  pub can-not_large : {X : Type 0} (r : Result X RegroupError) → (IsErrOf r fault.TooLarge → ⊥) → CanRegroup states → IsErrOf r fault.TooLarge ↔ AreTooLarge states
-  can-not_large r not can = (λ e. absurd (not e), λ l. absurd (omega (arith, l.many, can.few)))
-
 -- a fault is told as such
 pub told : {X : Type 0} {P : Type 0} (x e : RegroupError) (r : Result X RegroupError) → r ≡ Err x → (x ≡ e) ↔ P → (r ≡ Err e) ↔ P
-told x e r is same = (λ h. same.0 (own (sym is ∙ h)), λ p. is ∙ ap Err (same.1 p)) where
-  own : Err x ≡ Err e → x ≡ e
-  own h = cc h
+told x e r is same = (λ h. same.0 (own r is h), λ p. is ∙ ap Err (same.1 p)) where
+  own : {Z : Type 0} (s : Result Z RegroupError) → s ≡ Err x → s ≡ Err e → x ≡ e
+  own s f g = cc (sym f ∙ g)

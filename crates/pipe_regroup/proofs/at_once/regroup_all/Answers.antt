@@ -1,10 +1,8 @@
-use Rattle.std.proofs.Common.{◌≡◌, ◌∙◌, ◌≤◌, List, length, take_all, subst}
+use Rattle.std.proofs.Common.{◌≡◌, ◌∙◌, ◌≤◌, List, length, take_all}
 use Rattle.std.proofs.lemmas.Result.{IfOk-weaker}
 use Rattle.pipe_aggs.specs.QueryTrees.{query_tree}
 use Rattle.pipe_states.specs.Regrouped.{regrouped}
 use Rattle.pipe_states.specs.States.{StateSeen}
-use Rattle.pipe_states.specs.Together.{IsFirstOverlap}
-use Rattle.pipe_regroup.specs.Added.{AreTooLarge}
 use Rattle.pipe_regroup.proofs.at_once.regroup_all.Goals as goal
 
 pub returns-clause-frame : goal.returns-clause-frame
