@@ -18,3 +18,4 @@ mod CoverFacts
 mod FrameRows
 mod FieldFacts
 mod AddedFacts
+mod RefusalFacts

@@ -10,6 +10,7 @@ mod kept_fields;
 mod merge;
 mod merge_error;
 mod ranges;
+mod refusal;
 mod regroup_error;
 mod regrouping;
 mod row_groups;

@@ -6,8 +6,8 @@ ghost use Rattle.pipe_aggs.specs.QueryTrees.{query_tree};
 ghost use Rattle.pipe_model.specs.Groupable.{IsGroupable};
 ghost use Rattle.pipe_regroup.specs.declared.merge_error.MergeError.TheVariants as fault;
 ghost use Rattle.pipe_regroup.specs.Groups.{group_row, groups_of};
-ghost use Rattle.pipe_regroup.specs.Regrouping.{AreGroupsBy, held_count};
-ghost use Rattle.pipe_states.specs.Fair.{IsFair, IsStateOf};
+ghost use Rattle.pipe_regroup.specs.Regrouping.{AreGroupsBy};
+ghost use Rattle.pipe_states.specs.Fair.{IsStateOf};
 ghost use Rattle.pipe_states.specs.Files.{IsFairStateOf};
 ghost use Rattle.pipe_states.specs.Regrouped.{merged_states};
 ghost use Rattle.pipe_states.specs.Together.{FollowOn, total_rows};
@@ -16,23 +16,11 @@ use crate::group::Group;
 use crate::merge_error::MergeError;
 use crate::row_groups::RowGroups;
 use crate::setup::groups_by;
-use crate::total::{counted, more};
+use crate::total::total;
 use pipe_aggs::CheckedQuery;
 use pipe_spill::Values;
 use pipe_states::{StateFile, StateRow};
 use std::alloc::{AllocError, Global};
-
-/// How many rows states are of, if a count holds it.
-fn total(files: &[StateFile]) -> Option<u32>
-    ensures rows { result ≡ held_count (total_rows files.now) }
-    ensures fair { All IsFair files.now }
-{
-    let mut rows = Some(0);
-    for file in files {
-        rows = more(rows, counted(file.rows()));
-    }
-    rows
-}
 
 /// Groups as state rows.
 fn state_rows(alloc: Global, groups: Vec<Group>) -> Result<Vec<StateRow>, AllocError>

@@ -1,10 +1,12 @@
 //! How many rows states are of.
 
-ghost use Rattle.std.specs.Prelude.{◌≡◌, ◌<◌, ◌^◌};
+ghost use Rattle.std.specs.Prelude.{◌≡◌, ◌<◌, ◌^◌, All};
 ghost use Rattle.pipe_regroup.specs.Groups.{count_rows};
-ghost use Rattle.pipe_regroup.specs.Regrouping.{with_more};
+ghost use Rattle.pipe_regroup.specs.Regrouping.{held_count, with_more};
+ghost use Rattle.pipe_states.specs.Fair.{IsFair};
+ghost use Rattle.pipe_states.specs.Together.{total_rows};
 
-use pipe_states::StateRow;
+use pipe_states::{StateFile, StateRow};
 
 /// How many rows state rows are of.
 pub(crate) fn counted(rows: &[StateRow]) -> u32
@@ -23,4 +25,16 @@ pub(crate) fn more(rows: Option<u32>, added: u32) -> Option<u32>
     ensures { result ≡ with_more rows added }
 {
     rows?.checked_add(added)
+}
+
+/// How many rows states are of, if a count holds it.
+pub(crate) fn total(files: &[StateFile]) -> Option<u32>
+    ensures rows { result ≡ held_count (total_rows files.now) }
+    ensures fair { All IsFair files.now }
+{
+    let mut rows = Some(0);
+    for file in files {
+        rows = more(rows, counted(file.rows()));
+    }
+    rows
 }

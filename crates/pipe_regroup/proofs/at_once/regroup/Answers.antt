@@ -1,31 +1,11 @@
-use Rattle.std.proofs.Common.{◌≡◌, ◌∙◌, ◌≤◌, List, length, take_all, subst}
-use Rattle.std.proofs.lemmas.Result.{IfOk-weaker}
-use Rattle.pipe_aggs.specs.QueryTrees.{query_tree}
-use Rattle.pipe_states.specs.Regrouped.{regrouped}
-use Rattle.pipe_states.specs.States.{StateSeen}
-use Rattle.pipe_states.specs.Together.{IsFirstOverlap}
-use Rattle.pipe_regroup.specs.Added.{AreTooLarge}
+use Rattle.std.proofs.Common.{refl}
+use Rattle.pipe_regroup.specs.declared.regroup_error.RegroupError.TheVariants as fault
+use Rattle.pipe_regroup.proofs.AddedFacts.{none-told}
+use Rattle.pipe_regroup.proofs.RefusalFacts.{told}
 use Rattle.pipe_regroup.proofs.at_once.regroup.Goals as goal
 
-pub returns-clause-frame : goal.returns-clause-frame
-returns-clause-frame c =
-    let files : List StateSeen = c.args.files.now in
-    let past : length files ≤ c.loop-file.file-index = c.loop-file-test.false in
-    let all : c.loop-file.regrouping.files ≡ files = c.loop-file.invariant.files ∙ take_all c.loop-file.file-index files past in
-    IfOk-weaker c.finish.result (λ f. f ≡ regrouped (query_tree c.loop-file.regrouping.query) c.loop-file.regrouping.files c.loop-file.regrouping.keep)
-    (λ f. f ≡ regrouped (query_tree c.args.query.now) files c.args.keep.now)
-    (λ f e. e ∙ (λ i. regrouped (query_tree (c.loop-file.invariant.query i)) (all i) (c.loop-file.invariant.keep i))) c.finish.ensures.frame
+pub returns-in-Ok-clause-overlap : goal.returns-in-Ok-clause-overlap
+returns-in-Ok-clause-overlap c = λ i. none-told c.args.files.now i _ (λ e. cc) c.in-Ok.ensures.ok.apart
 
-pub returns-clause-overlap : goal.returns-clause-overlap
-returns-clause-overlap c = λ i e.
-    let files : List StateSeen = c.args.files.now in
-    let past : length files ≤ c.loop-file.file-index = c.loop-file-test.false in
-    let all : c.loop-file.regrouping.files ≡ files = c.loop-file.invariant.files ∙ take_all c.loop-file.file-index files past in
-    subst (λ (l : List StateSeen). IsFirstOverlap l i) all ((c.finish.ensures.overlap i).0 e)
-
-pub returns-clause-large : goal.returns-clause-large
-returns-clause-large c = λ e.
-    let files : List StateSeen = c.args.files.now in
-    let past : length files ≤ c.loop-file.file-index = c.loop-file-test.false in
-    let all : c.loop-file.regrouping.files ≡ files = c.loop-file.invariant.files ∙ take_all c.loop-file.file-index files past in
-    subst AreTooLarge all (c.finish.ensures.large.0 e)
+pub returns-in-Err-clause-overlap : goal.returns-in-Err-clause-overlap
+returns-in-Err-clause-overlap c = λ i. told c.refusal.result (fault.Overlap i) _ refl (c.refusal.ensures.overlap i)

@@ -8,7 +8,7 @@ use Rattle.pipe_states.specs.Together.{total_rows}
 use Rattle.pipe_regroup.specs.Groups.{count_rows}
 use Rattle.pipe_regroup.specs.Regrouping.{held_count, with_more}
 use Rattle.pipe_regroup.proofs.QueryGroups.{held-more, total-more}
-use Rattle.pipe_regroup.proofs.merge.total.Goals as goal
+use Rattle.pipe_regroup.proofs.total.total.Goals as goal
 
 pub loop-file-preserved : goal.loop-file-preserved
 loop-file-preserved c =

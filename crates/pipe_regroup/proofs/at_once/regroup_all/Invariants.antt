@@ -1,5 +1,5 @@
 use Rattle.std.proofs.Common.{◌≡◌, take}
-use Rattle.pipe_regroup.proofs.at_once.regroup.Given as goal
+use Rattle.pipe_regroup.proofs.at_once.regroup_all.Given as goal
 
 -- the states so far are added
 abbrev pub invariant-loop-file : goal.invariant-loop-file
