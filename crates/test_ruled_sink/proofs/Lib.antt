@@ -1,1 +1,2 @@
 mod SenderFacts
+pub mod Sending

@@ -12,4 +12,8 @@ mod made;
 #[cfg(test)]
 mod order_tests;
 #[cfg(test)]
+mod pair_tests;
+#[cfg(test)]
+mod pairs;
+#[cfg(test)]
 mod sinks;
