@@ -101,7 +101,7 @@ fn given(alloc: Global, query: &Query, names: &[&str], failing: u64) -> Result<G
 /// The query.
 fn query(alloc: Global) -> Result<Query, Fail> {
     let Ok(json) = Value::from_str(alloc, QUERY) else {
-        return Err("no JSON".into());
+        return Err("Value::from_str wants memory".into());
     };
     match query_of(alloc, &json)? {
         Some(query) => Ok(query),
