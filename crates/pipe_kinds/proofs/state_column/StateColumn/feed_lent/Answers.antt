@@ -1,0 +1,26 @@
+use Rattle.std.proofs.Common.{◌≡◌, ◌∙◌, ◌+◌, ◌<◌, ◌^◌, ℕ, List, false, true, length, set, ap, sym, subst}
+use Rattle.pipe_running.specs.Lent.{keeps_text}
+use Rattle.pipe_running.specs.States.{after_value, seen, takes}
+use Rattle.pipe_kinds.specs.Columns.{ColumnStates, state_at}
+use Rattle.pipe_kinds.proofs.ColumnFacts.{put-state}
+use Rattle.pipe_kinds.proofs.state_column.StateColumn.feed_lent.Goals as goal
+
+pub feed_lent-requires-clause-within : goal.feed_lent-requires-clause-within
+feed_lent-requires-clause-within c = subst (λ (x : ColumnStates). c.args.group < length x.states) (sym c.self.view_is) c.requires.within
+
+pub feed_lent-requires-clause-taken : goal.feed_lent-requires-clause-taken
+feed_lent-requires-clause-taken c = subst (λ (x : ColumnStates). takes (state_at x.states c.args.group) c.args.value.now ≡ true) (sym c.self.view_is) c.requires.taken
+
+pub feed_lent-requires-clause-few : goal.feed_lent-requires-clause-few
+feed_lent-requires-clause-few c = subst (λ (x : ColumnStates). seen (state_at x.states c.args.group) + 1 < 4294967296) (sym c.self.view_is) c.requires.few
+
+pub returns : goal.returns
+returns c =
+    let g = c.args.group in
+    put-state c.args.self.now g (after_value c.args.place c.args.value.now (state_at c.args.self.now.states g)) _ _ _
+    (c.feed_lent.ensures.fresh ∙ ap (λ (x : ColumnStates). x.fresh) c.self.view_is)
+    (c.feed_lent.ensures.states ∙ ap (λ (x : ColumnStates). set x.states g (after_value c.args.place c.args.value.now (state_at x.states g))) c.self.view_is)
+    (c.feed_lent.ensures.room ∙ ap (λ (x : ColumnStates). x.room) c.self.view_is)
+
+pub feed_lent-requires-clause-plain : goal.feed_lent-requires-clause-plain
+feed_lent-requires-clause-plain c = subst (λ (x : ColumnStates). keeps_text c.args.place c.args.value.now (state_at x.states c.args.group) ≡ false) (sym c.self.view_is) c.requires.plain

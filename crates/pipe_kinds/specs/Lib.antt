@@ -1,0 +1,5 @@
+pub mod Columns
+pub mod Directions
+pub mod Keeping
+pub mod KindState
+pub mod Kinds

@@ -1,0 +1,105 @@
+//! Counts, sums and means as running aggregates of any kind.
+
+ghost use Rattle.std.specs.Prelude.{refl};
+ghost use Rattle.pipe_running.specs.declared.function.AggregateFunction.TheVariants as function;
+
+use crate::kind_state::KindState;
+use pipe_running::{CountAgg, MeanAgg, SumAgg};
+
+impl KindState for CountAgg<false> {
+    ghost as_function = { function.Count };
+
+    ghost is_kind = { record {
+      after_is = λ p v s. refl;
+      takes_is = λ s v. refl;
+      seen_is = λ s. refl;
+      alike_is = λ s t. refl;
+      joined_is = λ s t. refl;
+      fresh_is = λ s. refl;
+      given_is = λ s. refl;
+    } };
+}
+
+impl KindState for CountAgg<true> {
+    ghost as_function = { function.Len };
+
+    ghost is_kind = { record {
+      after_is = λ p v s. refl;
+      takes_is = λ s v. refl;
+      seen_is = λ s. refl;
+      alike_is = λ s t. refl;
+      joined_is = λ s t. refl;
+      fresh_is = λ s. refl;
+      given_is = λ s. refl;
+    } };
+}
+
+impl KindState for SumAgg<u32> {
+    ghost as_function = { function.SumU32 };
+
+    ghost is_kind = { record {
+      after_is = λ p v s. refl;
+      takes_is = λ s v. refl;
+      seen_is = λ s. refl;
+      alike_is = λ s t. refl;
+      joined_is = λ s t. refl;
+      fresh_is = λ s. refl;
+      given_is = λ s. refl;
+    } };
+}
+
+impl KindState for SumAgg<u64> {
+    ghost as_function = { function.SumU64 };
+
+    ghost is_kind = { record {
+      after_is = λ p v s. refl;
+      takes_is = λ s v. refl;
+      seen_is = λ s. refl;
+      alike_is = λ s t. refl;
+      joined_is = λ s t. refl;
+      fresh_is = λ s. refl;
+      given_is = λ s. refl;
+    } };
+}
+
+impl KindState for SumAgg<i32> {
+    ghost as_function = { function.SumI32 };
+
+    ghost is_kind = { record {
+      after_is = λ p v s. refl;
+      takes_is = λ s v. refl;
+      seen_is = λ s. refl;
+      alike_is = λ s t. refl;
+      joined_is = λ s t. refl;
+      fresh_is = λ s. refl;
+      given_is = λ s. refl;
+    } };
+}
+
+impl KindState for SumAgg<i64> {
+    ghost as_function = { function.SumI64 };
+
+    ghost is_kind = { record {
+      after_is = λ p v s. refl;
+      takes_is = λ s v. refl;
+      seen_is = λ s. refl;
+      alike_is = λ s t. refl;
+      joined_is = λ s t. refl;
+      fresh_is = λ s. refl;
+      given_is = λ s. refl;
+    } };
+}
+
+impl KindState for MeanAgg<i128> {
+    ghost as_function = { function.Mean };
+
+    ghost is_kind = { record {
+      after_is = λ p v s. refl;
+      takes_is = λ s v. refl;
+      seen_is = λ s. refl;
+      alike_is = λ s t. refl;
+      joined_is = λ s t. refl;
+      fresh_is = λ s. refl;
+      given_is = λ s. refl;
+    } };
+}
