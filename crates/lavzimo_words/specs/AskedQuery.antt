@@ -22,10 +22,14 @@ use Rattle.lavzimo_words.specs.declared.source.Source.TheVariants as source
 abbrev pub has_field : List Field → List ℕ → Bool
 has_field fields name = list_any (λ f. bytes_eq f.name name) fields
 
+-- whether a column has one of fields, or none
+abbrev pub is_there : List Field → AskedColumn → Bool
+is_there fields c = is_rows c.role || has_field fields c.column
+
 -- fields with that of a shown column, where they don't have it
 abbrev pub with_field : List Field → AskedColumn → List Field
 with_field fields c =
-    if is_rows c.role || has_field fields c.column then fields
+    if is_there fields c then fields
     else fields ++ record { name = c.column; dtype = c.dtype } ∷ []
 
 -- the columns that are named, each once, in the order in which they are shown
@@ -41,10 +45,14 @@ abbrev pub keys_of : List Expr → List Expr
 keys_of [] = expr.literal dt.Int64 (av.Int (pos 0)) ∷ []
 keys_of (k ∷ ks) = k ∷ ks
 
+-- whether days are compared
+abbrev pub compares_days : AskedColumn → Bool
+compares_days c = is_compared c.role && is_date c.dtype
+
 -- what is summed up: days are compared by their numbers
 abbrev pub input_of : AskedColumn → Expr
 input_of c =
-    if is_compared c.role && is_date c.dtype then expr.cast (expr.column c.column) dt.Int32
+    if compares_days c then expr.cast (expr.column c.column) dt.Int32
     else expr.column c.column
 
 -- what the rows of a group have
@@ -101,7 +109,10 @@ abbrev pub sources_from : ℕ → List AskedColumn → List Source
 sources_from place [] = []
 sources_from place (c ∷ rest) = source_at place c ∷ sources_from (place + width c.role) rest
 
--- where shown columns come from; the key that all rows have is not shown
+-- the first place that is shown: the key that all rows have is not
+abbrev pub first_place : List AskedColumn → ℕ
+first_place shown = if list_any (λ c. is_key c.role) shown then 0 else 1
+
+-- where shown columns come from
 abbrev pub shown_columns : List AskedColumn → List Source
-shown_columns shown =
-    sources_from (if list_any (λ c. is_key c.role) shown then 0 else 1) shown
+shown_columns shown = sources_from (first_place shown) shown

@@ -10,7 +10,7 @@ abbrev pub option_rule : ArgAction → List ℕ → Rule
 option_rule action name =
     record (new_rule name) { long = Some name; action = Some action; value_names = 1 }
 
--- `--count`, which has no value
+-- the option that counts rows, which has no value
 abbrev pub count_rule : Rule
 count_rule =
     record (new_rule (codes "count")) { long = Some (codes "count"); action = Some SetTrue }
@@ -28,7 +28,7 @@ bare_app =
 abbrev pub with_options : ArgAction → App → List (List ℕ) → App
 with_options action app names = fold (λ a name. with_rule a (option_rule action name)) app names
 
--- the options of columns behind `--count`
+-- the options of columns behind the one that counts rows
 abbrev pub column_options : List (List ℕ)
 column_options =
     codes "count-of" ∷ codes "sum" ∷ codes "mean" ∷ codes "min" ∷ codes "max" ∷ codes "first"

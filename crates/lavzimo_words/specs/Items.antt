@@ -16,12 +16,16 @@ use Rattle.lavzimo_words.specs.declared.refusal.Refusal.{Refusal}
 use Rattle.lavzimo_words.specs.declared.refusal.Refusal.TheVariants as refusal
 
 -- the types that a column may be said to have
-abbrev pub type_named : List ℕ → Option DataType
-type_named = named (
+abbrev pub type_names : List (List ℕ × DataType)
+type_names =
     (codes "text", dt.String) ∷ (codes "int", dt.Int64) ∷ (codes "i8", dt.Int8)
     ∷ (codes "i16", dt.Int16) ∷ (codes "i32", dt.Int32) ∷ (codes "i64", dt.Int64)
     ∷ (codes "u8", dt.UInt8) ∷ (codes "u16", dt.UInt16) ∷ (codes "u32", dt.UInt32)
-    ∷ (codes "u64", dt.UInt64) ∷ (codes "bool", dt.Boolean) ∷ (codes "date", dt.Date) ∷ [])
+    ∷ (codes "u64", dt.UInt64) ∷ (codes "bool", dt.Boolean) ∷ (codes "date", dt.Date) ∷ []
+
+-- the type of a name
+abbrev pub type_named : List ℕ → Option DataType
+type_named = named type_names
 
 -- a column of a text before a type, which is all of the text where there is no such type
 abbrev pub typed_as : List ℕ → List ℕ → Option DataType → List ℕ × Option DataType

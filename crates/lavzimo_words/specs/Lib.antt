@@ -9,3 +9,4 @@ pub mod Asked
 pub mod AskedQuery
 pub mod Finding
 pub mod Pieces
+pub mod Worked

@@ -1,8 +1,9 @@
 -- The order, the bounds and the numbers that options have.
-use Rattle.std.specs.Prelude.{ℕ, ◌-◌, ◌==◌, ◌^◌, ◌&&◌, Bool, List, [], ◌∷◌, codes, bytes_eq, drop, length, nat_le, nat_lt, position, slice_index_or, if◌then◌else◌, Option, Some, None, Result, Ok, Err}
+use Rattle.std.specs.Prelude.{ℕ, ◌&&◌, Bool, true, false, List, codes, bytes_eq, length, nat_le, nat_lt, position, if◌then◌else◌, Option, Some, None, Result, Ok, Err}
 use Rattle.std.specs.List.{list_all}
 use Rattle.std.specs.Char.{digit_value}
 use Rattle.std.specs.Str.Parse.{digits_value, without_leading_plus}
+use Rattle.clap.specs.Lexer.{strip_byte}
 use Rattle.clap.specs.Words.{Row, first_of}
 use Rattle.pipe_words.specs.declared.plan.Format.{Format}
 use Rattle.pipe_words.specs.declared.plan.Format.TheVariants as format
@@ -16,19 +17,26 @@ use Rattle.lavzimo_words.specs.declared.refusal.Refusal.TheVariants as refusal
 abbrev pub place_of : List AskedColumn → List ℕ → Option ℕ
 place_of shown name = position (λ s. bytes_eq s.name name) shown
 
--- an order by the column at a place, if there is one
-abbrev pub order_by : (ℕ → Order) → List ℕ → Option ℕ → Result Order Refusal
-order_by by name None = Err (refusal.NoOutput name)
-order_by by name (Some place) = Ok (by place)
+-- an order by the column at a place, downwards or upwards, if there is one
+abbrev pub order_by : Bool → List ℕ → Option ℕ → Result Order Refusal
+order_by down name None = Err (refusal.NoOutput name)
+order_by down name (Some place) = Ok (if down then order.Down place else order.Up place)
+
+-- an order by the shown column of a name
+abbrev pub order_to : Bool → List AskedColumn → List ℕ → Result Order Refusal
+order_to down shown name = order_by down name (place_of shown name)
+
+-- the order of a text that is a column's name, or one behind a sign
+abbrev pub order_signed : List AskedColumn → List ℕ → Option (List ℕ) → Result Order Refusal
+order_signed shown text None = order_to false shown text
+order_signed shown text (Some name) = order_to true shown name
 
 -- the order that a text says: `key`, `first`, `-COLUMN` or `COLUMN`
 abbrev pub order_said : List AskedColumn → List ℕ → Result Order Refusal
 order_said shown text =
     if bytes_eq text (codes "key") then Ok order.Key
     else (if bytes_eq text (codes "first") then Ok order.First
-    else (if slice_index_or text 0 0 == 45
-    then order_by order.Down (drop 1 text) (place_of shown (drop 1 text))
-    else order_by order.Up text (place_of shown text)))
+    else order_signed shown text (strip_byte 45 text))
 
 -- the order of the answer: that of keys where none is said
 abbrev pub order_of : List AskedColumn → Option (List ℕ) → Result Order Refusal
@@ -45,16 +53,22 @@ is_number text =
 abbrev pub number_in : List ℕ → ℕ
 number_in text = digits_value 10 (without_leading_plus text)
 
--- the number that an option has, from one to another
-abbrev pub number_within : ℕ → ℕ → List ℕ → List ℕ → Result (Option ℕ) Refusal
-number_within low high option text =
-    if is_number text && nat_le low (number_in text) && nat_le (number_in text) high
-    then Ok (Some (number_in text)) else Err (refusal.NoNumber option text)
+-- the number that a text writes, from one to another
+abbrev pub number_within : ℕ → ℕ → List ℕ → Option ℕ
+number_within low high text =
+    if is_number text && (nat_le low (number_in text) && nat_le (number_in text) high)
+    then Some (number_in text) else None
 
--- the same of an option that may be left out
+-- a number that an option has, if it is one that it may have
+abbrev pub number_had : List ℕ → List ℕ → Option ℕ → Result (Option ℕ) Refusal
+number_had option text None = Err (refusal.NoNumber option text)
+number_had option text (Some n) = Ok (Some n)
+
+-- the number of an option that may be left out
 abbrev pub number_said : ℕ → ℕ → List ℕ → Option (List ℕ) → Result (Option ℕ) Refusal
 number_said low high option None = Ok None
-number_said low high option (Some text) = number_within low high option text
+number_said low high option (Some text) =
+    number_had option text (number_within low high text)
 
 -- the number of an option
 abbrev pub number_of : ℕ → ℕ → List ℕ → List Row → Result (Option ℕ) Refusal

@@ -13,16 +13,21 @@ use Rattle.lavzimo_words.specs.declared.asked_column.AskedColumn.{AskedColumn}
 use Rattle.lavzimo_words.specs.declared.refusal.Refusal.{Refusal}
 use Rattle.lavzimo_words.specs.declared.refusal.Refusal.TheVariants as refusal
 
+-- the first item of a column of which a type is said
+abbrev pub said_item : List Item → List ℕ → Option Item
+said_item items column = find (λ i. bytes_eq i.column column && is_some i.said) items
+
 -- the first type that a column is said to have
 abbrev pub said_type : List Item → List ℕ → Option DataType
-said_type items column =
-    option_and_then (λ i. i.said) (find (λ i. bytes_eq i.column column && is_some i.said) items)
+said_type items column = option_and_then (λ i. i.said) (said_item items column)
+
+-- whether numbers of a column are added or compared
+abbrev pub has_numbers : List Item → List ℕ → Bool
+has_numbers items column = list_any (λ i. bytes_eq i.column column && is_of_numbers i.role) items
 
 -- the type of a column of which none is said: int where its numbers are added or compared, or else text
 abbrev pub usual_type : List Item → List ℕ → DataType
-usual_type items column =
-    if list_any (λ i. bytes_eq i.column column && is_of_numbers i.role) items then dt.Int64
-    else dt.String
+usual_type items column = if has_numbers items column then dt.Int64 else dt.String
 
 -- the type of a column
 abbrev pub column_type : List Item → List ℕ → DataType

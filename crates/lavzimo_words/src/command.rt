@@ -1,10 +1,11 @@
 //! The command line.
 
-ghost use Rattle.std.specs.Prelude.{◌≡◌, IfOk, codes, map, option_map};
+ghost use Rattle.std.specs.Prelude.{◌≡◌, ◌∷◌, [], IfOk, codes, map, option_map};
+ghost use Rattle.clap.specs.Values.{kind_of};
 ghost use Rattle.clap.specs.Words.{all_of, app_of, first_of, found_of, rows_of, with_rule};
 ghost use Rattle.lavzimo_words.specs.Asked.{files_in};
 ghost use Rattle.lavzimo_words.specs.Command as spec;
-ghost use Rattle.lavzimo_words.specs.Finding.{IsFinding, option_names};
+ghost use Rattle.lavzimo_words.specs.Finding.{IsEnd, IsFinding, answer_options, option_names, place_options, thread_options};
 
 use clap::error::ErrorKind;
 use clap::{Arg, ArgAction, ArgMatches, Command, Error};
@@ -131,22 +132,69 @@ fn of_run<'a>(name: &'a str, value: &'a str, help: &'a str) -> OptionText<'a>
     OptionText { name, value, help }
 }
 
-/// A command that takes the options of the answer and of the run.
-fn with_run<'a>(alloc: Global, command: Command<'a>) -> Result<Command<'a>, AllocError>
+/// A command that takes the options of the answer.
+fn with_answer<'a>(alloc: Global, command: Command<'a>) -> Result<Command<'a>, AllocError>
     ensures { IfOk result (λ c. app_of c
-        ≡ spec.with_options ArgAction.Set (app_of command.entry) spec.run_options) }
+        ≡ spec.with_options ArgAction.Set (app_of command.entry) answer_options) }
 {
     let options = [
         of_run("order", "ORDER", "key, first, a shown column, or -COLUMN for downwards"),
         of_run("offset", "N", "Leaves out so many rows at the front"),
         of_run("limit", "N", "Shows so many rows at most"),
         of_run("format", "FORMAT", "csv or json"),
-        of_run("workers", "N", "Threads, 1 to 256; as many as processors without it"),
-        of_run("partitions", "N", "Partitions, 1 to 4096; 16 without it"),
-        of_run("spill-dir", "DIR", "Spills rows into a folder"),
-        of_run("query", "FILE", "A query of group_tool, in place of columns"),
     ];
     with_options(alloc, command, ArgAction::Set, &options)
+}
+
+/// A command that takes the options of threads.
+fn with_threads<'a>(alloc: Global, command: Command<'a>) -> Result<Command<'a>, AllocError>
+    ensures { IfOk result (λ c. app_of c
+        ≡ spec.with_options ArgAction.Set (app_of command.entry) thread_options) }
+{
+    let options = [
+        OptionText {
+            name: "workers",
+            value: "N",
+            help: "Threads, 1 to 256; as many as processors without it",
+        },
+        OptionText {
+            name: "partitions",
+            value: "N",
+            help: "Partitions, 1 to 4096; 16 without it",
+        },
+    ];
+    with_options(alloc, command, ArgAction::Set, &options)
+}
+
+/// A command that takes the options of places.
+fn with_places<'a>(alloc: Global, command: Command<'a>) -> Result<Command<'a>, AllocError>
+    ensures { IfOk result (λ c. app_of c
+        ≡ spec.with_options ArgAction.Set (app_of command.entry) place_options) }
+{
+    let options = [
+        OptionText {
+            name: "spill-dir",
+            value: "DIR",
+            help: "Spills rows into a folder",
+        },
+        OptionText {
+            name: "query",
+            value: "FILE",
+            help: "A query of group_tool, in place of columns",
+        },
+    ];
+    with_options(alloc, command, ArgAction::Set, &options)
+}
+
+/// A command that takes the options of the answer and of the run.
+fn with_run<'a>(alloc: Global, command: Command<'a>) -> Result<Command<'a>, AllocError>
+    ensures { IfOk result (λ c. app_of c
+        ≡ spec.with_options ArgAction.Set (app_of command.entry) spec.run_options) }
+{
+    let command = with_answer(alloc, command)?;
+    let command = with_threads(alloc, command)?;
+    let command = with_places(alloc, command)?;
+    Ok(command)
 }
 
 /// The command: the keys, what is asked of columns, the answer and the run, and then files.
@@ -175,6 +223,18 @@ fn text_of(alloc: Global, error: &Error) -> Result<Text, AllocError> {
     Text::new(alloc, text.as_str())
 }
 
+/// The text with which the command ends.
+fn end_of<'a>(alloc: Global, error: &Error) -> Result<Finding<'a>, AllocError>
+    ensures { IfOk result (λ f. IsEnd f (kind_of error.now)) }
+{
+    match error.kind() {
+        ErrorKind::OutOfMemory => Err(AllocError),
+        ErrorKind::DisplayHelp => Ok(Finding::Help(text_of(alloc, error)?)),
+        ErrorKind::DisplayVersion => Ok(Finding::Version(text_of(alloc, error)?)),
+        _ => Ok(Finding::Faulty(text_of(alloc, error)?)),
+    }
+}
+
 /// What the command finds in words, or the text with which it ends.
 pub(crate) fn find_in<'a>(
     alloc: Global,
@@ -183,15 +243,9 @@ pub(crate) fn find_in<'a>(
     ensures { IfOk result (λ f. IsFinding f (spec.found_in (map (λ w. w.now) words.entry.now))) }
 {
     let command = lavzimo_command(alloc)?;
-    let error = match command.try_get_matches_from(words) {
-        Ok(matches) => return Ok(Finding::Matches(matches)),
-        Err(error) => error,
-    };
-    match error.kind() {
-        ErrorKind::OutOfMemory => Err(AllocError),
-        ErrorKind::DisplayHelp => Ok(Finding::Help(text_of(alloc, &error)?)),
-        ErrorKind::DisplayVersion => Ok(Finding::Version(text_of(alloc, &error)?)),
-        _ => Ok(Finding::Faulty(text_of(alloc, &error)?)),
+    match command.try_get_matches_from(words) {
+        Ok(matches) => Ok(Finding::Matches(matches)),
+        Err(error) => end_of(alloc, &error),
     }
 }
 
@@ -202,18 +256,33 @@ pub(crate) fn value_of<'a>(matches: &ArgMatches<'a>, name: &str) -> Option<&'a s
     matches.get_str(name)
 }
 
+/// Copies of names.
+fn copies_of(alloc: Global, names: &[&str]) -> Result<Vec<Text>, AllocError>
+    ensures { IfOk result (λ v. v.items ≡ map (λ n. n.now) names.now) }
+{
+    let mut copies = Vec::new(alloc);
+    for name in names {
+        copies.push(Text::new(alloc, name)?)?;
+    }
+    Ok(copies)
+}
+
+/// Standard input.
+fn standard_input(alloc: Global) -> Result<Vec<Text>, AllocError>
+    ensures { IfOk result (λ v. v.items ≡ codes "-" ∷ []) }
+{
+    let mut files = Vec::new(alloc);
+    files.push(Text::new(alloc, "-")?)?;
+    Ok(files)
+}
+
 /// The files that are read: standard input where none is named.
 pub(crate) fn files_of(alloc: Global, matches: &ArgMatches<'_>) -> Result<Vec<Text>, AllocError>
     ensures { IfOk result (λ v. v.items
         ≡ files_in (all_of (codes "files") (rows_of (found_of matches.now)))) }
 {
-    let mut files = Vec::new(alloc);
-    let Some(names) = matches.get_strs("files") else {
-        files.push(Text::new(alloc, "-")?)?;
-        return Ok(files);
-    };
-    for name in names {
-        files.push(Text::new(alloc, name)?)?;
+    match matches.get_strs("files") {
+        Some(names) => copies_of(alloc, names),
+        None => standard_input(alloc),
     }
-    Ok(files)
 }

@@ -1,6 +1,6 @@
 //! The words as `clap` reads them.
 
-ghost use Rattle.std.specs.Prelude.{◌≡◌, ◌++◌, IfOk, codes};
+ghost use Rattle.std.specs.Prelude.{◌≡◌, ◌++◌, IfOk, OnOk, codes, option_map};
 ghost use Rattle.lavzimo_words.specs.Joined as spec;
 
 use pipe_columns::Text;
@@ -26,9 +26,39 @@ fn push_all(alloc: Global, words: &[Text], joined: &mut Vec<Text>) -> Result<(),
     ensures { OnOk result (joined.new.items ≡ joined.old.items ++ words.now) }
 {
     for word in words {
-        joined.push(word.try_clone(alloc)?)?;
+        let copy = word.try_clone(alloc)?;
+        joined.push(copy)?;
     }
     Ok(())
+}
+
+/// Whether an order downwards stands in two words.
+fn is_order(word: &Text, value: &Text) -> bool
+    ensures { result ≡ spec.is_order word.now value.now }
+{
+    word.as_str() == "--order" && is_downwards(value.as_bytes())
+}
+
+/// The next word before another one and before a word `--`, and the words behind it.
+fn next_word<'a>(alloc: Global, words: &'a [Text]) -> Result<Option<(Text, &'a [Text])>, AllocError>
+    ensures { IfOk result
+        (λ o. option_map (λ p. (p.0, p.1.now)) o ≡ spec.next_word words.entry.now) }
+{
+    let Some((word, after)) = words.split_first() else {
+        return Ok(None);
+    };
+    let Some((value, later)) = after.split_first() else {
+        return Ok(None);
+    };
+    if word.as_str() == "--" {
+        return Ok(None);
+    }
+    if is_order(word, value) {
+        let joined = order_word(alloc, value.as_str())?;
+        return Ok(Some((joined, later)));
+    }
+    let copy = word.try_clone(alloc)?;
+    Ok(Some((copy, after)))
 }
 
 /// The words, of which `--order -COLUMN` before a word `--` is one.
@@ -36,19 +66,11 @@ pub(crate) fn joined(alloc: Global, words: &[Text]) -> Result<Vec<Text>, AllocEr
     ensures { IfOk result (λ v. v.items ≡ spec.joined words.now) }
 {
     let mut joined = Vec::new(alloc);
-    let mut i = 0;
-    while i + 1 < words.len() {
-        if words[i].as_str() == "--" {
-            break;
-        }
-        if words[i].as_str() == "--order" && is_downwards(words[i + 1].as_bytes()) {
-            joined.push(order_word(alloc, words[i + 1].as_str())?)?;
-            i += 2;
-        } else {
-            joined.push(words[i].try_clone(alloc)?)?;
-            i += 1;
-        }
+    let mut rest = words;
+    while let Some((word, after)) = next_word(alloc, rest)? {
+        joined.push(word)?;
+        rest = after;
     }
-    push_all(alloc, &words[i..], &mut joined)?;
+    push_all(alloc, rest, &mut joined)?;
     Ok(joined)
 }

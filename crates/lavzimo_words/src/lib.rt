@@ -16,6 +16,7 @@ mod settings;
 mod shown;
 mod source;
 mod words;
+mod worked;
 
 pub use asked::{Asked, Columns, Order, Question};
 pub use asked_column::AskedColumn;

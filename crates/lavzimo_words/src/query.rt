@@ -8,7 +8,7 @@ ghost use Rattle.pipe_query.specs.Added.{AreAdded, IsAdded};
 ghost use Rattle.pipe_query.specs.Flat.{agg_node, node};
 ghost use Rattle.lavzimo_words.specs.Asked.{columns_seen};
 ghost use Rattle.lavzimo_words.specs.AskedQuery as spec;
-ghost use Rattle.lavzimo_words.specs.declared.asked.Order.TheVariants as order;
+ghost use Rattle.lavzimo_words.specs.Roles as roles;
 
 use crate::asked::{Columns, Order};
 use crate::asked_column::AskedColumn;
@@ -24,13 +24,20 @@ fn has_field(fields: &[Field], name: &Text) -> bool
     fields.iter().any(|field| field.name == *name)
 }
 
+/// Whether a column has one of fields, or none.
+fn is_there(fields: &[Field], column: &AskedColumn) -> bool
+    ensures { result ≡ spec.is_there fields.now column.now }
+{
+    column.role.is_rows() || has_field(fields, &column.column)
+}
+
 /// The columns that are named, each once, in the order in which they are shown.
 fn named_fields(alloc: Global, columns: &[AskedColumn]) -> Result<Vec<Field>, AllocError>
     ensures { IfOk result (λ v. v.items ≡ spec.named_fields columns.now) }
 {
     let mut fields = Vec::new(alloc);
     for column in columns {
-        if column.role.is_rows() || has_field(&fields, &column.column) {
+        if is_there(&fields, column) {
             continue;
         }
         let name = column.column.try_clone(alloc)?;
@@ -57,7 +64,8 @@ fn add_column(alloc: Global, arena: &mut Arena, name: &Text) -> Result<Node, All
         (λ n. IsAdded (Some (expr.column name.now)) arena.old arena.new (Some n)) }
 {
     let name = name.try_clone(alloc)?;
-    add_node(arena, AExpr::Column(name))
+    let node = add_node(arena, AExpr::Column(name))?;
+    Ok(node)
 }
 
 /// A name with an ending.
@@ -76,7 +84,15 @@ fn add_key(alloc: Global, arena: &mut Arena, column: &AskedColumn) -> Result<Nod
 {
     let input = add_column(alloc, arena, &column.column)?;
     let name = with_ending(alloc, &column.name, "_key")?;
-    add_node(arena, AExpr::Alias(input, name))
+    let node = add_node(arena, AExpr::Alias(input, name))?;
+    Ok(node)
+}
+
+/// Whether days are compared.
+fn compares_days(column: &AskedColumn) -> bool
+    ensures { result ≡ spec.compares_days column.now }
+{
+    column.role.is_compared() && column.dtype == DataType::Date
 }
 
 /// Adds what is summed up.
@@ -85,16 +101,17 @@ fn add_input(alloc: Global, arena: &mut Arena, column: &AskedColumn) -> Result<N
         (λ n. IsAdded (Some (spec.input_of column.now)) arena.old arena.new (Some n)) }
 {
     let expr = add_column(alloc, arena, &column.column)?;
-    if column.role.is_compared() && column.dtype == DataType::Date {
-        let dtype = DataType::Int32;
-        return add_node(arena, AExpr::Cast { expr, dtype });
+    if !compares_days(column) {
+        return Ok(expr);
     }
-    Ok(expr)
+    let dtype = DataType::Int32;
+    let node = add_node(arena, AExpr::Cast { expr, dtype })?;
+    Ok(node)
 }
 
 /// How values are summed up.
 fn aggregate(role: Role, input: Node) -> IRAggExpr
-    ensures { result ≡ agg_node (spec.aggregation_of role) input }
+    ensures { result ≡ agg_node (roles.aggregation_of role) input }
 {
     match role {
         Role::Key | Role::Rows | Role::First => IRAggExpr::First(input),
@@ -122,10 +139,13 @@ fn add_measured(
         (λ n. IsAdded (Some (spec.measured column.now)) arena.old arena.new (Some n)) }
 {
     if column.role.is_rows() {
-        return add_node(arena, AExpr::Len);
+        let node = add_node(arena, AExpr::Len)?;
+        return Ok(node);
     }
     let input = add_input(alloc, arena, column)?;
-    add_node(arena, AExpr::Agg(aggregate(column.role, input)))
+    let agg = aggregate(column.role, input);
+    let node = add_node(arena, AExpr::Agg(agg))?;
+    Ok(node)
 }
 
 /// The name of an aggregate.
@@ -146,7 +166,8 @@ fn add_agg(alloc: Global, arena: &mut Arena, column: &AskedColumn) -> Result<Nod
 {
     let input = add_measured(alloc, arena, column)?;
     let name = aggregate_name(alloc, column)?;
-    add_node(arena, AExpr::Alias(input, name))
+    let node = add_node(arena, AExpr::Alias(input, name))?;
+    Ok(node)
 }
 
 /// Adds the columns that are keys.
@@ -160,9 +181,11 @@ fn add_key_columns(
 {
     let mut nodes = Vec::new(alloc);
     for column in columns {
-        if column.role.is_key() {
-            nodes.push(add_key(alloc, arena, column)?)?;
+        if !column.role.is_key() {
+            continue;
         }
+        let node = add_key(alloc, arena, column)?;
+        nodes.push(node)?;
     }
     Ok(nodes)
 }
@@ -178,13 +201,15 @@ fn add_keys(
         arena.old arena.new (Some v.items)) }
 {
     let mut nodes = add_key_columns(alloc, arena, columns)?;
-    if nodes.is_empty() {
-        let literal = AExpr::Literal {
-            dtype: DataType::Int64,
-            value: AnyValue::Int(0),
-        };
-        nodes.push(add_node(arena, literal)?)?;
+    if !nodes.is_empty() {
+        return Ok(nodes);
     }
+    let literal = AExpr::Literal {
+        dtype: DataType::Int64,
+        value: AnyValue::Int(0),
+    };
+    let node = add_node(arena, literal)?;
+    nodes.push(node)?;
     Ok(nodes)
 }
 
@@ -199,9 +224,11 @@ fn add_aggs(
 {
     let mut nodes = Vec::new(alloc);
     for column in columns {
-        if !column.role.is_key() {
-            nodes.push(add_agg(alloc, arena, column)?)?;
+        if column.role.is_key() {
+            continue;
         }
+        let node = add_agg(alloc, arena, column)?;
+        nodes.push(node)?;
     }
     Ok(nodes)
 }

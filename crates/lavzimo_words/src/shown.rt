@@ -1,6 +1,6 @@
 //! The columns that are shown: each with its type, and under a name of its own.
 
-ghost use Rattle.std.specs.Prelude.{◌≡◌, IfErr, IfOk, Ok, map, option_map};
+ghost use Rattle.std.specs.Prelude.{◌≡◌, IfErr, IfOk, Ok, option_copied, option_map};
 ghost use Rattle.lavzimo_words.specs.Results.{IsRefusedFor};
 ghost use Rattle.lavzimo_words.specs.Shown as shown;
 
@@ -10,24 +10,39 @@ use crate::refusal::{AskError, Refusal};
 use pipe_columns::{DataType, Text};
 use std::alloc::{AllocError, Global};
 
+/// The first item of a column of which a type is said.
+fn said_item<'a>(items: &'a [Item], column: &Text) -> Option<&'a Item>
+    ensures { option_copied result ≡ shown.said_item items.entry.now column.now }
+{
+    items
+        .iter()
+        .find(|item| item.column == *column && item.said.is_some())
+}
+
 /// The first type that a column is said to have.
 fn said_type(items: &[Item], column: &Text) -> Option<DataType>
     ensures { result ≡ shown.said_type items.now column.now }
 {
-    let item = items
+    match said_item(items, column) {
+        Some(item) => item.said,
+        None => None,
+    }
+}
+
+/// Whether numbers of a column are added or compared.
+fn has_numbers(items: &[Item], column: &Text) -> bool
+    ensures { result ≡ shown.has_numbers items.now column.now }
+{
+    items
         .iter()
-        .find(|item| item.column == *column && item.said.is_some())?;
-    item.said
+        .any(|item| item.column == *column && item.role.is_of_numbers())
 }
 
 /// The type of a column of which none is said.
 fn usual_type(items: &[Item], column: &Text) -> DataType
     ensures { result ≡ shown.usual_type items.now column.now }
 {
-    if items
-        .iter()
-        .any(|item| item.column == *column && item.role.is_of_numbers())
-    {
+    if has_numbers(items, column) {
         DataType::Int64
     } else {
         DataType::String
@@ -87,7 +102,9 @@ pub(crate) fn shown_all(alloc: Global, items: &[Item]) -> Result<Vec<AskedColumn
 {
     let mut columns = Vec::new(alloc);
     for item in items {
-        columns.push(shown_as(alloc, item, column_type(items, &item.column))?)?;
+        let dtype = column_type(items, &item.column);
+        let column = shown_as(alloc, item, dtype)?;
+        columns.push(column)?;
     }
     Ok(columns)
 }
@@ -103,11 +120,12 @@ fn has_name(columns: &[AskedColumn], name: &Text) -> bool
 fn first_double(columns: &[AskedColumn]) -> Option<&Text>
     ensures { option_map (λ n. n.now) result ≡ shown.first_double columns.now }
 {
-    for i in 0..columns.len() {
-        let name = &columns[i].name;
-        if has_name(&columns[i + 1..], name) {
-            return Some(name);
+    let mut rest = columns;
+    while let Some((first, later)) = rest.split_first() {
+        if has_name(later, &first.name) {
+            return Some(&first.name);
         }
+        rest = later;
     }
     None
 }

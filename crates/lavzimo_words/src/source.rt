@@ -1,7 +1,9 @@
 //! Where shown columns come from.
 
 ghost use Rattle.std.specs.Prelude.{◌≡◌, IfOk};
-ghost use Rattle.lavzimo_words.specs.AskedQuery as asked;
+ghost use Rattle.std.specs.List.{list_any};
+ghost use Rattle.lavzimo_words.specs.AskedQuery as spec;
+ghost use Rattle.lavzimo_words.specs.Roles.{is_key};
 
 use crate::asked_column::AskedColumn;
 use std::alloc::{AllocError, Global};
@@ -15,27 +17,50 @@ pub enum Source {
     Mean(usize),
 }
 
+/// Whether some column is a key.
+fn has_key(columns: &[AskedColumn]) -> bool
+    ensures { result ≡ list_any (λ c. is_key c.role) columns.now }
+{
+    columns.iter().any(|column| column.role.is_key())
+}
+
+/// The first shown place: the key that all rows have is not shown.
+fn first_place(columns: &[AskedColumn]) -> usize
+    ensures { result ≡ spec.first_place columns.now }
+{
+    if has_key(columns) { 0 } else { 1 }
+}
+
+/// Where a column comes from.
+fn source_at(place: usize, column: &AskedColumn) -> Source
+    ensures { result ≡ spec.source_at place column.now }
+{
+    if column.role.is_mean() {
+        Source::Mean(place)
+    } else {
+        Source::Value(place)
+    }
+}
+
+/// How many columns of an answer a shown one has.
+fn width(column: &AskedColumn) -> usize
+    ensures { result ≡ spec.width column.now.role }
+{
+    if column.role.has_halves() { 2 } else { 1 }
+}
+
 /// Where shown columns come from, in their order.
 pub fn shown_columns(alloc: Global, columns: &[AskedColumn]) -> Result<Vec<Source>, AllocError>
-    ensures { IfOk result (λ v. v.items ≡ asked.shown_columns columns.now) }
+    ensures sources { IfOk result (λ v. v.items ≡ spec.shown_columns columns.now) }
 {
     let mut sources = Vec::new(alloc);
-    let mut place = if columns.iter().any(|column| column.role.is_key()) {
-        0
-    } else {
-        1
-    };
+    let mut place = first_place(columns);
     for column in columns {
-        if column.role.is_mean() {
-            sources.push(Source::Mean(place))?;
-        } else {
-            sources.push(Source::Value(place))?;
+        sources.push(source_at(place, column))?;
+        match place.checked_add(width(column)) {
+            Some(next) => place = next,
+            None => return Err(AllocError),
         }
-        let width = if column.role.has_halves() { 2 } else { 1 };
-        let Some(next) = place.checked_add(width) else {
-            return Err(AllocError);
-        };
-        place = next;
     }
     Ok(sources)
 }

@@ -42,7 +42,8 @@ fn shown_of(alloc: Global, pieces: &[Piece<'_>]) -> Result<Vec<AskedColumn>, Ask
 {
     let items = items_of(alloc, pieces)?;
     let columns = shown_all(alloc, &items)?;
-    tell_apart(alloc, columns)
+    let columns = tell_apart(alloc, columns)?;
+    Ok(columns)
 }
 
 /// The columns that pieces ask for, and how options say they are shown.
@@ -139,21 +140,28 @@ fn asked_of(alloc: Global, matches: &ArgMatches<'_>) -> Result<Asked, AskError>
     })
 }
 
+/// What matches come to.
+fn read_matches(alloc: Global, matches: &ArgMatches<'_>) -> Result<Reading, AllocError>
+    ensures { IfOk result
+        (λ r. spec.IsReading r (spec.ask_or (spec.asked_in (rows_of (found_of matches.now))))) }
+{
+    match asked_of(alloc, matches) {
+        Ok(asked) => Ok(Reading::Asked(asked)),
+        Err(AskError::Refused(refusal)) => Ok(Reading::Refused(refusal)),
+        Err(AskError::Memory) => Err(AllocError),
+    }
+}
+
 /// What lent words come to.
 fn read_lent(alloc: Global, words: &[&str]) -> Result<Reading, AllocError>
     ensures { IfOk result
         (λ r. spec.IsReading r (spec.words_by (found_in (map (λ w. w.now) words.now)))) }
 {
-    let matches = match find_in(alloc, words)? {
-        Finding::Matches(matches) => matches,
-        Finding::Help(text) => return Ok(Reading::Help(text)),
-        Finding::Version(text) => return Ok(Reading::Version(text)),
-        Finding::Faulty(text) => return Ok(Reading::Faulty(text)),
-    };
-    match asked_of(alloc, &matches) {
-        Ok(asked) => Ok(Reading::Asked(asked)),
-        Err(AskError::Refused(refusal)) => Ok(Reading::Refused(refusal)),
-        Err(AskError::Memory) => Err(AllocError),
+    match find_in(alloc, words)? {
+        Finding::Matches(matches) => read_matches(alloc, &matches),
+        Finding::Help(text) => Ok(Reading::Help(text)),
+        Finding::Version(text) => Ok(Reading::Version(text)),
+        Finding::Faulty(text) => Ok(Reading::Faulty(text)),
     }
 }
 
@@ -170,7 +178,7 @@ fn lend<'a>(alloc: Global, words: &'a [Text]) -> Result<Vec<&'a str>, AllocError
 
 /// What the words of the program ask, or why they are refused; help and the version end apart.
 pub fn read_words(alloc: Global, words: &[Text]) -> Result<Reading, AllocError>
-    ensures { IfOk result (λ r. spec.IsReading r (spec.asked_of words.now)) }
+    ensures words { IfOk result (λ r. spec.IsReading r (spec.asked_of words.now)) }
 {
     let words = joined(alloc, words)?;
     let lent = lend(alloc, &words)?;
