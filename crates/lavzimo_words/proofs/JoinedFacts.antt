@@ -29,6 +29,7 @@ both a b c d xs ys h = (ap first h, ap second h)
     first : Option (List ℕ × List (List ℕ)) → List ℕ
     first None = a
     first (Some p) = p.0
+
     second : Option (List ℕ × List (List ℕ)) → List (List ℕ)
     second None = xs
     second (Some p) = p.1

@@ -67,10 +67,11 @@ aggregate_name c = if has_halves c.role then c.name else c.name ++ codes "_value
 abbrev pub agg_expr : AskedColumn → Expr
 agg_expr c = expr.alias (measured c) (aggregate_name c)
 
--- the shown columns that are keys, and the others
+-- the shown columns that are keys
 abbrev pub keys_in : List AskedColumn → List AskedColumn
 keys_in shown = filter (λ c. is_key c.role) shown
 
+-- the others
 abbrev pub aggs_in : List AskedColumn → List AskedColumn
 aggs_in shown = filter (λ c. not (is_key c.role)) shown
 
@@ -98,7 +99,6 @@ query_of_words c = written_tree (written_of c.columns (is_first c.order))
 -- how many columns of the answer a shown one has
 abbrev pub width : Role → ℕ
 width r = if has_halves r then 2 else 1
-
 
 -- where a shown column comes from, by its first column of the answer
 abbrev pub source_at : ℕ → AskedColumn → Source

@@ -50,8 +50,6 @@ titled_by text (Some cut) = (cut.0, Some cut.1)
 abbrev pub titled : List ℕ → List ℕ × Option (List ℕ)
 titled text = titled_by text (rsplit_once 61 text)
 
-
-
 -- a column in a role, with its type where one is said, and its name where one is given
 abbrev pub item_as : Role → List ℕ × Option DataType → Option (List ℕ) → Item
 item_as r column name = record {

@@ -33,7 +33,6 @@ usual_type items column = if has_numbers items column then dt.Int64 else dt.Stri
 abbrev pub column_type : List Item → List ℕ → DataType
 column_type items column = unwrap_or (said_type items column) (usual_type items column)
 
-
 -- whether a type is the one that is said, if one is
 abbrev pub is_as_said : Option DataType → DataType → Bool
 is_as_said None t = true

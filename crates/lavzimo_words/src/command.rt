@@ -138,7 +138,11 @@ fn with_answer<'a>(alloc: Global, command: Command<'a>) -> Result<Command<'a>, A
         ≡ spec.with_options ArgAction.Set (app_of command.entry) answer_options) }
 {
     let options = [
-        of_run("order", "ORDER", "key, first, a shown column, or -COLUMN for downwards"),
+        of_run(
+            "order",
+            "ORDER",
+            "key, first, a shown column, or -COLUMN for downwards",
+        ),
         of_run("offset", "N", "Leaves out so many rows at the front"),
         of_run("limit", "N", "Shows so many rows at most"),
         of_run("format", "FORMAT", "csv or json"),
@@ -236,10 +240,7 @@ fn end_of<'a>(alloc: Global, error: &Error) -> Result<Finding<'a>, AllocError>
 }
 
 /// What the command finds in words, or the text with which it ends.
-pub(crate) fn find_in<'a>(
-    alloc: Global,
-    words: &'a [&'a str],
-) -> Result<Finding<'a>, AllocError>
+pub(crate) fn find_in<'a>(alloc: Global, words: &'a [&'a str]) -> Result<Finding<'a>, AllocError>
     ensures { IfOk result (λ f. IsFinding f (spec.found_in (map (λ w. w.now) words.entry.now))) }
 {
     let command = lavzimo_command(alloc)?;

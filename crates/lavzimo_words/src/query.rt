@@ -130,11 +130,7 @@ fn aggregate(role: Role, input: Node) -> IRAggExpr
 }
 
 /// Adds what the rows of a group have.
-fn add_measured(
-    alloc: Global,
-    arena: &mut Arena,
-    column: &AskedColumn,
-) -> Result<Node, AllocError>
+fn add_measured(alloc: Global, arena: &mut Arena, column: &AskedColumn) -> Result<Node, AllocError>
     ensures { IfOk result
         (λ n. IsAdded (Some (spec.measured column.now)) arena.old arena.new (Some n)) }
 {

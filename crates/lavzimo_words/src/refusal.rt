@@ -18,7 +18,10 @@ pub enum Refusal {
     BesideQuery(Text),
     /// A piece of an option's list lacks a column's name, or the name behind its `=`.
     #[error("--{}: `{}` lacks a name", option.as_str(), piece.as_str())]
-    Nameless { option: Text, piece: Text },
+    Nameless {
+        option: Text,
+        piece: Text,
+    },
     /// A column is said to have two types.
     #[error("column {} is said to have two types", .0.as_str())]
     TwoTypes(Text),
@@ -37,7 +40,10 @@ pub enum Refusal {
     NoOutput(Text),
     /// The value of an option isn't a number that it may have.
     #[error("--{} can't be {}", option.as_str(), value.as_str())]
-    NoNumber { option: Text, value: Text },
+    NoNumber {
+        option: Text,
+        value: Text,
+    },
     /// A format of no such name.
     #[error("--format can't be {}: csv or json", .0.as_str())]
     NoFormat(Text),

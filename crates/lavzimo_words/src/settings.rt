@@ -19,11 +19,18 @@ use std::alloc::Global;
 fn place_of(columns: &[AskedColumn], name: &str) -> Option<usize>
     ensures { result ≡ spec.place_of columns.now name.now }
 {
-    columns.iter().position(|column| column.name.as_str() == name)
+    columns
+        .iter()
+        .position(|column| column.name.as_str() == name)
 }
 
 /// An order by the shown column of a name.
-fn order_by(alloc: Global, columns: &[AskedColumn], name: &str, down: bool) -> Result<Order, AskError>
+fn order_by(
+    alloc: Global,
+    columns: &[AskedColumn],
+    name: &str,
+    down: bool,
+) -> Result<Order, AskError>
     ensures order { IfOk result (λ o. spec.order_to down columns.now name.now ≡ Ok o) }
     ensures cause { IfErr result
         (λ e. IsRefusedFor e (spec.order_to down columns.now name.now)) }
