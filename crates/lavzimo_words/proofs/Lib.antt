@@ -1,0 +1,9 @@
+pub mod ResultFacts
+pub mod NumberFacts
+pub mod CommandFacts
+pub mod JoinedFacts
+pub mod FlatMore
+pub mod PieceFacts
+pub mod QueryFacts
+pub mod SourceFacts
+pub mod CutFacts

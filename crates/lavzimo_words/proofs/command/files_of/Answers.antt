@@ -1,0 +1,15 @@
+use Rattle.std.proofs.Common.{◌≡◌, ◌∙◌, ℕ, List, Bor, Option, codes, map, option_map, ap, sym, rules}
+use Rattle.clap.specs.Words.{all_of, found_of, rows_of}
+use Rattle.lavzimo_words.specs.Asked.{files_in}
+use Rattle.lavzimo_words.proofs.CommandFacts.{files-lent}
+use Rattle.lavzimo_words.proofs.command.files_of.Goals as goal
+
+pub returns-in-Some : goal.returns-in-Some
+returns-in-Some c =
+    let lent = files-lent (found_of c.args.matches.now) c.get_strs.result c.get_strs.ensures in
+    rw (← lent) (grind rules)
+
+pub returns-in-None : goal.returns-in-None
+returns-in-None c =
+    let lent = files-lent (found_of c.args.matches.now) c.get_strs.result c.get_strs.ensures in
+    rw (← lent) (grind rules)

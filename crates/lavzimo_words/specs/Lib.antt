@@ -1,0 +1,12 @@
+pub mod Roles
+pub mod Results
+pub mod Command
+pub mod Joined
+pub mod Items
+pub mod Shown
+pub mod Settings
+pub mod Asked
+pub mod AskedQuery
+pub mod Finding
+pub mod Pieces
+pub mod Worked
