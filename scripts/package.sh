@@ -1,10 +1,12 @@
 #!/usr/bin/env bash
 # Makes a Debian package of the proved program, its man page and its licence, without root: lavzimo_VERSION_amd64.deb in
-# the folder that is the argument, or in out/. The version stands in VERSION. Builds the program first, where it isn't built.
+# the folder that is the argument, or in out/. The version stands in VERSION; the maintainer is that of the last commit, or
+# MAINTAINER. Builds the program first, where it isn't built.
 set -eu
 cd "$(dirname "$0")/.."
 into=$(mkdir -p "${1:-out}" && cd "${1:-out}" && pwd)
 version=$(cat VERSION)
+maintainer=${MAINTAINER:-$(git log -1 --format='%an <%ae>')}
 tree=$(mktemp -d)
 trap 'rm -rf "$tree"' EXIT
 umask 022
@@ -24,13 +26,13 @@ done
     printf 'License: Expat\n'
     sed -n '/^Permission/,$p' LICENSE | sed 's/^$/./; s/^/ /'
 } >"$docs/copyright"
-printf 'lavzimo (%s) unstable; urgency=low\n\n  * Built from source.\n\n -- Lavzimo <lavzimo@localhost>  %s\n' \
-    "$version" "$(date -R -d "@${SOURCE_DATE_EPOCH:-$(git log -1 --format=%ct 2>/dev/null || date +%s)}")" | gzip -9n >"$docs/changelog.gz"
+printf 'lavzimo (%s) unstable; urgency=low\n\n  * Built from source.\n\n -- %s  %s\n' \
+    "$version" "$maintainer" "$(date -R -d "@${SOURCE_DATE_EPOCH:-$(git log -1 --format=%ct 2>/dev/null || date +%s)}")" | gzip -9n >"$docs/changelog.gz"
 cat >"$tree/DEBIAN/control" <<CONTROL
 Package: lavzimo
 Version: $version
 Architecture: amd64
-Maintainer: Lavzimo <lavzimo@localhost>
+Maintainer: $maintainer
 Installed-Size: $(du -ks "$tree/usr" | cut -f 1)
 Depends: libc6
 Section: utils

@@ -9,7 +9,7 @@ trap 'rm -rf "$work"' EXIT
 chmod 755 "$work"
 scripts/package.sh "$work" >/dev/null
 package=$(echo "$work"/lavzimo_*.deb)
-lintian --fail-on error "$package"
+lintian --fail-on error --suppress-tags bogus-mail-host,bogus-mail-host-in-debian-changelog "$package"
 
 system=$work/system
 mkdir "$system"
