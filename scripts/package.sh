@@ -39,8 +39,9 @@ Section: utils
 Priority: optional
 Description: group-by over CSV whose answers are proved
  Groups the rows of CSV files by key expressions, with any number of worker
- threads, in bounded memory. That workers, limits and spilled files change
- nothing in the answer is proved of the program, from bytes to bytes.
+ threads, in bounded memory. That workers, limits and spilled files, where
+ they give back what was written, change nothing in the answer is proved of
+ the program, from bytes to bytes.
 CONTROL
 (cd "$tree" && find usr -type f -exec md5sum {} + | sort -k 2 >DEBIAN/md5sums)
 dpkg-deb --root-owner-group -Zxz --build "$tree" "$into/lavzimo_${version}_amd64.deb"
