@@ -134,10 +134,18 @@ def words_of(name):
         return file.read().splitlines()
 
 
-def differences_of_recipes(room):
+def script_of(name):
+    """The script of a recipe, and which of our programs it names."""
+    path = next(path for path in (os.path.join(EXAMPLES, name + ending) for ending in (".sh", ".py")) if os.path.exists(path))
+    return path, {program for program in NAMES if re.search(rf"\b{program}\b", read(path))}
+
+
+def differences_of_recipes(programs, room):
     """For each recipe the line that tells what it printed, or None."""
     for name in sorted(file.removesuffix(".args") for file in os.listdir(EXAMPLES) if file.endswith(".args")):
-        script = next(os.path.join(EXAMPLES, name + ending) for ending in (".sh", ".py") if os.path.exists(os.path.join(EXAMPLES, name + ending)))
+        script, asked = script_of(name)
+        if not asked <= set(programs):
+            continue
         done = subprocess.run([script, *words_of(name)], capture_output=True, text=True, cwd=room, check=False)
         with open(os.path.join(EXAMPLES, name + ".out"), encoding="utf-8") as file:
             same = (done.stdout, done.stderr, done.returncode) == (file.read(), "", 0)
@@ -240,10 +248,9 @@ def main():
     programs = {os.path.basename(path): os.path.abspath(path) for path in paths}
     with tempfile.TemporaryDirectory() as room:
         room_for(programs, room)
-        told = list(differences_of_pages(programs, room))
-        if "lavzimo" in programs:
-            subprocess.run(["sqlite3", "log.db"], input=TABLE, text=True, cwd=room, check=True)
-            told += [*differences_of_recipes(room), *differences_of_table(room)]
+        subprocess.run(["sqlite3", "log.db"], input=TABLE, text=True, cwd=room, check=True)
+        told = [*differences_of_pages(programs, room), *differences_of_recipes(programs, room)]
+        told += differences_of_table(room) if "lavzimo" in programs else []
     for line in filter(None, told):
         print(line)
     wrong = sum(map(bool, told))
