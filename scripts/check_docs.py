@@ -462,6 +462,14 @@ def check_manual(page, options, statuses):
             fault(page, 0, line.removeprefix(f"mandoc: {page}:"))
 
 
+def check_version():
+    """The version that lavzimo tells is that of the package."""
+    path = "crates/lavzimo_words/src/command.rt"
+    told, version = re.findall(r'\.version\("([^"]*)"\)', read(path)), read("VERSION").strip()
+    if told != [version]:
+        fault(path, 0, f"the version is {', '.join(told)}, and in VERSION {version}")
+
+
 def rooms():
     """The rooms of crates.txt, in order: the word of each heading, and its crates."""
     found = []
@@ -521,6 +529,7 @@ def main():
     check_manual("man/group_tool.1", options, statuses_of("tool_answer"))
     check_manual("man/lavzimo.1", of_lavzimo | APART, statuses_of(LAVZIMO))
     check_manual("man/rollup_tool.1", set(), statuses_of("rollup_answer"))
+    check_version()
     check_map("docs/ARCHITECTURE.md")
     check_edits()
     words = sum(bool(re.search(r"\w", word)) for word in read("README.md").split())
