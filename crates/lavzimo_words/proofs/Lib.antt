@@ -7,3 +7,4 @@ pub mod PieceFacts
 pub mod QueryFacts
 pub mod SourceFacts
 pub mod CutFacts
+pub mod AskableFacts
