@@ -8,3 +8,8 @@ pub mod QueryFacts
 pub mod SourceFacts
 pub mod CutFacts
 pub mod AskableFacts
+pub mod FieldFacts
+pub mod SoundFacts
+pub mod NameFacts
+pub mod AnsweredFacts
+pub mod AskedLaws
