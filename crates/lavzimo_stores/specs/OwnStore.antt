@@ -1,4 +1,4 @@
--- What is known of a store of a run: that of a store in memory, or that of one in a file, which tells nothing.
+-- What is known of a store of a run: that of one in memory, or that of one in a file, which tells nothing.
 use Rattle.std.specs.Prelude.{◌≡◌, ℕ, Bool, false, List, Option, None, Some, IsTrue, refl}
 use Rattle.pipe_spill.specs.MemoryStore as memory
 use Rattle.pipe_spill.specs.FileStore as file

@@ -214,8 +214,8 @@ places-of front (c ∷ cs) =
     let more = places-of (front ++ answer_fields c) cs in
     let next : length front + width c.role ≡ length (front ++ answer_fields c) = ap (λ n. length front + n) (sym (width-of c.role c.column c.name c.dtype)) ∙ sym (length-append front (answer_fields c)) in
     let others : map (fields_at (front ++ (answer_fields c ++ rest))) (sources_from (length front + width c.role) cs) ≡ map shown_fields cs =
-      ap (λ n. map (fields_at (front ++ (answer_fields c ++ rest))) (sources_from n cs)) next
-      ∙ ap (λ xs. map (fields_at xs) (sources_from (length (front ++ answer_fields c)) cs)) (sym (append_assoc front (answer_fields c) rest)) ∙ more in
+    ap (λ n. map (fields_at (front ++ (answer_fields c ++ rest))) (sources_from n cs)) next
+    ∙ ap (λ xs. map (fields_at xs) (sources_from (length (front ++ answer_fields c)) cs)) (sym (append_assoc front (answer_fields c) rest)) ∙ more in
     λ i. one i ∷ others i
 
 -- the first place that is shown is behind the hidden column

@@ -1,5 +1,5 @@
 -- What words come to may be asked for.
-use Rattle.std.proofs.Common.{◌≡◌, ◌≢◌, ◌∙◌, ◌<◌, ◌++◌, ◌==◌, ◌&&◌, ℕ, Bool, true, false, not, cond, List, [], ◌∷◌, length, map, filter, filter_map, flat_map, find, position, All, IfOk, IfSome, Option, Some, None, Result, Ok, Err, nat_lt, bytes_eq, codes, refl, sym, ap, ltb-true, suc-ne-zero}
+use Rattle.std.proofs.Common.{◌≡◌, ◌≢◌, ◌∙◌, ◌<◌, ◌++◌, ◌==◌, ◌&&◌, ℕ, Bool, true, false, not, cond, List, [], ◌∷◌, length, map, filter, filter_map, flat_map, find, position, All, IfOk, IfSome, Option, Some, None, Result, Ok, Err, nat_lt, bytes_eq, codes, refl, sym, ap, subst, ltb-true, suc-ne-zero}
 use Rattle.std.specs.Prelude.{⊤, unwrap_or, option_and_then}
 use Rattle.std.specs.Path.{rsplit_once}
 use Rattle.std.specs.List.{AllByRecursion, cons_option, list_all, position_or_len}
@@ -12,8 +12,8 @@ use Rattle.pipe_columns.specs.declared.data_type.DataType.TheVariants as dt
 use Rattle.pipe_columns.specs.DataType.{is_input}
 use Rattle.pipe_query.specs.JsonNames.{named}
 use Rattle.pipe_words.specs.declared.plan.Format.{Format}
-use Rattle.lavzimo_words.specs.Askable.{ComesToAskable, IsAskable, IsOrderWithin, MayBeAsked}
-use Rattle.lavzimo_words.specs.Asked.{AskedSeen, ColumnsSeen, QuestionSeen, ask_or, asked_in, asked_of, beside_query, columns_in, file_alone, files_in, of_columns, question_by, question_in, words_by}
+use Rattle.lavzimo_words.specs.Askable.{ComesToAskable, HasAskable, IsAskable, IsOrderWithin, MayBeAsked}
+use Rattle.lavzimo_words.specs.Asked.{AskedSeen, ColumnsSeen, IsReading, QuestionSeen, Words, ask_or, asked_in, asked_of, beside_query, columns_in, file_alone, files_in, of_columns, question_by, question_in, words_by}
 use Rattle.lavzimo_words.specs.AskedQuery.{aggs_in, keys_in}
 use Rattle.lavzimo_words.specs.Command.{Found, found_in, stops, taken}
 use Rattle.lavzimo_words.specs.Items.{counts_rows, item_as, item_of, items_of, pieces_for, pieces_in, pieces_of, roles_in, titled, type_named, type_names, typed, typed_as, typed_by, with_names, written_item}
@@ -29,6 +29,8 @@ use Rattle.lavzimo_words.specs.declared.item.Item.{Item}
 use Rattle.lavzimo_words.specs.declared.refusal.Refusal.{Refusal}
 use Rattle.lavzimo_words.specs.declared.refusal.Refusal.TheVariants as refusal
 use Rattle.lavzimo_words.specs.declared.role.Role.{Role}
+use Rattle.lavzimo_words.specs.declared.words.Reading.{Reading}
+use Rattle.lavzimo_words.specs.declared.words.Reading.TheVariants as reading
 use Rattle.lavzimo_words.specs.declared.role.Role.TheVariants as role
 
 -- what holds of whatever comes of the next step
@@ -366,7 +368,7 @@ module _ (dir : Option (List ℕ)) (files : List (List ℕ)) where
   rest-asked (Ok q) h (Ok f) (Ok w) (Err e) = tt
   rest-asked (Ok q) h (Ok f) (Ok w) (Ok p) = h
 
-found-askable : (f : Found) → ComesToAskable (words_by f)
+pub found-askable : (f : Found) → ComesToAskable (words_by f)
 found-askable (stops kinds) = tt
 found-askable (taken rows) = rest-asked (first_of (codes "spill-dir") rows) (files_in (all_of (codes "files") rows))
     (question_in rows) (question-asked rows (first_of (codes "query") rows)) (format_of (first_of (codes "format") rows)) (number_of 1 256 (codes "workers") rows) (number_of 1 4096 (codes "partitions") rows)
@@ -374,3 +376,11 @@ found-askable (taken rows) = rest-asked (first_of (codes "spill-dir") rows) (fil
 -- words come to what may be asked for
 pub words-askable : (words : List (List ℕ)) → ComesToAskable (asked_of words)
 words-askable words = found-askable (found_in (joined words))
+
+-- so may what was read
+pub reading-askable : (r : Reading) (w : Words) → IsReading r w → ComesToAskable w → HasAskable r
+reading-askable (reading.Asked a) w is h = subst ComesToAskable is h
+reading-askable (reading.Refused r) w is h = tt
+reading-askable (reading.Help text) w is h = tt
+reading-askable (reading.Version text) w is h = tt
+reading-askable (reading.Faulty text) w is h = tt

@@ -26,7 +26,7 @@ distinct-push (m ∷ ns) n h new =
     let old = or_parts (list_any (λ k. bytes_eq k m) ns) (has_double ns) h in
     let apart = or_parts (bytes_eq m n) (list_any (λ k. bytes_eq k n) ns) new in
     let last : (list_any (λ k. bytes_eq k m) (ns ++ n ∷ [])) ≡ false =
-      list_any-append (λ k. bytes_eq k m) ns (n ∷ []) ∙ or_from (list_any (λ k. bytes_eq k m) ns) _ old.0 (or_from (bytes_eq n m) false (turned-apart m n apart.0) refl) in
+    list_any-append (λ k. bytes_eq k m) ns (n ∷ []) ∙ or_from (list_any (λ k. bytes_eq k m) ns) _ old.0 (or_from (bytes_eq n m) false (turned-apart m n apart.0) refl) in
     or_from (list_any (λ k. bytes_eq k m) (ns ++ n ∷ [])) (has_double (ns ++ n ∷ [])) last (distinct-push ns n old.1 apart.1)
 
 -- fields of distinct names, each of the type that a column of its name has
@@ -48,12 +48,12 @@ of-more types fields c h typed read =
     let new : Field = record { name = c.column; dtype = c.dtype } in
     cond_both (is_there fields c) fields (fields ++ new ∷ []) (AreOf types) (λ _. h)
     (λ none.
-      let absent : list_any (λ m. bytes_eq m c.column) (field_names fields) ≡ false = named-any c.column fields ∙ (or_parts (is_rows c.role) (has_field fields c.column) none).1 in
-      record {
-        distinct = ap has_double (map-append (λ f. f.name) fields (new ∷ [])) ∙ distinct-push (field_names fields) c.column h.distinct absent;
-        typed = all-push (λ f. f.dtype ≡ types f.name) fields new h.typed typed;
-        read = list_all-append (λ f. is_input f.dtype) fields (new ∷ []) ∙ and_from (list_all (λ f. is_input f.dtype) fields) _ h.read (and_from (is_input c.dtype) true read refl);
-      })
+    let absent : list_any (λ m. bytes_eq m c.column) (field_names fields) ≡ false = named-any c.column fields ∙ (or_parts (is_rows c.role) (has_field fields c.column) none).1 in
+    record {
+      distinct = ap has_double (map-append (λ f. f.name) fields (new ∷ [])) ∙ distinct-push (field_names fields) c.column h.distinct absent;
+      typed = all-push (λ f. f.dtype ≡ types f.name) fields new h.typed typed;
+      read = list_all-append (λ f. is_input f.dtype) fields (new ∷ []) ∙ and_from (list_all (λ f. is_input f.dtype) fields) _ h.read (and_from (is_input c.dtype) true read refl);
+    })
 
 of-all : (types : List ℕ → DataType) (cs : List AskedColumn) (fields : List Field) → AreOf types fields → AllByRecursion (λ c. c.dtype ≡ types c.column) cs → AllByRecursion (λ c. is_input c.dtype ≡ true) cs
     → AreOf types (fold with_field fields cs)

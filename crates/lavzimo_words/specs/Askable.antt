@@ -1,9 +1,9 @@
 -- What may be asked of columns, which is what words come to where they ask for columns.
-use Rattle.std.specs.Prelude.{◌≡◌, ◌≢◌, ◌<◌, ◌++◌, ℕ, true, List, length, Option, None, ⊤}
+use Rattle.std.specs.Prelude.{◌≡◌, ◌≢◌, ◌<◌, ◌++◌, ℕ, true, List, length, None, ⊤}
 use Rattle.std.specs.List.{All}
 use Rattle.pipe_columns.specs.declared.data_type.DataType.{DataType}
 use Rattle.pipe_columns.specs.DataType.{is_input}
-use Rattle.lavzimo_words.specs.Asked.{AskedSeen, ColumnsSeen, QuestionSeen, Words, ask, ended, of_columns, of_file, question_seen, refused}
+use Rattle.lavzimo_words.specs.Asked.{ColumnsSeen, QuestionSeen, Words, ask, ended, of_columns, of_file, question_seen, refused}
 use Rattle.lavzimo_words.specs.AskedQuery.{aggs_in, keys_in}
 use Rattle.lavzimo_words.specs.Roles.{suits}
 use Rattle.lavzimo_words.specs.Shown.{first_double}
@@ -19,9 +19,9 @@ IsOrderWithin count order.First = ⊤
 IsOrderWithin count (order.Up place) = place < count
 IsOrderWithin count (order.Down place) = place < count
 
--- columns may be asked for: there is one, keys stand before the others, and no two are shown under one
--- name; a column has one type, which one of a file can have and which suits what is asked of it; and
--- the order is by a column that is there
+-- columns may be asked for: there is one, keys stand before the others, and no two are shown under
+-- one name; a column has one type, which one of a file can have and which suits what is asked of it;
+-- and the order is by a column that is there
 pub record IsAskable (c : ColumnsSeen) : Type 0 where
   pub some : length c.columns ≢ 0
   pub keys_first : c.columns ≡ keys_in c.columns ++ aggs_in c.columns

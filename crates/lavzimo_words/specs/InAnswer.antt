@@ -11,8 +11,8 @@ use Rattle.lavzimo_words.specs.declared.role.Role.TheVariants as role
 use Rattle.lavzimo_words.specs.declared.source.Source.{Source}
 use Rattle.lavzimo_words.specs.declared.source.Source.TheVariants as source
 
--- the type of what is shown of a column of a type: counts have 32 bits, sums are exact, and days that
--- are compared are numbers
+-- the type of what is shown of a column of a type: counts have 32 bits, sums are exact, and days
+-- that are compared are numbers
 abbrev pub shown_type : Role → DataType → DataType
 shown_type role.Key t = t
 shown_type role.Rows t = dt.UInt32
@@ -26,7 +26,8 @@ shown_type role.Last t = t
 
 -- how names of the answer's columns end
 abbrev pub ending_of : Role → List ℕ
-ending_of r = if is_key r then codes "_key" else (if has_halves r then codes "_sum" else codes "_value")
+ending_of r =
+    if is_key r then codes "_key" else (if has_halves r then codes "_sum" else codes "_value")
 
 -- the answer's column of a shown one: its value, or the exact sum of its mean
 abbrev pub value_field : AskedColumn → Field

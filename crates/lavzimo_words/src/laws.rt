@@ -1,5 +1,5 @@
-//! What holds of whatever words ask of columns, and of the query that they make: each clause is a law,
-//! and stands on an empty function.
+//! What holds of whatever words ask of columns, and of the query that they make: each clause is a
+//! law, and stands on an empty function.
 
 ghost use Rattle.std.specs.Prelude.{◌≡◌, ◌≢◌, List, None, ℕ, length, map, take};
 ghost use Rattle.pipe_aggs.specs.Faults.{written_fault};
@@ -20,8 +20,8 @@ pub fn asked_queries_have_no_fault()
         → written_fault (written_of c.columns (is_first c.order)) ≡ None }
 {}
 
-/// In the answer of the query each shown column stands where it is said to: the column of its own name,
-/// and behind the exact sum of a mean its count.
+/// In the answer of the query each shown column stands where it is said to: the column of its own
+/// name, and behind the exact sum of a mean its count.
 pub fn shown_columns_are_in_the_answer()
     ensures { (c : ColumnsSeen) → IsAskable c
         → map (fields_at (output_schema (query_of_words c))) (shown_columns c.columns)
