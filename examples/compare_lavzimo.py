@@ -35,18 +35,20 @@ def quoted(text):
 def lines_of_log(rows, chance):
     """The rows of a log: of status 304 none has bytes, of 204 each has 0; some have no status, no user, no latency."""
     users = ["", "ann", "O'Brien", 'Bo "the" Li', "Smith, J.", "two\nlines", "Zoë", " x "] + [f"u{i}" for i in range(3000)]
-    paths = ["/", "/a,b", '/q?x="1"', "/ü"] + [f"/page/{i}" for i in range(500)]
-    states = ["200"] * 12 + ["204", "304", "404", "500", ""]
+    users, paths = [*map(quoted, users)], [*map(quoted, ["/", "/a,b", '/q?x="1"', "/ü"] + [f"/page/{i}" for i in range(500)])]
+    states, oks, sizes = ["200"] * 12 + ["204", "304", "404", "500", ""], ["true", "false", ""], {"304": "", "204": "0"}
+
+    def one_of(values):
+        return values[int(chance.random() * len(values))]
+
     yield ",".join(COLUMNS)
     for row in range(rows):
-        status = chance.choice(states)
-        size = {"304": "", "204": "0"}.get(status, str(chance.randrange(100000)) * (chance.random() < 0.95))
-        hour = row * 24 // rows
-        latency = "" if chance.random() < 0.05 else str(chance.randrange(-2, 900))
-        user = chance.choice(users) if chance.random() < 0.6 else ""
-        yield ",".join([
-            f"2026-11-{1 + row % 30:02}T{hour:02}:{row % 60:02}:00", f"h{chance.randrange(40)}", quoted(user), quoted(chance.choice(paths)),
-            status, str(hour), size, latency, str(20758 + row % 30) if row % 11 else "", chance.choice(["true", "false", ""])])
+        status, hour, day = one_of(states), row * 24 // rows, row % 30
+        size = sizes[status] if status in sizes else str(int(chance.random() * 100000)) if chance.random() < 0.95 else ""
+        latency = "" if chance.random() < 0.05 else str(int(chance.random() * 902) - 2)
+        user = one_of(users) if chance.random() < 0.6 else ""
+        time_of_row = f"2026-11-{1 + day:02}T{hour:02}:{row % 60:02}:00"
+        yield f"{time_of_row},h{row * 7 % 40},{user},{one_of(paths)},{status},{hour},{size},{latency},{20758 + day if row % 11 else ''},{one_of(oks)}"
 
 
 def made_log(path, rows):
