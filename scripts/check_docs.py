@@ -528,7 +528,9 @@ def main():
     check_table_of_options("docs/FORMATS.md", options)
     check_manual("man/group_tool.1", options, statuses_of("tool_answer"))
     check_manual("man/lavzimo.1", of_lavzimo | APART, statuses_of(LAVZIMO))
-    check_manual("man/rollup_tool.1", set(), statuses_of("rollup_answer"))
+    for name in ("rollup", "summary"):
+        if there(f"crates/{name}_tool"):
+            check_manual(f"man/{name}_tool.1", set(), statuses_of(f"{name}_answer"))
     check_version()
     check_map("docs/ARCHITECTURE.md")
     check_edits()

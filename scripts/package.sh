@@ -12,6 +12,7 @@ trap 'rm -rf "$tree"' EXIT
 umask 022
 chmod 755 "$tree"
 programs=(lavzimo group_tool rollup_tool)
+[ ! -e crates/summary_tool ] || programs+=(summary_tool)
 if [ -n "${BUILT:-}" ]; then
     for program in "${programs[@]}"; do
         install -D -m 755 "$BUILT/$program" "$tree/usr/bin/$program"
@@ -50,7 +51,7 @@ Description: group-by over CSV whose answers are proved
  where they give back what was written, change nothing in the answer is proved
  of the programs, from bytes to bytes.
  .
- lavzimo takes the names of columns, group_tool a query in JSON, and
+ lavzimo takes the names of columns, and group_tool a query in JSON;
  rollup_tool saves what groups come to, on many machines, and rolls it up.
 CONTROL
 (cd "$tree" && find usr -type f -exec md5sum {} + | sort -k 2 >DEBIAN/md5sums)
