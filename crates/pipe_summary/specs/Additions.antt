@@ -15,14 +15,14 @@ use Rattle.pipe_states.specs.Together.{total_rows}
 
 -- chunks from a first position on, behind so many rows: all rows are fewer than 2^32, and a range can
 -- end behind the last position
-pub record AreFewBehind (rows first : ℕ) (chunks : List DataChunk) : Type 0 where
-  pub rows : rows + total_height chunks < 2 ^ 32
+pub record AreFewBehind (before first : ℕ) (chunks : List DataChunk) : Type 0 where
+  pub rows : before + total_height chunks < 2 ^ 32
   pub positions : first + length chunks < 2 ^ 32
 
 -- all rows are 2^32 or more, or there are no such positions
 abbrev pub AreManyBehind : ℕ → ℕ → List DataChunk → Type 0
-AreManyBehind rows first chunks =
-    (2 ^ 32 ≤ rows + total_height chunks) ⊎ (2 ^ 32 ≤ first + length chunks)
+AreManyBehind before first chunks =
+    (2 ^ 32 ≤ before + total_height chunks) ⊎ (2 ^ 32 ≤ first + length chunks)
 
 -- chunks have the columns of a schema, and are few behind states
 pub record CanBeAdded (fields : List Field) (states : List StateSeen) (chunks : List DataChunk)

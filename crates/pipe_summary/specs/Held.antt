@@ -14,10 +14,10 @@ use Rattle.pipe_summary.specs.InTurn.{AreInTurn, HoldsStates, TellNoneBehind}
 use Rattle.pipe_summary.specs.Sums.{texts_of}
 
 -- states in turn, which end at a position and are of so many rows
-pub record HasReached (q : QueryTree) (states : List StateSeen) (end rows : ℕ) : Type 0 where
+pub record HasReached (q : QueryTree) (states : List StateSeen) (stop count : ℕ) : Type 0 where
   pub in_turn : AreInTurn q states
-  pub end : end ≡ end_of states
-  pub rows : rows ≡ total_rows states
+  pub end : stop ≡ end_of states
+  pub rows : count ≡ total_rows states
 
 -- a summary: its query doesn't keep order, and its store holds its states
 pub record IsSummary
@@ -34,10 +34,10 @@ pub record IsAdding
   pub counted : rows ≡ before + total_height taken
 
 -- the frame of a number is damaged: it is the text of no fair state
-pub record IsDamagedAt (q : QueryTree) (told : Option (List (List ℕ))) (number n : ℕ) : Type 0 where
-  pub number : n ≡ number
+pub record IsDamagedAt (q : QueryTree) (told : Option (List (List ℕ))) (at n : ℕ) : Type 0 where
+  pub number : n ≡ at
   pub none : IfSome told (λ frames. (bytes : List ℕ)
-      × (slice_get frames number ≡ Some bytes) × IsTextOfNone q bytes)
+      × (slice_get frames at ≡ Some bytes) × IsTextOfNone q bytes)
 
 -- the frame behind those of states is damaged: it is the text of none that could stand behind them
 pub record IsDamagedNext
