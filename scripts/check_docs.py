@@ -417,7 +417,7 @@ def check_table_of_options(text, options):
 
 def check_statuses(page, text):
     """The tables of statuses have those of the program, each at least once."""
-    path = "crates/tool_answer/src/status.rt"
+    path = "crates/tool_shell/src/status.rt"
     known = set(re.findall(r"pub const \w+: u8 = (\d+);", read(path)))
     for head, rows in tables(text):
         if head[0] == "status":
@@ -432,7 +432,7 @@ def check_manual(page, options):
     items = [line for line in read(page).splitlines() if line.startswith(".It ")]
     told = [f"-{name}" for name in re.findall(r"^\.It Fl (-[a-z-]+)", "\n".join(items), re.M)]
     statuses = re.findall(r"^\.It (\d+)$", "\n".join(items), re.M)
-    known = re.findall(r"pub const \w+: u8 = (\d+);", read("crates/tool_answer/src/status.rt"))
+    known = re.findall(r"pub const \w+: u8 = (\d+);", read("crates/tool_shell/src/status.rt"))
     for what, found, wanted in (("option", told, options), ("status", statuses, known)):
         for one in sorted(set(found) | set(wanted)):
             if found.count(one) != (one in wanted):
