@@ -57,7 +57,8 @@ input_of c =
 
 -- what the rows of a group have
 abbrev pub measured : AskedColumn → Expr
-measured c = if is_rows c.role then expr.len else expr.aggregate (aggregation_of c.role) (input_of c)
+measured c =
+    if is_rows c.role then expr.len else expr.aggregate (aggregation_of c.role) (input_of c)
 
 -- the name of an aggregate: the halves of a mean get endings of their own
 abbrev pub aggregate_name : AskedColumn → List ℕ
