@@ -151,16 +151,18 @@ finds-behind : (v : OptionUse) (rows : List Row) (us : List OptionUse) → list_
     → AllByRecursion (λ u. find (λ r. bytes_eq r.id (option_of u.role)) (row_for v ∷ rows) ≡ Some (row_for u)) us
 finds-behind v rows [] none h = tt
 finds-behind v rows (u ∷ us) none h =
-    let both = or_parts (bytes_eq (option_of u.role) (option_of v.role)) (list_any (λ m. bytes_eq m (option_of v.role)) (ids_of us)) none in
-    (cond-false (bytes_eq (option_of v.role) (option_of u.role)) (Some (row_for v)) (find (λ r. bytes_eq r.id (option_of u.role)) rows) (turned-apart (option_of u.role) (option_of v.role) both.0) ∙ h.0,
-      finds-behind v rows us both.1 h.1)
+    let both = or_parts (bytes_eq (option_of u.role) (option_of v.role)) (list_any (λ m. bytes_eq m (option_of v.role)) (ids_of us)) none in (
+      cond-false (bytes_eq (option_of v.role) (option_of u.role)) (Some (row_for v)) (find (λ r. bytes_eq r.id (option_of u.role)) rows) (turned-apart (option_of u.role) (option_of v.role) both.0) ∙ h.0,
+      finds-behind v rows us both.1 h.1,
+    )
 
 finds-all : (us : List OptionUse) (rest : List Row) → has_double (ids_of us) ≡ false → AllByRecursion (λ u. find (λ r. bytes_eq r.id (option_of u.role)) (map row_for us ++ rest) ≡ Some (row_for u)) us
 finds-all [] rest once = tt
 finds-all (u ∷ us) rest once =
-    let both = or_parts (list_any (λ m. bytes_eq m (option_of u.role)) (ids_of us)) (has_double (ids_of us)) once in
-    (cond-true (bytes_eq (option_of u.role) (option_of u.role)) (Some (row_for u)) (find (λ r. bytes_eq r.id (option_of u.role)) (map row_for us ++ rest)) ((bytes_eq-Decides (option_of u.role) (option_of u.role)).1 refl),
-      finds-behind u (map row_for us ++ rest) us both.0 (finds-all us rest both.1))
+    let both = or_parts (list_any (λ m. bytes_eq m (option_of u.role)) (ids_of us)) (has_double (ids_of us)) once in (
+      cond-true (bytes_eq (option_of u.role) (option_of u.role)) (Some (row_for u)) (find (λ r. bytes_eq r.id (option_of u.role)) (map row_for us ++ rest)) ((bytes_eq-Decides (option_of u.role) (option_of u.role)).1 refl),
+      finds-behind u (map row_for us ++ rest) us both.0 (finds-all us rest both.1),
+    )
 
 -- an option can be written, with its lists by recursion
 record IsWritten (u : OptionUse) : Type 0 where
@@ -188,7 +190,7 @@ pieces-found : (u : OptionUse) (rows : List Row) → find (λ r. bytes_eq r.id (
 pieces-found u rows found h true e =
     let count : find (λ r. bytes_eq r.id (codes "count")) rows ≡ Some (row_for u) = ap (λ id. find (λ r. bytes_eq r.id id) rows) (sym (rows-option u.role e)) ∙ found in
     let first : first_of (codes "count") rows ≡ Some (codes "true") =
-      ap (option_and_then (λ r. slice_get r.values 0)) count ∙ ap (λ b. slice_get (cond b (codes "true" ∷ []) (list_of u.columns ∷ [])) 0) e in
+    ap (option_and_then (λ r. slice_get r.values 0)) count ∙ ap (λ b. slice_get (cond b (codes "true" ∷ []) (list_of u.columns ∷ [])) 0) e in
     let counted : counts_rows rows ≡ true = ap (λ o. option_map_or (λ t. bytes_eq t (codes "true")) o false) first in
     rw (e, counted) refl
 pieces-found u rows found h false e = rw e (ap (map (λ p. (u.role, p))) (listed-pieces u rows found h e))
@@ -236,6 +238,7 @@ nothing-counted us files none = ap (λ o. option_map_or (λ t. bytes_eq t (codes
     absent (r ∷ rows) h rest =
         let both = or_parts (bytes_eq r.id (codes "count")) (has_row (codes "count") rows) h in
         cond-false (bytes_eq r.id (codes "count")) (Some r) (find (λ q. bytes_eq q.id (codes "count")) (rows ++ rest)) both.0 ∙ absent rows both.1 rest
+
     first : first_of (codes "count") (rows_with us files false) ≡ Some (codes "false")
     first =
         ap (first_of (codes "count")) (sym (append_assoc (map row_for us) (row_with (codes "files") files ∷ []) (extra false)))
@@ -304,12 +307,13 @@ keys-found (u ∷ us) rest once h none =
   where
     rows : List Row
     rows = map row_for us ++ rest
+
     by : (b : Bool) → is_key u.role ≡ b → list_any (λ m. bytes_eq m (option_of u.role)) (ids_of us) ≡ false → pieces_for (map row_for us ++ rest) role.Key ≡ key_pieces us
         → pieces_for (row_for u ∷ (map row_for us ++ rest)) role.Key ≡ cond b (use_pieces u ++ key_pieces us) (key_pieces us)
     by true e apart others =
         let id : u.role ≡ role.Key = key-name u.role e in
         let found : find (λ r. bytes_eq r.id (option_of u.role)) (row_for u ∷ (map row_for us ++ rest)) ≡ Some (row_for u) =
-          cond-true (bytes_eq (option_of u.role) (option_of u.role)) (Some (row_for u)) (find (λ r. bytes_eq r.id (option_of u.role)) (map row_for us ++ rest)) ((bytes_eq-Decides (option_of u.role) (option_of u.role)).1 refl) in
+        cond-true (bytes_eq (option_of u.role) (option_of u.role)) (Some (row_for u)) (find (λ r. bytes_eq r.id (option_of u.role)) (map row_for us ++ rest)) ((bytes_eq-Decides (option_of u.role) (option_of u.role)).1 refl) in
         let none_else : key_pieces us ≡ [] = no-keys us (ap (λ r. list_any (λ m. bytes_eq m (option_of r)) (ids_of us)) (sym id) ∙ apart) in
         ap (pieces_for (row_for u ∷ (map row_for us ++ rest))) (sym id) ∙ pieces-found u (row_for u ∷ (map row_for us ++ rest)) found h.0 (is_rows u.role) refl
         ∙ sym (append-nil (use_pieces u)) ∙ ap (λ ps. use_pieces u ++ ps) (sym none_else)
@@ -340,7 +344,6 @@ pieces-named u h true e = ap (map piece_in) (h.counted e) ∙ ap (λ r. (r, []) 
     rows-is role.First k = absurd (true≢false (sym k))
     rows-is role.Last k = absurd (true≢false (sym k))
 pieces-named u h false e = each-named u.role e u.columns h.roles
-
 
 -- columns of one role are all keys, or none is
 kept-all : (test : AskedColumn → Bool) (cs : List AskedColumn) → AllByRecursion (λ c. test c ≡ true) cs → filter test cs ≡ cs
@@ -396,9 +399,9 @@ pieces-back us files once h b e =
     let rows : List Row = rows_with us files b in
     let keys : pieces_for rows role.Key ≡ key_pieces us = keys-found us (row_with (codes "files") files ∷ extra b) once h (no-by b) in
     let others : flat_map (pieces_for rows) (filter_map (λ r. role_named r.id) rows) ≡ other_pieces us =
-      ap (flat_map (pieces_for rows)) (all-roles us files b) ∙ flat_map-append (pieces_for rows) (other_roles us) (extra_roles b)
-      ∙ ap (λ ps. ps ++ flat_map (pieces_for rows) (extra_roles b)) (others-found rows us (finds-all us (row_with (codes "files") files ∷ extra b) once) h)
-      ∙ ap (λ ps. other_pieces us ++ ps) (extra-pieces us files b e) ∙ append-nil (other_pieces us) in
+    ap (flat_map (pieces_for rows)) (all-roles us files b) ∙ flat_map-append (pieces_for rows) (other_roles us) (extra_roles b)
+    ∙ ap (λ ps. ps ++ flat_map (pieces_for rows) (extra_roles b)) (others-found rows us (finds-all us (row_with (codes "files") files ∷ extra b) once) h)
+    ∙ ap (λ ps. other_pieces us ++ ps) (extra-pieces us files b e) ∙ append-nil (other_pieces us) in
     (λ i. keys i ++ others i) ∙ (λ i. sym (keys-pieces us h) i ++ sym (others-pieces us h) i)
     ∙ sym (map-append piece_in (keys_in (all_columns us)) (aggs_in (all_columns us)))
   where
@@ -412,7 +415,7 @@ columns-back : (pieces : List (Role × List ℕ)) (rows : List Row) (cs : List A
     → columns_in pieces rows ≡ Ok (record { columns = cs; order = order.Key; offset = 0; limit = None })
 columns-back pieces rows cs shown by_order offset limit =
     let rest : List AskedColumn → Option (List ℕ) → Option (List ℕ) → Option (List ℕ) → Result ColumnsSeen Refusal =
-      λ ds o f l. on_ok (λ by. on_ok (λ first. ok_as (λ most_shown. record { columns = ds; order = by; offset = unwrap_or first 0; limit = most_shown }) (number_said 0 most (codes "limit") l)) (number_said 0 most (codes "offset") f)) (order_of ds o) in
+    λ ds o f l. on_ok (λ by. on_ok (λ first. ok_as (λ most_shown. record { columns = ds; order = by; offset = unwrap_or first 0; limit = most_shown }) (number_said 0 most (codes "limit") l)) (number_said 0 most (codes "offset") f)) (order_of ds o) in
     ap (on_ok (λ ds. rest ds (first_of (codes "order") rows) (first_of (codes "offset") rows) (first_of (codes "limit") rows))) shown
     ∙ (λ i. rest cs (by_order i) (offset i) (limit i))
 
@@ -437,18 +440,18 @@ asked-back us files b shown =
     let rows : List Row = rows_with us files b in
     let none : (id : List ℕ) → IsElse id → first_of id rows ≡ None = λ id other. none-first id other us files b in
     let columns : question_in rows ≡ Ok (of_columns (record { columns = columns_of us; order = order.Key; offset = 0; limit = None })) =
-      ap (λ o. question_by o (pieces_in rows) rows) (none (codes "query") (else-of (codes "query") refl refl refl refl refl refl refl refl refl refl))
-      ∙ ap (ok_as of_columns) (columns-back (pieces_in rows) rows (columns_of us) shown
-        (none (codes "order") (else-of (codes "order") refl refl refl refl refl refl refl refl refl refl))
-        (none (codes "offset") (else-of (codes "offset") refl refl refl refl refl refl refl refl refl refl))
-        (none (codes "limit") (else-of (codes "limit") refl refl refl refl refl refl refl refl refl refl))) in
+    ap (λ o. question_by o (pieces_in rows) rows) (none (codes "query") (else-of (codes "query") refl refl refl refl refl refl refl refl refl refl))
+    ∙ ap (ok_as of_columns) (columns-back (pieces_in rows) rows (columns_of us) shown
+    (none (codes "order") (else-of (codes "order") refl refl refl refl refl refl refl refl refl refl))
+    (none (codes "offset") (else-of (codes "offset") refl refl refl refl refl refl refl refl refl refl))
+    (none (codes "limit") (else-of (codes "limit") refl refl refl refl refl refl refl refl refl refl))) in
     let format_none = none (codes "format") (else-of (codes "format") refl refl refl refl refl refl refl refl refl refl) in
     let workers_none = none (codes "workers") (else-of (codes "workers") refl refl refl refl refl refl refl refl refl refl) in
     let partitions_none = none (codes "partitions") (else-of (codes "partitions") refl refl refl refl refl refl refl refl refl refl) in
     let dir_none = none (codes "spill-dir") (else-of (codes "spill-dir") refl refl refl refl refl refl refl refl refl refl) in
     let whole : Result QuestionSeen Refusal → Option (List ℕ) → Option (List ℕ) → Option (List ℕ) → Option (List ℕ) → Option (List (List ℕ)) → Result AskedSeen Refusal =
-      λ q f w p d fs. on_ok (λ question. on_ok (λ form. on_ok (λ threads. ok_as (λ parts. record { question = question; format = form; workers = threads; partitions = unwrap_or parts 16; spill_dir = d; files = files_in fs })
-        (number_said 1 4096 (codes "partitions") p)) (number_said 1 256 (codes "workers") w)) (format_of f)) q in
+    λ q f w p d fs. on_ok (λ question. on_ok (λ form. on_ok (λ threads. ok_as (λ parts. record { question = question; format = form; workers = threads; partitions = unwrap_or parts 16; spill_dir = d; files = files_in fs })
+    (number_said 1 4096 (codes "partitions") p)) (number_said 1 256 (codes "workers") w)) (format_of f)) q in
     λ i. whole (columns i) (format_none i) (workers_none i) (partitions_none i) (dir_none i) (files-found us files b i)
 
 -- ---- the whole

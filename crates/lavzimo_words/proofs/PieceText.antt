@@ -44,10 +44,10 @@ cut-at b front name lacks =
     let text : List ℕ = front ++ b ∷ name in
     let size : length text ≡ length front + suc (length name) = length-append front (b ∷ name) in
     let place : rfind_below b text (length text) ≡ Some (length front) =
-      below-at b text (length front) (length text) (omega (arith, size)) (eq-eqb (get_or text (length front) 0) b (get_or_at front b name 0 (length front) refl))
-      (λ i a c. let j : ℕ = i - length front - 1 in
-        let is : length front + suc j ≡ i = omega (arith, a) in
-        ap (λ n. get_or text n 0 == b) (sym is) ∙ ap (λ x. x == b) (get_or-append-add front (b ∷ name) (suc j) 0) ∙ lacks-at b name j lacks (omega (arith, a, c, size))) in
+    below-at b text (length front) (length text) (omega (arith, size)) (eq-eqb (get_or text (length front) 0) b (get_or_at front b name 0 (length front) refl))
+    (λ i a c. let j : ℕ = i - length front - 1 in
+    let is : length front + suc j ≡ i = omega (arith, a) in
+    ap (λ n. get_or text n 0 == b) (sym is) ∙ ap (λ x. x == b) (get_or-append-add front (b ∷ name) (suc j) 0) ∙ lacks-at b name j lacks (omega (arith, a, c, size))) in
     ap (option_map (λ i. (take i text, drop (i + 1) text))) place
     ∙ (λ t. Some (take-append_seam front (b ∷ name) t, drop-append-add front (b ∷ name) 1 t))
 
@@ -211,9 +211,11 @@ unnamed types (c ∷ cs) h = or_from (bytes_eq c.column [] && not (is_rows c.rol
     nonempty : (name : List ℕ) → length name ≢ 0 → (bytes_eq name [] && true) ≡ false
     nonempty [] n = absurd (n refl)
     nonempty (x ∷ name) n = refl
+
     and-last : (b : Bool) → (b && false) ≡ false
     and-last true = refl
     and-last false = refl
+
     by : (r : Bool) → is_rows c.role ≡ r → (bytes_eq c.column [] && not r) ≡ false
     by true e = and-last (bytes_eq c.column [])
     by false e = nonempty c.column (h.0.listed e).column
@@ -275,9 +277,10 @@ there-behind d all (c ∷ cs) h = (λ e. or-after (bytes_eq d.column c.column &&
 
 all-there : (cs : List AskedColumn) → AllByRecursion (λ c. is_rows c.role ≡ false → has_column cs c.column ≡ true) cs
 all-there [] = tt
-all-there (c ∷ cs) =
-    (λ e. or-before (bytes_eq c.column c.column && not (is_rows c.role)) (has_column cs c.column) (and_from (bytes_eq c.column c.column) (not (is_rows c.role)) ((bytes_eq-Decides c.column c.column).1 refl) (ap not e)),
-      there-behind c cs cs (all-there cs))
+all-there (c ∷ cs) = (
+  λ e. or-before (bytes_eq c.column c.column && not (is_rows c.role)) (has_column cs c.column) (and_from (bytes_eq c.column c.column) (not (is_rows c.role)) ((bytes_eq-Decides c.column c.column).1 refl) (ap not e)),
+  there-behind c cs cs (all-there cs),
+)
 
 -- what is written of columns is shown as these columns
 pub columns-shown : (types : List ℕ → DataType) (cs : List AskedColumn) → AllByRecursion (CanBeIn types) cs → length cs ≢ 0 → first_double cs ≡ None → shown_of (map piece_in cs) ≡ Ok cs

@@ -80,9 +80,10 @@ AreFresh rows us = AllByRecursion (λ u. has_row (option_of u.role) rows ≡ fal
 fresh-push : (rows : List Row) (r : Row) (us : List OptionUse) → AreFresh rows us → list_any (λ m. bytes_eq m r.id) (ids_of us) ≡ false → AreFresh (rows ++ r ∷ []) us
 fresh-push rows r [] h new = tt
 fresh-push rows r (u ∷ us) h new =
-    let both = or_parts (bytes_eq (option_of u.role) r.id) (list_any (λ m. bytes_eq m r.id) (ids_of us)) new in
-    (list_any-append (λ q. bytes_eq q.id (option_of u.role)) rows (r ∷ []) ∙ or_from (has_row (option_of u.role) rows) _ h.0 (or_from (bytes_eq r.id (option_of u.role)) false (turned-apart (option_of u.role) r.id both.0) refl),
-      fresh-push rows r us h.1 both.1)
+    let both = or_parts (bytes_eq (option_of u.role) r.id) (list_any (λ m. bytes_eq m r.id) (ids_of us)) new in (
+      list_any-append (λ q. bytes_eq q.id (option_of u.role)) rows (r ∷ []) ∙ or_from (has_row (option_of u.role) rows) _ h.0 (or_from (bytes_eq r.id (option_of u.role)) false (turned-apart (option_of u.role) r.id both.0) refl),
+      fresh-push rows r us h.1 both.1,
+    )
 
 module _ (rest : List (List ℕ)) where
   walk-uses : (us : List OptionUse) (rows : List Row) → has_double (ids_of us) ≡ false → AreFresh rows us → fold (walked rules []) (before rows) (map word_of us ++ rest) ≡ fold (walked rules []) (before (rows ++ map row_for us)) rest
@@ -263,7 +264,7 @@ pub words-found : (us : List OptionUse) (file : List ℕ) (fs : List (List ℕ))
 words-found us file fs once =
     let ws : List (List ℕ) = words_of us (file ∷ fs) in
     let calm : fault_of lavzimo_app ws ≡ [] =
-      ap (λ ks. left_fault ks (walk rules [] nothing_held ws)) (calm-words us file fs once) ∙ ap (left_fault []) (walked-words us file fs once) ∙ end-calm fs (map row_for us) file in
+    ap (λ ks. left_fault ks (walk rules [] nothing_held ws)) (calm-words us file fs once) ∙ ap (left_fault []) (walked-words us file fs once) ∙ end-calm fs (map row_for us) file in
     ap (λ ks. found_by ks (matches_of lavzimo_app ws)) calm ∙ ap taken (matched-words us file fs once)
 
 -- ---- words that are joined

@@ -43,7 +43,7 @@ list_of [] = []
 list_of (c ∷ []) = piece_of c
 list_of (c ∷ d ∷ cs) = piece_of c ++ codes "," ++ list_of (d ∷ cs)
 
--- the word of an option: `--count`, or `--OPTION=LIST`
+-- the word of an option: its name, and behind it its list, but where rows are counted
 abbrev pub word_of : OptionUse → List ℕ
 word_of u =
     if is_rows u.role then codes "--count"

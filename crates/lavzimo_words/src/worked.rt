@@ -94,8 +94,11 @@ pub fn sources()
 pub fn words_of_options()
     ensures { words_of (record { role = role.Key; columns = text_key (codes "k") ∷ [] }
         ∷ record { role = role.Rows; columns = row_count ∷ [] }
-        ∷ record { role = role.Sum; columns = column_in role.Sum (codes "a") dt.Int64 (codes "s")
-        ∷ column_in role.Sum (codes "b:c") dt.UInt8 (codes "t") ∷ [] } ∷ []) (codes "-" ∷ [])
+        ∷ record {
+          role = role.Sum;
+          columns = column_in role.Sum (codes "a") dt.Int64 (codes "s")
+              ∷ column_in role.Sum (codes "b:c") dt.UInt8 (codes "t") ∷ [];
+        } ∷ []) (codes "-" ∷ [])
         ≡ codes "--by=k:text=k" ∷ codes "--count" ∷ codes "--sum=a:i64=s,b:c:u8=t"
         ∷ codes "--" ∷ codes "-" ∷ [] }
 {}
