@@ -1,9 +1,9 @@
 -- The rows that `clap` finds in written words ask for what was written.
-use Rattle.std.proofs.Common.{◌≡◌, ◌≢◌, ◌∙◌, ◌++◌, ◌||◌, ◌&&◌, ◌==◌, ℕ, Bool, true, false, not, cond, List, [], ◌∷◌, map, filter, filter_map, flat_map, length, find, bytes_eq, Option, Some, None, option_map, is_some, Result, Ok, Err, slice_get, codes, refl, sym, ap, subst, true≢false, append_assoc, append-nil, suc-ne-zero}
+use Rattle.std.proofs.Common.{◌≡◌, ◌≢◌, ◌∙◌, ◌++◌, ◌==◌, ℕ, Bool, true, false, not, cond, List, [], ◌∷◌, map, filter, filter_map, flat_map, length, find, bytes_eq, Option, Some, None, option_map, Result, Ok, slice_get, codes, refl, sym, ap, subst, true≢false, append_assoc, append-nil, suc-ne-zero}
 use Rattle.std.specs.Prelude.{option_and_then, unwrap_or}
 use Rattle.std.specs.Option.{option_map_or}
 use Rattle.std.specs.List.{AllByRecursion, cons_option, list_any, slice_split}
-use Rattle.std.proofs.lemmas.Bool.{and_from, cond-false, cond-true, cond_both, or_from, or_parts}
+use Rattle.std.proofs.lemmas.Bool.{cond-false, cond-true, cond_both, or_from, or_parts}
 use Rattle.std.proofs.lemmas.Grind.{flat_map-append}
 use Rattle.std.proofs.lemmas.List.{map-append}
 use Rattle.std.proofs.lemmas.List.Elements.{filter-append, filter_map-append, recursion_from_All}
@@ -15,20 +15,16 @@ use Rattle.pipe_columns.specs.declared.data_type.DataType.{DataType}
 use Rattle.pipe_columns.specs.declared.data_type.DataType.TheVariants as dt
 use Rattle.pipe_columns.specs.DataType.{is_input}
 use Rattle.pipe_aggs.specs.Faults.{has_double}
-use Rattle.pipe_words.specs.declared.plan.Format.{Format}
-use Rattle.pipe_words.specs.declared.plan.Format.TheVariants as format
 use Rattle.lavzimo_words.specs.Askable.{IsAskable}
 use Rattle.lavzimo_words.specs.Asked.{AskedSeen, ColumnsSeen, QuestionSeen, ask, ask_or, asked_in, asked_of, columns_in, files_in, of_columns, question_by, question_in, words_by}
 use Rattle.lavzimo_words.specs.AskedQuery.{aggs_in, keys_in}
-use Rattle.lavzimo_words.specs.Command.{Found, found_in, taken}
-use Rattle.lavzimo_words.specs.Items.{counts_rows, pieces_for, pieces_in, pieces_of, roles_in}
-use Rattle.lavzimo_words.specs.Joined.{joined}
+use Rattle.lavzimo_words.specs.Command.{found_in}
+use Rattle.lavzimo_words.specs.Items.{counts_rows, pieces_for, pieces_in, pieces_of}
 use Rattle.lavzimo_words.specs.Results.{ok_as, on_ok}
 use Rattle.lavzimo_words.specs.Roles.{is_key, is_rows, option_of, role_named, suits}
-use Rattle.lavzimo_words.specs.Settings.{format_of, most, number_of, number_said, order_of}
+use Rattle.lavzimo_words.specs.Settings.{format_of, most, number_said, order_of}
 use Rattle.lavzimo_words.specs.Shown.{shown_of}
-use Rattle.lavzimo_words.specs.WordsOf.{AreWritable, CanBeListed, CanBeWritten, OptionUse, asked_by, by_keys, columns_of, has, list_of, piece_of, rows_alone, type_text, word_of, words_of}
-use Rattle.lavzimo_words.specs.declared.asked.Order.{Order}
+use Rattle.lavzimo_words.specs.WordsOf.{AreWritable, CanBeListed, CanBeWritten, OptionUse, asked_by, by_keys, columns_of, has, list_of, piece_of, rows_alone, type_text, words_of}
 use Rattle.lavzimo_words.specs.declared.asked.Order.TheVariants as order
 use Rattle.lavzimo_words.specs.declared.asked_column.AskedColumn.{AskedColumn}
 use Rattle.lavzimo_words.specs.declared.refusal.Refusal.{Refusal}

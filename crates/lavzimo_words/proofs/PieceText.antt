@@ -1,11 +1,11 @@
 -- What is written of columns is read as these columns.
-use Rattle.std.proofs.Common.{◌≡◌, ◌≢◌, ◌∙◌, ◌++◌, ◌||◌, ◌&&◌, ◌+◌, ◌-◌, ◌⊎◌, ◌<◌, ◌≤◌, ◌==◌, ℕ, zero, suc, Bool, true, false, not, cond, List, [], ◌∷◌, map, flat_map, length, take, drop, get_or, find, bytes_eq, Option, Some, None, option_map, is_some, Result, Ok, Err, codes, refl, sym, ap, arith, true≢false, eq-eqb, ⊎_elim}
+use Rattle.std.proofs.Common.{◌≡◌, ◌≢◌, ◌∙◌, ◌++◌, ◌||◌, ◌&&◌, ◌+◌, ◌-◌, ◌<◌, ◌==◌, ℕ, zero, suc, Bool, true, false, not, cond, List, [], ◌∷◌, map, length, take, drop, get_or, bytes_eq, Some, None, option_map, is_some, Ok, Err, codes, refl, sym, ap, arith, true≢false, eq-eqb, ⊎_elim}
 use Rattle.std.specs.Prelude.{unwrap_or, option_and_then}
-use Rattle.std.specs.List.{AllByRecursion, list_any, slice_split}
+use Rattle.std.specs.List.{AllByRecursion, list_any}
 use Rattle.std.specs.Path.{rfind_below, rsplit_once}
-use Rattle.std.proofs.Math.Seq.{drop-append_seam, drop-append-add, take-append_seam}
-use Rattle.std.proofs.lemmas.Bool.{and_from, and_left, cases_eq, cond-false, cond-true, or_from, or_parts, false_from_ne_true}
-use Rattle.std.proofs.lemmas.List.{append-nil, append_assoc, get_or-append-add, get_or_at, length-append}
+use Rattle.std.proofs.Math.Seq.{drop-append-add, take-append_seam}
+use Rattle.std.proofs.lemmas.Bool.{and_from, cases_eq, cond-false, cond-true, or_from, or_parts}
+use Rattle.std.proofs.lemmas.List.{append_assoc, get_or-append-add, get_or_at, length-append}
 use Rattle.std.proofs.lemmas.Slice.Eq.{bytes_eq-Decides}
 use Rattle.pipe_columns.specs.declared.data_type.DataType.{DataType}
 use Rattle.pipe_columns.specs.declared.data_type.DataType.TheVariants as dt
@@ -14,10 +14,9 @@ use Rattle.lavzimo_words.specs.Items.{item_as, item_of, items_of, titled, titled
 use Rattle.lavzimo_words.specs.Results.{each_ok, ok_as, on_ok}
 use Rattle.lavzimo_words.specs.Roles.{is_of_numbers, is_rows, option_of, suits}
 use Rattle.lavzimo_words.specs.Shown.{column_type, first_double, has_numbers, is_as_said, said_item, said_type, shown_all, shown_as, shown_of, told_apart, unless_double, usual_type}
-use Rattle.lavzimo_words.specs.WordsOf.{CanBeListed, has, list_of, piece_of, type_text}
+use Rattle.lavzimo_words.specs.WordsOf.{CanBeListed, has, piece_of, type_text}
 use Rattle.lavzimo_words.specs.declared.asked_column.AskedColumn.{AskedColumn}
 use Rattle.lavzimo_words.specs.declared.item.Item.{Item}
-use Rattle.lavzimo_words.specs.declared.refusal.Refusal.{Refusal}
 use Rattle.lavzimo_words.specs.declared.refusal.Refusal.TheVariants as refusal
 use Rattle.lavzimo_words.specs.declared.role.Role.{Role}
 use Rattle.lavzimo_words.specs.declared.role.Role.TheVariants as role

@@ -1,23 +1,23 @@
 -- Words that are written option by option are taken.
-use Rattle.std.proofs.Common.{◌≡◌, ◌∙◌, ◌++◌, ◌||◌, ℕ, Bool, true, false, cond, List, [], ◌∷◌, map, drop, get_or, fold, bytes_eq, Option, Some, None, is_some, codes, refl, sym, ap, true≢false, append_assoc, append-nil}
+use Rattle.std.proofs.Common.{◌≡◌, ◌∙◌, ◌++◌, ◌||◌, ℕ, Bool, true, false, cond, List, [], ◌∷◌, map, drop, get_or, fold, bytes_eq, Some, None, is_some, codes, refl, sym, ap, true≢false, append_assoc, append-nil}
 use Rattle.std.specs.List.{AllByRecursion, list_any}
 use Rattle.std.proofs.lemmas.Bool.{cond-false, cond_both, or_from, or_parts}
 use Rattle.std.proofs.lemmas.List.Folds.{list_any-append}
 use Rattle.clap.specs.Kinds.{Kinds, or_else}
 use Rattle.clap.specs.Simple.{built, entered, matches_of, new_rule}
-use Rattle.clap.specs.Faults.{check_fault, default_fault, defaults_fault, entered_fault, fault_of, given_default_fault, level_fault, settle_fault, turn_fault, walk_fault}
-use Rattle.clap.specs.Walk.{Held, Row, Rule, Walk, at_row, finished, has_row, is_empty, more_values, nothing_held, settled, walk, walked, with_default, with_values, without}
+use Rattle.clap.specs.Faults.{check_fault, default_fault, defaults_fault, entered_fault, fault_of, given_default_fault, settle_fault, turn_fault, walk_fault}
+use Rattle.clap.specs.Walk.{Row, Rule, Walk, at_row, finished, has_row, is_empty, more_values, nothing_held, settled, walk, walked, with_default, with_values, without}
 use Rattle.clap.specs.declared.builder.value_parser.Reading.TheVariants as reading
 use Rattle.clap.specs.declared.parser.matches.ValueSource.TheVariants as source
 use Rattle.pipe_aggs.specs.Faults.{has_double}
-use Rattle.lavzimo_words.specs.Command.{Found, found_by, found_in, lavzimo_app, taken}
+use Rattle.lavzimo_words.specs.Command.{found_by, found_in, lavzimo_app, taken}
 use Rattle.lavzimo_words.specs.Joined.{is_order, joined}
 use Rattle.lavzimo_words.specs.Roles.{is_rows, option_of}
 use Rattle.lavzimo_words.specs.WordsOf.{OptionUse, list_of, word_of, words_of}
 use Rattle.lavzimo_words.specs.declared.role.Role.{Role}
 use Rattle.lavzimo_words.specs.declared.role.Role.TheVariants as role
 use Rattle.lavzimo_words.proofs.FieldFacts.{turned-apart}
-use Rattle.lavzimo_words.proofs.WalkFacts.{after_signs, before, behind_file, count-fault, count-step, first-fault, first-file, list-fault, list-step, next-fault, next-file, option_text, rules, signs-fault, signs-step, with_count_row, with_file, with_list}
+use Rattle.lavzimo_words.proofs.WalkFacts.{after_signs, before, behind_file, count-fault, count-step, first-fault, first-file, list-fault, list-step, next-fault, next-file, option_text, rules, signs-fault, signs-step, with_file}
 
 -- ---- rows
 

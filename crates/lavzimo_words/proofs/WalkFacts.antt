@@ -1,10 +1,8 @@
 -- How `clap` goes over words that are written option by option.
-use Rattle.std.proofs.Common.{◌≡◌, ◌∙◌, ◌++◌, ℕ, Bool, true, false, cond, List, [], ◌∷◌, map, Option, Some, None, codes, refl, sym, ap, true≢false}
-use Rattle.clap.specs.Kinds.{Kinds}
-use Rattle.clap.specs.Simple.{built, names_of}
+use Rattle.std.proofs.Common.{◌≡◌, ◌++◌, ℕ, true, false, List, [], ◌∷◌, Some, None, codes, refl, true≢false}
+use Rattle.clap.specs.Simple.{built}
 use Rattle.clap.specs.Faults.{turn_fault}
-use Rattle.clap.specs.Walk.{Held, Row, Rule, Walk, at_row, finished, has_row, idle, nothing_held, positional, walk, walk_from, walked, with_values, without}
-use Rattle.clap.specs.declared.builder.value_parser.Reading.{Reading}
+use Rattle.clap.specs.Walk.{Row, Rule, Walk, has_row, positional, walk_from, walked, with_values, without}
 use Rattle.clap.specs.declared.builder.value_parser.Reading.TheVariants as reading
 use Rattle.clap.specs.declared.parser.matches.ValueSource.TheVariants as source
 use Rattle.lavzimo_words.specs.Command.{lavzimo_app}
