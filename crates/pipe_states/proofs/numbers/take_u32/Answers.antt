@@ -3,7 +3,7 @@ use Rattle.std.proofs.Common.{rules, ◌≡◌, ◌<◌, ◌∙◌, ◌++◌, Li
 use Rattle.std.specs.Int.{bytes_high_first}
 use Rattle.std.proofs.lemmas.Nat.{be_bytes_4}
 use Rattle.pipe_spill.proofs.FrontBytes.{small_front}
-use Rattle.pipe_states.proofs.reading.take_u32.Goals as goal
+use Rattle.pipe_states.proofs.numbers.take_u32.Goals as goal
 
 pub returns-clause-some : goal.returns-clause-some
 returns-clause-some c =
