@@ -11,7 +11,7 @@ pub use given::{Given, given_by};
 pub use line::put_line;
 pub use memory::first_block;
 pub use status::{
-    DONE, INPUT_FAILED, INPUT_REFUSED, NO_MEMORY, OUTPUT_FAILED, QUERY_REFUSED, TOO_LARGE,
-    WORDS_REFUSED,
+    DAMAGED, DONE, INPUT_FAILED, INPUT_REFUSED, NO_MEMORY, OUTPUT_FAILED, QUERY_REFUSED,
+    STORE_FAILED, TOO_LARGE, WORDS_REFUSED,
 };
 pub use untaken::report_untaken;

@@ -1,4 +1,4 @@
-//! The exit statuses that all programs have.
+//! The exit statuses that programs share.
 
 /// What was asked for was written.
 pub const DONE: u8 = 0;
@@ -20,6 +20,12 @@ pub const OUTPUT_FAILED: u8 = 6;
 
 /// A file has more bytes than are read, or there are too many rows or chunks.
 pub const TOO_LARGE: u8 = 7;
+
+/// A store failed.
+pub const STORE_FAILED: u8 = 8;
+
+/// A store gave back another frame than was put.
+pub const DAMAGED: u8 = 9;
 
 /// Memory ran out.
 pub const NO_MEMORY: u8 = 10;
