@@ -1,11 +1,11 @@
 -- The columns of the answer, and where shown ones stand among them.
-use Rattle.std.proofs.Common.{◌≡◌, ◌≢◌, ◌∙◌, ◌++◌, ◌+◌, ◌||◌, ◌&&◌, ◌==◌, ℕ, pos, Bool, true, false, not, cond, List, [], ◌∷◌, length, map, filter, flat_map, take, drop, Option, Some, None, codes, refl, sym, ap, arith}
+use Rattle.std.proofs.Common.{◌≡◌, ◌∙◌, ◌++◌, ◌+◌, ◌||◌, ℕ, Bool, true, false, cond, List, [], ◌∷◌, length, map, flat_map, take, Some, codes, refl, sym, ap}
 use Rattle.std.specs.Prelude.{unwrap_or}
 use Rattle.std.specs.List.{AllByRecursion, list_any}
-use Rattle.std.proofs.Math.Seq.{drop-append_seam, take-append_seam}
+use Rattle.std.proofs.Math.Seq.{drop-append_seam}
 use Rattle.std.proofs.lemmas.Bool.{true≢false}
 use Rattle.std.proofs.lemmas.Grind.{flat_map-append}
-use Rattle.std.proofs.lemmas.List.{append_assoc, length-append, length-map, map-append}
+use Rattle.std.proofs.lemmas.List.{append_assoc, length-append, map-append}
 use Rattle.pipe_columns.specs.declared.data_type.DataType.{DataType}
 use Rattle.pipe_columns.specs.declared.data_type.DataType.TheVariants as dt
 use Rattle.pipe_columns.specs.declared.schema.Field.{Field}
@@ -17,7 +17,7 @@ use Rattle.pipe_model.specs.Output.{agg_fields, input_type, mean_fields}
 use Rattle.pipe_model.specs.Query.{AggTree}
 use Rattle.pipe_model.specs.Typing.{known_type, type_of}
 use Rattle.pipe_model.specs.WrittenTree.{agg_tree}
-use Rattle.lavzimo_words.specs.AskedQuery.{agg_expr, aggs_in, first_place, key_expr, keys_in, keys_of, source_at, sources_from, width}
+use Rattle.lavzimo_words.specs.AskedQuery.{agg_expr, first_place, key_expr, keys_in, keys_of, source_at, sources_from, width}
 use Rattle.lavzimo_words.specs.InAnswer.{count_field, fields_at, shown_fields, value_field}
 use Rattle.lavzimo_words.specs.Roles.{has_halves, is_key, is_rows, suits}
 use Rattle.lavzimo_words.specs.declared.asked_column.AskedColumn.{AskedColumn}

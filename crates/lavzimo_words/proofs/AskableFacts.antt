@@ -1,9 +1,9 @@
 -- What words come to may be asked for.
-use Rattle.std.proofs.Common.{◌≡◌, ◌≢◌, ◌∙◌, ◌<◌, ◌++◌, ◌==◌, ◌&&◌, ℕ, Bool, true, false, not, cond, List, [], ◌∷◌, length, map, filter, filter_map, flat_map, find, position, All, IfOk, IfSome, Option, Some, None, Result, Ok, Err, nat_lt, bytes_eq, codes, refl, sym, ap, subst, ltb-true, suc-ne-zero}
-use Rattle.std.specs.Prelude.{⊤, unwrap_or, option_and_then}
+use Rattle.std.proofs.Common.{◌≡◌, ◌≢◌, ◌∙◌, ◌<◌, ◌++◌, ◌==◌, ℕ, Bool, true, false, not, cond, List, [], ◌∷◌, length, map, filter_map, flat_map, find, IfOk, IfSome, Option, Some, None, Result, Ok, Err, nat_lt, bytes_eq, codes, refl, sym, ap, subst, ltb-true, suc-ne-zero}
+use Rattle.std.specs.Prelude.{unwrap_or, option_and_then}
 use Rattle.std.specs.Path.{rsplit_once}
 use Rattle.std.specs.List.{AllByRecursion, cons_option, list_all, position_or_len}
-use Rattle.std.proofs.lemmas.Bool.{and_from, and_parts, cases_Bool, cond_both}
+use Rattle.std.proofs.lemmas.Bool.{and_parts, cond_both}
 use Rattle.std.proofs.lemmas.List.Elements.{All-from_recursion}
 use Rattle.clap.specs.Words.{Row, all_of, first_of}
 use Rattle.clap.specs.Lexer.{strip_byte}
@@ -13,14 +13,14 @@ use Rattle.pipe_columns.specs.DataType.{is_input}
 use Rattle.pipe_query.specs.JsonNames.{named}
 use Rattle.pipe_words.specs.declared.plan.Format.{Format}
 use Rattle.lavzimo_words.specs.Askable.{ComesToAskable, HasAskable, IsAskable, IsOrderWithin, MayBeAsked}
-use Rattle.lavzimo_words.specs.Asked.{AskedSeen, ColumnsSeen, IsReading, QuestionSeen, Words, ask_or, asked_in, asked_of, beside_query, columns_in, file_alone, files_in, of_columns, question_by, question_in, words_by}
+use Rattle.lavzimo_words.specs.Asked.{ColumnsSeen, IsReading, QuestionSeen, Words, ask_or, asked_of, beside_query, columns_in, file_alone, files_in, of_columns, question_by, question_in, words_by}
 use Rattle.lavzimo_words.specs.AskedQuery.{aggs_in, keys_in}
 use Rattle.lavzimo_words.specs.Command.{Found, found_in, stops, taken}
-use Rattle.lavzimo_words.specs.Items.{counts_rows, item_as, item_of, items_of, pieces_for, pieces_in, pieces_of, roles_in, titled, type_named, type_names, typed, typed_as, typed_by, with_names, written_item}
+use Rattle.lavzimo_words.specs.Items.{counts_rows, item_as, item_of, items_of, pieces_for, pieces_in, pieces_of, titled, type_named, type_names, typed_as, typed_by, with_names, written_item}
 use Rattle.lavzimo_words.specs.Joined.{joined}
 use Rattle.lavzimo_words.specs.Results.{each_ok, ok_as, on_ok}
 use Rattle.lavzimo_words.specs.Roles.{is_key, is_rows, option_of, role_named, suits}
-use Rattle.lavzimo_words.specs.Settings.{format_of, most, number_of, order_by, order_of, order_said, order_signed, order_to, place_of}
+use Rattle.lavzimo_words.specs.Settings.{format_of, most, number_of, order_by, order_of, order_signed, place_of}
 use Rattle.lavzimo_words.specs.Shown.{column_type, first_double, is_as_said, said_item, said_type, shown_all, shown_as, shown_of, told_apart, unless_double, usual_type, has_numbers}
 use Rattle.lavzimo_words.specs.declared.asked.Order.{Order}
 use Rattle.lavzimo_words.specs.declared.asked.Order.TheVariants as order

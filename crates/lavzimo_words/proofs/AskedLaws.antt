@@ -1,5 +1,5 @@
 -- The laws of the query of columns that may be asked for.
-use Rattle.std.proofs.Common.{◌≡◌, ◌≢◌, ◌∙◌, ◌++◌, ◌||◌, ◌&&◌, ◌==◌, ℕ, Bool, true, false, not, cond, List, [], ◌∷◌, length, map, filter, flat_map, take, Option, Some, None, codes, refl, sym, ap}
+use Rattle.std.proofs.Common.{◌≡◌, ◌≢◌, ◌∙◌, ◌++◌, ◌||◌, ℕ, Bool, true, false, not, cond, List, [], ◌∷◌, length, map, filter, flat_map, take, Some, None, refl, sym, ap}
 use Rattle.std.specs.List.{AllByRecursion, list_all, list_any}
 use Rattle.std.proofs.Math.Seq.{take-append_seam}
 use Rattle.std.proofs.lemmas.Bool.{and_from, true≢false}
@@ -9,12 +9,9 @@ use Rattle.std.proofs.lemmas.List.Folds.{list_all-append}
 use Rattle.pipe_columns.specs.declared.data_type.DataType.{DataType}
 use Rattle.pipe_columns.specs.declared.schema.Field.{Field}
 use Rattle.pipe_columns.specs.DataType.{is_input}
-use Rattle.pipe_aggs.specs.declared.query.Query.{Query}
-use Rattle.pipe_aggs.specs.QueryTrees.{written}
-use Rattle.pipe_aggs.specs.Faults.{adds_dates, all_written, fault_of, field_names, first_fault, has_double, has_nodes, has_types, written_fault}
+use Rattle.pipe_aggs.specs.Faults.{adds_dates, all_written, fault_of, field_names, has_double, has_types, written_fault}
 use Rattle.pipe_model.specs.Convertible.{convertible, unaliased}
 use Rattle.pipe_model.specs.Expr.{Expr}
-use Rattle.pipe_model.specs.Expr as expr
 use Rattle.pipe_model.specs.Output.{output_schema}
 use Rattle.pipe_model.specs.Query.{WrittenQuery}
 use Rattle.pipe_model.specs.Typing.{is_row_wise, knows_columns, type_of}
@@ -22,7 +19,7 @@ use Rattle.pipe_model.specs.WrittenTree.{agg_tree, written_tree}
 use Rattle.std.specs.Prelude.{is_some}
 use Rattle.lavzimo_words.specs.Askable.{IsAskable}
 use Rattle.lavzimo_words.specs.Asked.{ColumnsSeen}
-use Rattle.lavzimo_words.specs.AskedQuery.{agg_expr, aggs_in, first_place, has_field, is_first, is_there, key_expr, keys_in, keys_of, named_fields, query_of_words, shown_columns, sources_from, written_of}
+use Rattle.lavzimo_words.specs.AskedQuery.{agg_expr, aggs_in, has_field, is_first, is_there, key_expr, keys_in, keys_of, named_fields, query_of_words, shown_columns, sources_from, written_of}
 use Rattle.lavzimo_words.specs.InAnswer.{fields_at, shown_fields, value_field}
 use Rattle.lavzimo_words.specs.Roles.{is_key, is_rows, suits}
 use Rattle.lavzimo_words.specs.declared.asked_column.AskedColumn.{AskedColumn}
@@ -170,5 +167,5 @@ module _ (c : ColumnsSeen) (h : IsAskable c) where
   no-fault = rw ((laid-out c h).distinct, some-keys (map key_expr (keys_in c.columns)), knows-all, typed-all, row-wise, kept-all, dateless, names-told) refl
 
 -- a query that was written of columns that may be asked for has no fault
-pub made-faultless : (c : ColumnsSeen) (q : Query) → written q ≡ written_of c.columns (is_first c.order) → has_nodes q ≡ true → IsAskable c → first_fault q ≡ None
-made-faultless c q is nodes h = ap (λ b. fault_of b (written q)) nodes ∙ ap (fault_of true) is ∙ no-fault c h
+pub made-faultless : (c : ColumnsSeen) (w : WrittenQuery) (nodes : Bool) → w ≡ written_of c.columns (is_first c.order) → nodes ≡ true → IsAskable c → fault_of nodes w ≡ None
+made-faultless c w nodes is there h = ap (λ b. fault_of b w) there ∙ ap (fault_of true) is ∙ no-fault c h

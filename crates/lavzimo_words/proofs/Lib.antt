@@ -13,3 +13,7 @@ pub mod SoundFacts
 pub mod NameFacts
 pub mod AnsweredFacts
 pub mod AskedLaws
+pub mod WalkFacts
+pub mod TakenFacts
+pub mod PieceText
+pub mod AskedBack

@@ -1,11 +1,9 @@
 -- The expressions of shown columns have types, and are such as tables of groups are made for.
-use Rattle.std.proofs.Common.{◌≡◌, ◌∙◌, ◌++◌, ◌||◌, ◌&&◌, ◌==◌, ℕ, pos, Bool, true, false, not, cond, List, [], ◌∷◌, length, map, filter, Option, Some, None, option_map, is_some, codes, refl, sym, ap, arith}
+use Rattle.std.proofs.Common.{◌≡◌, ◌∙◌, ◌||◌, ◌&&◌, ◌==◌, ℕ, Bool, true, false, cond, List, [], ◌∷◌, length, map, Option, Some, None, option_map, is_some, refl, sym, ap, arith}
 use Rattle.std.specs.Prelude.{option_and_then, unwrap_or}
 use Rattle.std.specs.List.{AllByRecursion, list_all, list_any}
 use Rattle.std.proofs.lemmas.Bool.{and_from, or_from, true≢false}
-use Rattle.std.proofs.lemmas.List.Folds.{list_all-append}
 use Rattle.std.proofs.lemmas.Option.{none-some}
-use Rattle.pipe_columns.specs.declared.any_value.AnyValue.TheVariants as av
 use Rattle.pipe_columns.specs.declared.data_type.DataType.{DataType}
 use Rattle.pipe_columns.specs.declared.data_type.DataType.TheVariants as dt
 use Rattle.pipe_columns.specs.declared.schema.Field.{Field}
@@ -14,8 +12,8 @@ use Rattle.pipe_aggs.specs.Faults.{adds, adds_dates}
 use Rattle.pipe_model.specs.Convertible.{convertible, keeps, unaliased}
 use Rattle.pipe_model.specs.Expr.{Aggregation, Expr}
 use Rattle.pipe_model.specs.Expr as expr
-use Rattle.pipe_model.specs.Typing.{aggregate_type, is_row_wise, known_type, knows_columns, type_of}
-use Rattle.lavzimo_words.specs.AskedQuery.{agg_expr, aggregate_name, input_of, key_expr, keys_of}
+use Rattle.pipe_model.specs.Typing.{aggregate_type, is_row_wise, knows_columns, type_of}
+use Rattle.lavzimo_words.specs.AskedQuery.{agg_expr, key_expr, keys_of}
 use Rattle.lavzimo_words.specs.Roles.{is_key, is_rows, suits}
 use Rattle.lavzimo_words.specs.declared.asked_column.AskedColumn.{AskedColumn}
 use Rattle.lavzimo_words.specs.declared.role.Role.{Role}

@@ -1,5 +1,5 @@
 -- The query that shown columns make, and where they stand in its answer.
-use Rattle.std.specs.Prelude.{ℕ, ◌+◌, ◌++◌, ◌&&◌, ◌||◌, Bool, true, false, not, pos, List, [], ◌∷◌, map, filter, fold, codes, bytes_eq, if◌then◌else◌, Option, None}
+use Rattle.std.specs.Prelude.{ℕ, ◌+◌, ◌++◌, ◌&&◌, ◌||◌, Bool, true, false, not, pos, List, [], ◌∷◌, map, filter, fold, codes, bytes_eq, if◌then◌else◌, None}
 use Rattle.std.specs.List.{list_any}
 use Rattle.pipe_columns.specs.declared.any_value.AnyValue.TheVariants as av
 use Rattle.pipe_columns.specs.declared.data_type.DataType.TheVariants as dt

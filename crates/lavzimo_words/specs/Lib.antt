@@ -12,3 +12,4 @@ pub mod Pieces
 pub mod Worked
 pub mod Askable
 pub mod InAnswer
+pub mod WordsOf

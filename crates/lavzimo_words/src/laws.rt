@@ -5,9 +5,10 @@ ghost use Rattle.std.specs.Prelude.{◌≡◌, ◌≢◌, List, None, ℕ, lengt
 ghost use Rattle.pipe_aggs.specs.Faults.{written_fault};
 ghost use Rattle.pipe_model.specs.Output.{output_schema};
 ghost use Rattle.lavzimo_words.specs.Askable.{ComesToAskable, IsAskable};
-ghost use Rattle.lavzimo_words.specs.Asked.{ColumnsSeen, asked_of};
+ghost use Rattle.lavzimo_words.specs.Asked.{ColumnsSeen, ask, asked_of};
 ghost use Rattle.lavzimo_words.specs.AskedQuery.{is_first, keys_in, query_of_words, shown_columns, written_of};
 ghost use Rattle.lavzimo_words.specs.InAnswer.{fields_at, shown_fields, value_field};
+ghost use Rattle.lavzimo_words.specs.WordsOf.{AreWritable, OptionUse, asked_by, by_keys, columns_of, words_of};
 
 /// Where words ask for columns, these may be asked for.
 pub fn words_ask_what_may_be_asked()
@@ -41,4 +42,11 @@ pub fn keys_come_first()
     ensures answer { (c : ColumnsSeen) → IsAskable c → length (keys_in c.columns) ≢ 0
         → take (length (keys_in c.columns)) (output_schema (query_of_words c))
         ≡ map value_field (keys_in c.columns) }
+{}
+
+/// Words that are written for any keys and whatever is shown beside them are taken, and ask just that.
+pub fn written_words_are_taken()
+    ensures { (uses : List OptionUse) (files : List (List ℕ)) → AreWritable uses
+        → IsAskable (by_keys (columns_of uses)) → length files ≢ 0
+        → asked_of (words_of uses files) ≡ ask (asked_by uses files) }
 {}

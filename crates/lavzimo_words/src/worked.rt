@@ -7,6 +7,7 @@ ghost use Rattle.pipe_words.specs.declared.plan.Format.TheVariants as format;
 ghost use Rattle.lavzimo_words.specs.Asked.{ask, asked_of, ended, of_columns, of_file, refused};
 ghost use Rattle.lavzimo_words.specs.AskedQuery.{shown_columns};
 ghost use Rattle.lavzimo_words.specs.Worked.{column_in, in_order, of_files, plain, row_count, text_key};
+ghost use Rattle.lavzimo_words.specs.WordsOf.{words_of};
 ghost use Rattle.lavzimo_words.specs.declared.asked.Order.TheVariants as order;
 ghost use Rattle.lavzimo_words.specs.declared.refusal.Refusal.TheVariants as refusal;
 ghost use Rattle.lavzimo_words.specs.declared.role.Role.TheVariants as role;
@@ -87,4 +88,17 @@ pub fn sources()
         ∷ column_in role.Mean (codes "a") dt.Int64 (codes "m") ∷ row_count ∷ [])
         ≡ source.Value 0 ∷ source.Value 1 ∷ source.Mean 3 ∷ source.Value 5 ∷ [] }
     ensures keyless { shown_columns (row_count ∷ []) ≡ source.Value 1 ∷ [] }
+{}
+
+/// Words that are written of options, and of files.
+pub fn words_of_options()
+    ensures { words_of (record { role = role.Key; columns = text_key (codes "k") ∷ [] }
+        ∷ record { role = role.Rows; columns = row_count ∷ [] }
+        ∷ record {
+          role = role.Sum;
+          columns = column_in role.Sum (codes "a") dt.Int64 (codes "s")
+              ∷ column_in role.Sum (codes "b:c") dt.UInt8 (codes "t") ∷ [];
+        } ∷ []) (codes "-" ∷ [])
+        ≡ codes "--by=k:text=k" ∷ codes "--count" ∷ codes "--sum=a:i64=s,b:c:u8=t"
+        ∷ codes "--" ∷ codes "-" ∷ [] }
 {}
