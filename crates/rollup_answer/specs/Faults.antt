@@ -111,8 +111,8 @@ EndsRolling e (refused r) told = ⊥
 EndsRolling e (saves q first names) told = ⊥
 EndsRolling e (rolls q keep names) told = IsRefusal e q told names
 
--- what a fault says of what is asked and of the files, where the input tells them; nothing is said of an
--- output that failed, or of want of memory
+-- what a fault says of what is asked and of the files, where the input tells them; nothing is said
+-- of an output that failed, or of want of memory
 abbrev pub IsCaused : RollupFault → Asked → Option Files → Type 0
 IsCaused (fault.Refused r) a told = a ≡ refused r
 IsCaused (fault.Save e) a told = EndsSaving e a told

@@ -7,18 +7,20 @@ use Rattle.pipe_io.specs.Files.{Files}
 use Rattle.pipe_io.specs.Output.{WroteFront}
 use Rattle.pipe_model.specs.Query.{QueryTree}
 use Rattle.rollup_roll.specs.Rolled.{AreRolled}
-use Rattle.rollup_save.specs.Saves.{end_of_files, text_of_files}
+use Rattle.rollup_save.specs.Saves.{end_of_files, IsSavedText, text_of_files}
 use Rattle.rollup_words.specs.Asked.{Asked, refused, rolls, saves}
 
--- where files are told, all of them can be saved, and this is the text of the state of their rows
+-- this is the text of a state; where files are told, all of them can be saved, and it is that of
+-- their rows
 pub record AreSaved
     (q : QueryTree) (first : ℕ) (told : Option Files) (names : List (List ℕ)) (text : List ℕ)
     : Type 0 where
+  pub saved : IsSavedText q first text
   pub whole : IfSome told (λ files. end_of_files files names q first ≡ None)
   pub text_is : IfSome told (λ files. text ≡ text_of_files files names q first)
 
--- files tell states that go together, and this is the text of the frame that they come to by the kept
--- keys
+-- files tell states that go together, and this is the text of the frame that they come to by the
+-- kept keys
 pub record AreRolledUp
     (q : QueryTree) (keep : List ℕ) (told : Option Files) (names : List (List ℕ)) (text : List ℕ)
     : Type 0 where

@@ -33,7 +33,8 @@ use tool_shell::INPUT_FAILED;
 /// Writes a text.
 fn write_text<O: Output>(output: &mut O, text: &[u8]) -> Option<RollupFault>
     ensures done { result ≡ None → Appends (O.told output.old) (O.told output.new) text.now }
-    ensures begun { IfSome result (λ _. WroteFront (O.told output.old) (O.told output.new) text.now) }
+    ensures begun { IfSome result
+        (λ _. WroteFront (O.told output.old) (O.told output.new) text.now) }
     ensures output_failed { result ≡ Some fault.OutputFailed
         → Rose (O.faults output.old) (O.faults output.new) }
     ensures faults { IfSome result IsOfOutput }
@@ -78,7 +79,8 @@ pub(crate) fn answer_save<I: InputFiles, O: Output, H: Threads + Sync>(
         → IsWritten (saves (query_tree question.query) question.first question.files.items)
         (I.told input.old) (O.told output.old) (O.told output.new) }
     ensures cause { IfSome result (λ f. IsCaused f
-        (saves (query_tree question.query) question.first question.files.items) (I.told input.old)) }
+        (saves (query_tree question.query) question.first question.files.items)
+        (I.told input.old)) }
     ensures input_failed { IfSome result (λ f. status_of f ≡ INPUT_FAILED
         → Rose (I.faults input.old) (I.faults input.new)) }
     ensures tried { TriedFront (I.tried input.old) (I.tried input.new) question.files.items }
@@ -100,9 +102,10 @@ pub(crate) fn answer_save<I: InputFiles, O: Output, H: Threads + Sync>(
     }
 }
 
-/// What the states in files come to by the keys that are kept.
+/// What the states in files come to by the keys that are kept. Tables hash under keys.
 fn roll_question<I: InputFiles>(
     alloc: Global,
+    hash_keys: Option<RandomState>,
     question: &RollQuestion,
     input: &mut I,
 ) -> Result<DataFrame, RollError>
@@ -113,18 +116,24 @@ fn roll_question<I: InputFiles>(
     ensures refused { IfErr result (λ e. IsRefusal e (query_tree question.now.query)
         (I.told input.old) question.now.files.items) }
     ensures tried { TriedFront (I.tried input.old) (I.tried input.new) question.now.files.items }
-    ensures cause { IsErrOf result roll_error.Input → Rose (I.faults input.old) (I.faults input.new) }
+    ensures cause { IsErrOf result roll_error.Input
+        → Rose (I.faults input.old) (I.faults input.new) }
 {
     match question.query.check(alloc) {
-        Ok(checked) => roll_files(alloc, &checked, &question.keep, input, &question.files),
+        Ok(mut checked) => {
+            checked.hash_under(hash_keys);
+            roll_files(alloc, &checked, &question.keep, input, &question.files)
+        }
         Err(CheckError::Memory) => Err(RollError::Memory),
         Err(CheckError::Fault(_)) => unreachable!(),
     }
 }
 
-/// Reads the states in files, and writes what they come to by the keys that are kept.
+/// Reads the states in files, and writes what they come to by the keys that are kept. Tables hash
+/// under keys.
 pub(crate) fn answer_roll<I: InputFiles, O: Output>(
     alloc: Global,
+    hash_keys: Option<RandomState>,
     question: &RollQuestion,
     input: &mut I,
     output: &mut O,
@@ -146,7 +155,7 @@ pub(crate) fn answer_roll<I: InputFiles, O: Output>(
         (I.told input.old) (O.told output.old) (O.told output.new)) }
     ensures untouched { IfSome result (λ f. IsBefore f → output.new ≡ output.old) }
 {
-    match roll_question(alloc, question, input) {
+    match roll_question(alloc, hash_keys, question, input) {
         Ok(frame) => write_frame(alloc, output, &frame),
         Err(error) => Some(RollupFault::Roll(error)),
     }

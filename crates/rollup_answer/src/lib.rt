@@ -1,5 +1,5 @@
-//! The answer to one command on saved states: from its words to the bytes of its output, its line and
-//! its exit status.
+//! The answer to one command on saved states: from its words to the bytes of its output, its line
+//! and its exit status.
 #![tactic(auto)]
 
 mod answer;

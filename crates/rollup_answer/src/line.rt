@@ -79,8 +79,8 @@ fn fault_line(alloc: Global, fault: &RollupFault) -> Result<String, AllocError>
     Ok(line)
 }
 
-/// Reports a fault by its line, and answers its exit status. Where memory is wanting for the line, the
-/// status is that of wanting memory; the line of wanting memory itself takes none.
+/// Reports a fault by its line, and answers its exit status. Where memory is wanting for the line,
+/// the status is that of wanting memory; the line of wanting memory itself takes none.
 pub(crate) fn report<E: Output>(alloc: Global, messages: &mut E, fault: &RollupFault) -> u8
     ensures either { (result ≡ status_of fault.now) ⊎ (result ≡ NO_MEMORY) }
     ensures line { result ≢ NO_MEMORY → Reports (fault_line fault.now) (E.faults messages.old)

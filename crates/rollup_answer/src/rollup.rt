@@ -54,14 +54,14 @@ fn run<I: InputFiles, O: Output, H: Threads + Sync>(
         Ok(Request::Save(question)) => {
             answer_save(rt, alloc, threads, hash_keys, question, input, output)
         }
-        Ok(Request::Roll(question)) => answer_roll(alloc, &question, input, output),
+        Ok(Request::Roll(question)) => answer_roll(alloc, hash_keys, &question, input, output),
         Err(error) => Some(ask_fault(error)),
     }
 }
 
-/// Answers the words of a command: the state of files of CSV, or the states in files regrouped by some
-/// of their keys. Files of CSV are read in so many threads, and tables hash under keys. A fault is
-/// reported by one line to the output for messages. It answers the exit status.
+/// Answers the words of a command: the state of files of CSV, or the states in files regrouped by
+/// some of their keys. Files of CSV are read in so many threads, and tables hash under keys. A
+/// fault is reported by one line to the output for messages. It answers the exit status.
 pub fn run_rollup<I: InputFiles, O: Output, E: Output, H: Threads + Sync>(
     rt: &H,
     alloc: Global,
@@ -74,13 +74,13 @@ pub fn run_rollup<I: InputFiles, O: Output, E: Output, H: Threads + Sync>(
 ) -> u8
     requires threads { 0 < threads }
 
-    // The headline: the output grew by exactly the text of the state of the rows of all files, or by
-    // that of the frame which the states in the files come to by the kept keys.
+    // The headline: the output grew by exactly the text of the state of the rows of all files, or
+    // by that of the frame which the states in the files come to by the kept keys.
     ensures written { result ≡ DONE → IsWritten (asked words.now) (I.told input.old)
         (O.told output.old) (O.told output.new) }
 
-    // A fault of words, of what files hold, or of states that don't go together comes exactly where it
-    // has its cause; but a fault of reading or writing may come in its place, or want of memory.
+    // A fault of words, of what files hold, or of states that don't go together comes exactly where
+    // it has its cause; but a fault of reading or writing may come in its place, or want of memory.
     ensures reported { result ≢ DONE → result ≢ NO_MEMORY → ReportsFault (asked words.now)
         (I.told input.old) result (E.faults messages.old) (E.faults messages.new)
         (E.told messages.old) (E.told messages.new) }
@@ -93,8 +93,8 @@ pub fn run_rollup<I: InputFiles, O: Output, E: Output, H: Threads + Sync>(
         → (Rose (O.faults output.old) (O.faults output.new) → ⊥)
         → (result ≡ DONE) ⊎ (result ≡ NO_MEMORY) }
 
-    // The files that the words name are begun one after another, each once at most for each time that
-    // it is named, and no others. For refused words nothing is read.
+    // The files that the words name are begun one after another, each once at most for each time
+    // that it is named, and no others. For refused words nothing is read.
     ensures tried { TriedFront (I.tried input.old) (I.tried input.new)
         (files_asked (asked words.now)) }
     ensures unread { IsTrue (is_refused (asked words.now)) → input.new ≡ input.old }

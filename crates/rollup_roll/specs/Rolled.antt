@@ -33,7 +33,8 @@ pub record OverlapAt
   pub number : file ≡ place + 1
   pub overlap : IsFirstOverlap states place
 
--- the files of some names tell states whose ranges share no number and which are of 2^32 rows or more
+-- the files of some names tell states whose ranges share no number and which are of 2^32 rows or
+-- more
 pub record AreTooMany (q : QueryTree) (told : Option Files) (names : List (List ℕ))
     : Type 0 where
   pub states : List StateSeen
@@ -45,8 +46,8 @@ abbrev pub HasLargeFile : QueryTree → Option Files → List (List ℕ) → Typ
 HasLargeFile q told names =
     (file : ℕ) × TellUpTo (λ name. IsLarger told name MOST_FILE_BYTES) q told names file
 
--- why the files of some names are not rolled up, by the error: that the input failed and that memory
--- ran out say nothing of what the files hold
+-- why the files of some names are not rolled up, by the error: that the input failed and that
+-- memory ran out say nothing of what the files hold
 abbrev pub IsRefusal : RollError → QueryTree → Option Files → List (List ℕ) → Type 0
 IsRefusal (fault.Missing file) q told names = TellUpTo (HasNoFile told) q told names file
 IsRefusal fault.Input q told names = ⊤

@@ -30,8 +30,8 @@ pub record TellsNone (q : QueryTree) (told : Option Files) (name : List ℕ) : T
 -- the files of some names tell states up to the one with this number, counted from 1, whose name is
 -- so
 pub record TellUpTo
-    (IsSo : List ℕ → Type 0) (q : QueryTree) (told : Option Files) (names : List (List ℕ)) (file : ℕ)
-    : Type 0 where
+    (IsSo : List ℕ → Type 0) (q : QueryTree) (told : Option Files)
+    (names : List (List ℕ)) (file : ℕ) : Type 0 where
   pub before : List (List ℕ)
   pub name : List ℕ
   pub behind : List (List ℕ)

@@ -19,8 +19,8 @@ use std::alloc::Global;
 /// Where a file has fewer bytes than this, or their number isn't known, there is room for so many.
 const PIECE_BYTES: usize = 1 << 16;
 
-/// Reads the file of a name whole, into room for about as many bytes as it has, and for one more, by
-/// which its end is seen.
+/// Reads the file of a name whole, into room for about as many bytes as it has, and for one more,
+/// by which its end is seen.
 fn read_bytes<I: InputFiles>(alloc: Global, input: &mut I, name: &Text) -> Result<Vec<u8>, FileEnd>
     ensures told { I.told input.new ≡ I.told input.old }
     ensures bytes { IfOk result (λ v. IsWhole (I.told input.old) name.now v.items) }

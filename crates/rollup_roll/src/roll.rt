@@ -50,8 +50,8 @@ fn add_files<'a, I: InputFiles>(
     Ok(regrouping)
 }
 
-/// The states that the files of some names tell, regrouped by the keys at some positions. One file is
-/// read at a time, and each is begun once at most, in order.
+/// The states that the files of some names tell, regrouped by the keys at some positions. One file
+/// is read at a time, and each is begun once at most, in order.
 pub fn roll_files<'a, I: InputFiles>(
     alloc: Global,
     query: &'a CheckedQuery<'a>,

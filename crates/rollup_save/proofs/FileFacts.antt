@@ -21,7 +21,7 @@ use Rattle.pipe_source.specs.Reader.{chunks_left, ReaderState}
 use Rattle.pipe_source.proofs.ChunksFit.{chunks-fit}
 use Rattle.pipe_states.specs.Parts.{part_of, saved}
 use Rattle.pipe_states.specs.StateText.{state_text}
-use Rattle.rollup_save.specs.Saves.{end_of, end_of_files, file_chunks, save_options, Tells, text_of_files}
+use Rattle.rollup_save.specs.Saves.{end_of, end_of_files, file_chunks, IsSavedText, save_options, Tells, text_of_files}
 use Rattle.rollup_save.specs.Taken.{IsTextOf}
 use Rattle.rollup_save.proofs.RoundFacts.{end-few}
 use Rattle.rollup_save.proofs.StateFacts.{state-same, text-same}
@@ -85,3 +85,23 @@ module _ (q : Query) (ws : List Bool) (first : ℕ) (names : List (List ℕ)) (c
   pub answer-text : (told : Option Files) (answer : Result (Vec ℕ Global) CsvError) → IfOk answer (λ v. IsTextOf (query_tree (narrowed_query ws q)) first told r v.items) → IfOk answer (λ v. IfSome told (λ files. v.items ≡ text_of_files files names (query_tree q) first))
   answer-text told (Ok v) is = file-text told v.items is
   answer-text told (Err e) is = tt
+
+-- a text that is of chunks of wanted columns, whatever is told of the files
+saved-text : (q : Query) (ws : List Bool) (first : ℕ) (told : Option Files) (r : ReaderState) (text : List ℕ) → covers ws (query_tree q) ≡ true
+    → IsTextOf (query_tree (narrowed_query ws q)) first told r text → IsSavedText (query_tree q) first text
+saved-text q ws first told r text covered is =
+    let t : QueryTree = query_tree q in
+    let narrow : QueryTree = narrowed_tree ws t in
+    record {
+      wanted = ws;
+      named = covered;
+      chunks = is.saved.chunks;
+      can = is.saved.can;
+      text_is = is.is ∙ ap (state_text narrow) is.saved.state ∙ text-same ws t (saved narrow (part_of narrow first is.saved.chunks)) covered;
+    }
+
+-- so of what saving files answers
+pub answer-saved : (q : Query) (ws : List Bool) (first : ℕ) (told : Option Files) (r : ReaderState) (answer : Result (Vec ℕ Global) CsvError) → covers ws (query_tree q) ≡ true
+    → IfOk answer (λ v. IsTextOf (query_tree (narrowed_query ws q)) first told r v.items) → IfOk answer (λ v. IsSavedText (query_tree q) first v.items)
+answer-saved q ws first told r (Ok v) covered is = saved-text q ws first told r v.items covered is
+answer-saved q ws first told r (Err e) covered is = tt

@@ -1,5 +1,7 @@
 -- What is saved of files, and why it ends early.
-use Rattle.std.specs.Prelude.{◌≡◌, ◌+◌, ◌^◌, ◌&&◌, ℕ, nat_lt, Bool, List, length, if◌then◌else◌, Option, Some, None, IfSome, ⊤}
+use Rattle.std.specs.Prelude.{◌≡◌, ◌+◌, ◌^◌, ◌&&◌, ℕ, nat_lt, Bool, true, List, length, if◌then◌else◌, Option, Some, None, IfSome, ⊤}
+use Rattle.narrow_query.specs.Names.{covers}
+use Rattle.narrow_query.specs.Narrowed.{narrowed_tree}
 use Rattle.pipe_columns.specs.declared.data_chunk.DataChunk.{DataChunk}
 use Rattle.pipe_csv.specs.CsvRows.{field, header, missing, width}
 use Rattle.pipe_csv.specs.declared.csv_error.CsvError.{CsvError}
@@ -31,8 +33,8 @@ file_chunks files names q = csv_chunks files names q.schema save_options
 
 -- ---- why saving ends early
 
--- whether chunks, of which the first has a position, have positions that a range can end behind, and
--- fewer than 2^32 rows
+-- whether chunks, of which the first has a position, have positions that a range can end behind,
+-- and fewer than 2^32 rows
 abbrev pub are_few : ℕ → List DataChunk → Bool
 are_few first chunks =
     nat_lt (total_height chunks) (2 ^ 32) && nat_lt (first + length chunks) (2 ^ 32)
@@ -41,7 +43,8 @@ are_few first chunks =
 abbrev pub end_of : ℕ → CsvChunks → Option Stop
 end_of first read = if are_few first read.chunks then read.stop else Some too_large
 
--- an error tells why saving ends early; of an input that fails and of want of memory nothing is said
+-- an error tells why saving ends early; of an input that fails and of want of memory nothing is
+-- said
 abbrev pub Tells : CsvError → Option Stop → Type 0
 Tells (csv_error.Missing file) stop = stop ≡ Some (misfit (missing file))
 Tells (csv_error.Header file) stop = stop ≡ Some (misfit (header file))
@@ -53,8 +56,8 @@ Tells csv_error.Memory stop = ⊤
 
 -- ---- what is saved
 
--- a state is that of chunks, which can be saved: where files are told, of all that a reader of them had
--- left, without a stop
+-- a state is that of chunks, which can be saved: where files are told, of all that a reader of them
+-- had left, without a stop
 pub record IsSavedOf
     (q : QueryTree) (first : ℕ) (told : Option Files) (left : ReaderState) (s : StateSeen)
     : Type 0 where
@@ -74,3 +77,14 @@ text_of_files files names q first = state_text q (state_of_files files names q f
 -- why the saving of files ends early, if it does
 abbrev pub end_of_files : Files → List (List ℕ) → QueryTree → ℕ → Option Stop
 end_of_files files names q first = end_of first (file_chunks files names q)
+
+-- a text is that of a state of chunks which can be saved: they have those columns alone, of a
+-- query's, that are wanted, and these are all that it names
+pub record IsSavedText (q : QueryTree) (first : ℕ) (text : List ℕ) : Type 0 where
+  pub wanted : List Bool
+  pub named : covers wanted q ≡ true
+  pub chunks : List DataChunk
+  pub can : CanBeSaved (narrowed_tree wanted q).schema first chunks
+  pub text_is :
+      text ≡ state_text q
+      (saved (narrowed_tree wanted q) (part_of (narrowed_tree wanted q) first chunks))

@@ -19,9 +19,9 @@ use std::thread::Threads;
 /// Chunks have fewer positions than this.
 const MOST: usize = 1 << 32;
 
-/// Feeds all chunks that a reader has left to a state in the making that has taken none, so many at a
-/// time, which are read in so many threads. The chunks of a round are read into the memory of those of
-/// the one before.
+/// Feeds all chunks that a reader has left to a state in the making that has taken none, so many at
+/// a time, which are read in so many threads. The chunks of a round are read into the memory of
+/// those of the one before.
 pub(crate) fn feed_left<'a, I: InputFiles, H: Threads + Sync>(
     rt: &H,
     alloc: Global,
@@ -44,7 +44,8 @@ pub(crate) fn feed_left<'a, I: InputFiles, H: Threads + Sync>(
     ensures few { IfOk result (λ s. AreFew saving.entry.first s.taken) }
     ensures cause { IfErr result (λ e. IfSome (I.told input.old)
         (λ files. Tells e (end_of saving.entry.first (chunks_left files reader.old)))) }
-    ensures failed { IsErrOf result csv_error.Input → Rose (I.faults input.old) (I.faults input.new) }
+    ensures failed { IsErrOf result csv_error.Input
+        → Rose (I.faults input.old) (I.faults input.new) }
     ensures tried { TriedFront (I.tried input.old) (I.tried input.new) reader.old.names }
 {
     let mut saving = saving;

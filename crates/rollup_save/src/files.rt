@@ -6,7 +6,7 @@ ghost use Rattle.pipe_aggs.specs.QueryTrees.{query_tree};
 ghost use Rattle.pipe_columns.specs.Causes.{Rose};
 ghost use Rattle.pipe_csv.specs.declared.csv_error.CsvError.TheVariants as csv_error;
 ghost use Rattle.pipe_io.specs.Tried.{TriedFront};
-ghost use Rattle.rollup_save.specs.Saves.{end_of_files, Tells, text_of_files};
+ghost use Rattle.rollup_save.specs.Saves.{end_of_files, IsSavedText, Tells, text_of_files};
 
 use crate::reader::reader_of;
 use crate::text::text_by;
@@ -22,10 +22,10 @@ use std::thread::Threads;
 /// The most rows of a chunk.
 pub const CHUNK_ROWS: usize = 50_000;
 
-/// The text of the state of the files of some names, by a query, of whose columns those alone are read
-/// that it names. Chunks have 50,000 rows at most and are numbered over all files, the first by `first`.
-/// They are read in rounds, in so many threads. Tables hash under keys. The query's slice and its order
-/// aren't read.
+/// The text of the state of the files of some names, by a query, of whose columns those alone are
+/// read that it names. Chunks have 50,000 rows at most and are numbered over all files, the first
+/// by `first`. They are read in rounds, in so many threads. Tables hash under keys. The query's
+/// slice and its order aren't read.
 pub fn save_files<I: InputFiles, H: Threads + Sync>(
     rt: &H,
     alloc: Global,
@@ -43,15 +43,21 @@ pub fn save_files<I: InputFiles, H: Threads + Sync>(
     ensures text { IfOk result (λ text. IfSome (I.told input.old)
         (λ files. text.items ≡ text_of_files files names.items (query_tree query) first)) }
 
-    // It ends early exactly where the files don't fit, or before that too many rows or chunks come, and
-    // tells which of these comes first; or a fault of the input raised its count, or memory ran out.
+    // In any case the text of a state of some chunks that can be saved.
+    ensures saved { IfOk result (λ text. IsSavedText (query_tree query) first text.items) }
+
+    // It ends early exactly where the files don't fit, or before that too many rows or chunks come,
+    // and tells which of these comes first; or a fault of the input raised its count, or memory ran
+    // out.
     ensures whole { OnOk result (IfSome (I.told input.old)
         (λ files. end_of_files files names.items (query_tree query) first ≡ None)) }
     ensures cause { IfErr result (λ e. IfSome (I.told input.old)
         (λ files. Tells e (end_of_files files names.items (query_tree query) first))) }
-    ensures failed { IsErrOf result csv_error.Input → Rose (I.faults input.old) (I.faults input.new) }
+    ensures failed { IsErrOf result csv_error.Input
+        → Rose (I.faults input.old) (I.faults input.new) }
 
-    // Files are begun in the order of their names, each once at most for each time that it is named.
+    // Files are begun in the order of their names, each once at most for each time that it is
+    // named.
     ensures tried { TriedFront (I.tried input.old) (I.tried input.new) names.items }
 {
     let Narrowed {

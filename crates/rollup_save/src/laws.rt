@@ -11,8 +11,8 @@ ghost use Rattle.pipe_states.specs.Parts.{part_of, saved};
 ghost use Rattle.pipe_states.specs.States.{StateSeen};
 ghost use Rattle.pipe_states.specs.StateText.{state_text};
 
-/// Chunks have the same state over fewer columns, where all that their query names are among them, and
-/// a state has the same text.
+/// Chunks have the same state over fewer columns, where all that their query names are among them,
+/// and a state has the same text.
 pub fn states_over_fewer_columns()
     ensures state { (wanted : List Bool) (q : QueryTree) (first : ℕ) (chunks : List DataChunk)
         → AllFit q.schema chunks → covers wanted q ≡ true

@@ -19,8 +19,8 @@ use pipe_states::StateFile;
 use std::alloc::Global;
 use std::thread::Threads;
 
-/// The state of all chunks that a reader has left, of which the first has a position. They are read so
-/// many at a time in so many threads. The query's slice and its order aren't read.
+/// The state of all chunks that a reader has left, of which the first has a position. They are read
+/// so many at a time in so many threads. The query's slice and its order aren't read.
 pub fn save_left<'a, I: InputFiles, H: Threads + Sync>(
     rt: &H,
     alloc: Global,
@@ -39,7 +39,8 @@ pub fn save_left<'a, I: InputFiles, H: Threads + Sync>(
     ensures of_query { IfOk result (IsStateOf (query_tree query.now)) }
     ensures cause { IfErr result (λ e. IfSome (I.told input.old)
         (λ files. Tells e (end_of first (chunks_left files reader.old)))) }
-    ensures failed { IsErrOf result csv_error.Input → Rose (I.faults input.old) (I.faults input.new) }
+    ensures failed { IsErrOf result csv_error.Input
+        → Rose (I.faults input.old) (I.faults input.new) }
     ensures tried { TriedFront (I.tried input.old) (I.tried input.new) reader.old.names }
 {
     let saving = Saving::new(alloc, query, first)?;

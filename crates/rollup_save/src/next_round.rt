@@ -19,7 +19,8 @@ use pipe_source::ChunkReader;
 use std::alloc::Global;
 use std::thread::Threads;
 
-/// Why saving ends where the reading was refused behind some chunks more: there may be no room for these.
+/// Why saving ends where the reading was refused behind some chunks more: there may be no room for
+/// these.
 fn ending_behind(saving: &Saving<'_>, error: CsvError, chunks: &[DataChunk]) -> CsvError
     ensures ends { (left : CsvChunks) (most : ℕ) → StopsWithin most error chunks.now left
         → Tells result (end_of saving.now.first (chunks_then saving.now.taken left)) }
@@ -35,9 +36,9 @@ fn ending_behind(saving: &Saving<'_>, error: CsvError, chunks: &[DataChunk]) -> 
     }
 }
 
-/// The next chunks that a reader has left, at most so many, for which there is room behind those that
-/// were taken, read in so many threads. There are fewer only where none is left. Where the files stop,
-/// the chunks before the stop tell whether too many come.
+/// The next chunks that a reader has left, at most so many, for which there is room behind those
+/// that were taken, read in so many threads. There are fewer only where none is left. Where the
+/// files stop, the chunks before the stop tell whether too many come.
 pub(crate) fn next_round<I: InputFiles, H: Threads + Sync>(
     rt: &H,
     alloc: Global,

@@ -21,7 +21,8 @@ pub(crate) fn reader_of(
 ) -> Result<ChunkReader, AllocError>
     requires wanted { vec_len wanted ≤ length schema }
     ensures left { IfOk result (λ r. (files : Files) → chunks_left files r
-        ≡ wanted_chunks save_options wanted.items (csv_chunks files names.items schema save_options)) }
+        ≡ wanted_chunks save_options wanted.items
+        (csv_chunks files names.items schema save_options)) }
     ensures names { IfOk result (λ r. r.names ≡ names.items) }
     ensures fields { IfOk result (λ r. given_fields r ≡ chosen wanted.items schema) }
 {

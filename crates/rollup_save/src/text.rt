@@ -51,7 +51,8 @@ fn text_left<'a, I: InputFiles, H: Threads + Sync>(
         reader.old text.items) }
     ensures cause { IfErr result (λ e. IfSome (I.told input.old)
         (λ files. Tells e (end_of first (chunks_left files reader.old)))) }
-    ensures failed { IsErrOf result csv_error.Input → Rose (I.faults input.old) (I.faults input.new) }
+    ensures failed { IsErrOf result csv_error.Input
+        → Rose (I.faults input.old) (I.faults input.new) }
     ensures tried { TriedFront (I.tried input.old) (I.tried input.new) reader.old.names }
 {
     let most = threads.saturating_mul(CHUNKS_OF_THREAD);
@@ -77,7 +78,8 @@ pub(crate) fn text_by<I: InputFiles, H: Threads + Sync>(
         reader.old text.items) }
     ensures cause { IfErr result (λ e. IfSome (I.told input.old)
         (λ files. Tells e (end_of first (chunks_left files reader.old)))) }
-    ensures failed { IsErrOf result csv_error.Input → Rose (I.faults input.old) (I.faults input.new) }
+    ensures failed { IsErrOf result csv_error.Input
+        → Rose (I.faults input.old) (I.faults input.new) }
     ensures tried { TriedFront (I.tried input.old) (I.tried input.new) reader.old.names }
 {
     let mut checked = checked_of(alloc, query)?;

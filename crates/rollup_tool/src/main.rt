@@ -1,5 +1,6 @@
 //! Roll-ups of CSV from the command line: `rollup_tool save QUERY FIRST FILE..` writes the state of
-//! files to standard output, and `rollup_tool roll QUERY KEYS FILE..` what states come to by some keys.
+//! files to standard output, and `rollup_tool roll QUERY KEYS FILE..` what states come to by some
+//! keys.
 #![tactic(auto)]
 
 use pipe_io::{RealFiles, RealOutput};

@@ -16,7 +16,8 @@ pub data Asked : Type 0 where
   refused : Refusal → Asked
   -- the state of the files of some names, by a query without fault; the first chunk has a position
   saves : QueryTree → ℕ → List (List ℕ) → Asked
-  -- the states of a query in the files of some names, regrouped by the key columns at some positions
+  -- the states of a query in the files of some names, regrouped by the key columns at some
+  -- positions
   rolls : QueryTree → List ℕ → List (List ℕ) → Asked
 
 -- whether a query gives only some of its groups, or in another order than that of their keys

@@ -26,7 +26,8 @@ position_in word =
 -- what is said by a first word, that of a query, a third one, and the names of files
 abbrev pub said_by : List ℕ → List ℕ → List ℕ → List (List ℕ) → Option Said
 said_by mode query third files =
-    if bytes_eq mode (codes "save") then option_map (λ first. save query first files) (position_in third)
+    if bytes_eq mode (codes "save")
+    then option_map (λ first. save query first files) (position_in third)
     else (if bytes_eq mode (codes "roll") then Some (roll query third files) else None)
 
 -- what words say: there are three, and behind them at least one name

@@ -95,7 +95,8 @@ pub(crate) fn kept_positions(
     word: &Text,
 ) -> Result<Vec<usize>, AskError>
     requires { first_fault query.now ≡ None }
-    ensures kept { IfOk result (λ v. kept_positions (query_tree query.now) word.now ≡ Some v.items) }
+    ensures kept { IfOk result
+        (λ v. kept_positions (query_tree query.now) word.now ≡ Some v.items) }
     ensures cause { IfErr result
         (λ e. AreNoKeys e (kept_positions (query_tree query.now) word.now)) }
 {

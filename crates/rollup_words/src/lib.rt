@@ -1,5 +1,5 @@
-//! What the words of a command ask for: the state of files of CSV, or states regrouped; or why they are
-//! refused.
+//! What the words of a command ask for: the state of files of CSV, or states regrouped; or why they
+//! are refused.
 #![tactic(auto)]
 
 mod distinct;

@@ -59,7 +59,8 @@ fn read_save(
         ≡ saves (query_tree s.query) s.first s.files.items) }
     ensures faultless { IfOk result (λ s. first_fault s.query ≡ None) }
     ensures cause { IfErr result (λ e. IsRefusedFor e
-        (asked_by (option_map (λ first. save query.now first files.now) (position_in position.now)))) }
+        (asked_by
+        (option_map (λ first. save query.now first files.now) (position_in position.now)))) }
 {
     let Some(first) = position_in(position.as_str()) else {
         return Err(AskError::Refused(Refusal::Words));
@@ -97,8 +98,8 @@ fn read_roll(
     }
 }
 
-/// What the words of a command ask for, or why they are refused: the words come first, then the query
-/// and its faults, then the keys.
+/// What the words of a command ask for, or why they are refused: the words come first, then the
+/// query and its faults, then the keys.
 pub fn read_request(alloc: Global, words: &[Text]) -> Result<Request, AskError>
     ensures asks { IfOk result (λ r. asked words.now ≡ requested r) }
     ensures faultless { IfOk result (λ r. first_fault (request_query r) ≡ None) }

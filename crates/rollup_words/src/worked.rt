@@ -10,7 +10,8 @@ ghost use Rattle.tool_query.specs.declared.no_query.NoQuery.TheVariants as no_qu
 
 /// Words that ask for a state, and for states regrouped by one key or by both in another order.
 pub fn words_that_ask()
-    ensures save { asked (codes "save" ∷ by_two_text ∷ codes "0000000007" ∷ codes "a" ∷ codes "b" ∷ [])
+    ensures save { asked
+        (codes "save" ∷ by_two_text ∷ codes "0000000007" ∷ codes "a" ∷ codes "b" ∷ [])
         ≡ saves by_two 7 (codes "a" ∷ codes "b" ∷ []) }
     ensures roll { asked (codes "roll" ∷ by_two_text ∷ codes "[\"k\"]" ∷ codes "a" ∷ [])
         ≡ rolls by_two (0 ∷ []) (codes "a" ∷ []) }
@@ -24,7 +25,8 @@ pub fn words_refused()
     ensures no_file { asked (codes "roll" ∷ codes "{" ∷ codes "{" ∷ []) ≡ refused refusal.Words }
     ensures other { asked (codes "show" ∷ codes "{" ∷ codes "{" ∷ codes "a" ∷ [])
         ≡ refused refusal.Words }
-    ensures no_digits { asked (codes "save" ∷ codes "{" ∷ [] ∷ codes "a" ∷ []) ≡ refused refusal.Words }
+    ensures no_digits { asked (codes "save" ∷ codes "{" ∷ [] ∷ codes "a" ∷ [])
+        ≡ refused refusal.Words }
     ensures sign { asked (codes "save" ∷ codes "{" ∷ codes "+1" ∷ codes "a" ∷ [])
         ≡ refused refusal.Words }
     ensures eleven { asked (codes "save" ∷ codes "{" ∷ codes "00000000000" ∷ codes "a" ∷ [])
