@@ -9,9 +9,7 @@ use Rattle.std.proofs.lemmas.List.Folds.{list_all-append}
 use Rattle.pipe_columns.specs.declared.data_type.DataType.{DataType}
 use Rattle.pipe_columns.specs.declared.schema.Field.{Field}
 use Rattle.pipe_columns.specs.DataType.{is_input}
-use Rattle.pipe_aggs.specs.declared.query.Query.{Query}
-use Rattle.pipe_aggs.specs.QueryTrees.{written}
-use Rattle.pipe_aggs.specs.Faults.{adds_dates, all_written, fault_of, field_names, first_fault, has_double, has_nodes, has_types, written_fault}
+use Rattle.pipe_aggs.specs.Faults.{adds_dates, all_written, fault_of, field_names, has_double, has_types, written_fault}
 use Rattle.pipe_model.specs.Convertible.{convertible, unaliased}
 use Rattle.pipe_model.specs.Expr.{Expr}
 use Rattle.pipe_model.specs.Expr as expr
@@ -170,5 +168,5 @@ module _ (c : ColumnsSeen) (h : IsAskable c) where
   no-fault = rw ((laid-out c h).distinct, some-keys (map key_expr (keys_in c.columns)), knows-all, typed-all, row-wise, kept-all, dateless, names-told) refl
 
 -- a query that was written of columns that may be asked for has no fault
-pub made-faultless : (c : ColumnsSeen) (q : Query) → written q ≡ written_of c.columns (is_first c.order) → has_nodes q ≡ true → IsAskable c → first_fault q ≡ None
-made-faultless c q is nodes h = ap (λ b. fault_of b (written q)) nodes ∙ ap (fault_of true) is ∙ no-fault c h
+pub made-faultless : (c : ColumnsSeen) (w : WrittenQuery) (nodes : Bool) → w ≡ written_of c.columns (is_first c.order) → nodes ≡ true → IsAskable c → fault_of nodes w ≡ None
+made-faultless c w nodes is there h = ap (λ b. fault_of b w) there ∙ ap (fault_of true) is ∙ no-fault c h

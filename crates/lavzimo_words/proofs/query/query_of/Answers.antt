@@ -62,4 +62,4 @@ returns-clause-nodes c =
     nodes_there (keys_for cs) (aggs_for cs) c.add_keys.new.arena c.add_aggs.new.arena c.in_ok-keys.keys.items c.in_ok-aggs.aggs.items first second
 
 pub returns-clause-faultless : goal.returns-clause-faultless
-returns-clause-faultless c = made-faultless (columns_seen c.args.asked.now) _ (returns-clause-written c) (returns-clause-nodes c)
+returns-clause-faultless c = made-faultless (columns_seen c.args.asked.now) _ _ (returns-clause-written c) (returns-clause-nodes c)
