@@ -39,7 +39,13 @@ fn main(rt: HostRuntime) -> ExitCode {
             let mut input = RealFiles::new(&rt, rt.stdin());
             let mut output = ShellOutput::new(io::writer(&rt));
             let salt = salt_of(&hash_keys);
-            let mut maker = OwnStores::new(&rt, alloc, process::id(rt.process()), salt, Some(hash_keys));
+            let mut maker = OwnStores::new(
+                &rt,
+                alloc,
+                process::id(rt.process()),
+                salt,
+                Some(hash_keys),
+            );
             let mut looks = RealLooks::new(&rt, alloc);
             let end = run_lavzimo(
                 &rt,

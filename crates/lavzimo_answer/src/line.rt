@@ -69,11 +69,7 @@ fn run_text<L: Looks>(
 }
 
 /// How a fault is told.
-fn fault_text<L: Looks>(
-    alloc: Global,
-    looks: &mut L,
-    fault: &Fault,
-) -> Result<String, AllocError>
+fn fault_text<L: Looks>(alloc: Global, looks: &mut L, fault: &Fault) -> Result<String, AllocError>
     ensures { IfOk result (λ s. (look : LookSeen) × IsTextOf fault.now look (string_bytes s)) }
 {
     match fault {

@@ -93,11 +93,7 @@ fn no_query(alloc: Global, name: &Text, error: QueryError) -> Fault
 }
 
 /// The query of a file, and what is shown of its answer.
-fn ask_file<I: InputFiles>(
-    alloc: Global,
-    name: &Text,
-    input: &mut I,
-) -> Result<Ready, Fault>
+fn ask_file<I: InputFiles>(alloc: Global, name: &Text, input: &mut I) -> Result<Ready, Fault>
     ensures query { IfOk result (λ r. IsQueryOf (of_file name.now) (I.told input.old)
         (query_tree r.query)) }
     ensures faultless { IfOk result (λ r. first_fault r.query ≡ None) }

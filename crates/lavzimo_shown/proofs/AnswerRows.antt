@@ -109,9 +109,9 @@ module _ (q : QueryTree) (chunks : List DataChunk) (unsliced : q.slice ≡ None)
       ∙ ap (λ o. map (cells 0 (output_schema q)) (map made (sliced o gs))) unsliced
       ∙ map-twice made gs
     where
-    map-twice : (f : List AnyValue → Row) (ks : List (List AnyValue)) → map (cells 0 (output_schema q)) (map f ks) ≡ map (λ k. cells 0 (output_schema q) (f k)) ks
-    map-twice f [] = refl
-    map-twice f (k ∷ ks) = ap (λ (rest : List Row). cells 0 (output_schema q) (f k) ∷ rest) (map-twice f ks)
+      map-twice : (f : List AnyValue → Row) (ks : List (List AnyValue)) → map (cells 0 (output_schema q)) (map f ks) ≡ map (λ k. cells 0 (output_schema q) (f k)) ks
+      map-twice f [] = refl
+      map-twice f (k ∷ ks) = ap (λ (rest : List Row). cells 0 (output_schema q) (f k) ∷ rest) (map-twice f ks)
 
   -- begins with its key
   row-key : (k : List AnyValue) → IsLong q k → take (length q.keys) (group_row k) ≡ k
