@@ -1,8 +1,8 @@
 -- What is read and run for what is asked.
-use Rattle.std.specs.Prelude.{◌≡◌, ℕ, ◌++◌, ◌≤◌, max, min, Bool, false, List, [], ◌∷◌, if◌then◌else◌, Option, is_some, unwrap_or, Result, Ok, Err}
+use Rattle.std.specs.Prelude.{◌≡◌, ℕ, ◌++◌, ◌≤◌, max, min, Bool, false, List, [], ◌∷◌, length, if◌then◌else◌, Option, is_some, unwrap_or, Result, Ok, Err}
 use Rattle.std.specs.Str.{is_utf8}
-use Rattle.pipe_columns.specs.declared.schema.Field.{Field}
 use Rattle.pipe_io.specs.Files.{Files, IsWhole}
+use Rattle.pipe_io.specs.declared.whole_file.TheConstants.{MOST_FILE_BYTES}
 use Rattle.pipe_model.specs.Query.{QueryTree}
 use Rattle.tool_query.specs.QueryWord.{word_query}
 use Rattle.tool_query.specs.declared.no_query.NoQuery.{NoQuery}
@@ -17,11 +17,18 @@ use Rattle.lavzimo_words.specs.AskedQuery.{query_of_words}
 abbrev pub file_query : List ℕ → Result QueryTree NoQuery
 file_query text = if is_utf8 text then word_query text else Err no_query.NotJson
 
--- the query of a question, whose file is whole where files are told
+-- the file of a name is whole where files are told, and this is what its text is
+pub record IsFileQuery (told : Option Files) (name : List ℕ) (result : Result QueryTree NoQuery)
+    : Type 0 where
+  pub text : List ℕ
+  pub whole : IsWhole told name text
+  pub small : length text ≤ MOST_FILE_BYTES
+  pub is : file_query text ≡ result
+
+-- the query of a question
 abbrev pub IsQueryOf : QuestionSeen → Option Files → QueryTree → Type 0
 IsQueryOf (of_columns c) told q = q ≡ query_of_words c
-IsQueryOf (of_file name) told q =
-    (text : List ℕ) × IsWhole told name text × (file_query text ≡ Ok q)
+IsQueryOf (of_file name) told q = IsFileQuery told name (Ok q)
 
 -- ---- the run
 

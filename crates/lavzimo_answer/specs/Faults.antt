@@ -1,8 +1,8 @@
 -- The faults of a run: their statuses, their lines and their causes.
-use Rattle.std.specs.Prelude.{◌≡◌, ◌++◌, ℕ, true, List, codes, Option, Some, IfSome, Err, ⊤}
+use Rattle.std.specs.Prelude.{◌≡◌, ◌++◌, ℕ, true, List, codes, Option, Err, ⊤}
 use Rattle.pipe_csv.specs.declared.csv_error.CsvError.{CsvError}
 use Rattle.pipe_csv.specs.declared.csv_error.CsvError.TheVariants as csv_error
-use Rattle.pipe_io.specs.Files.{Files, HasNoFile, IsLarger, IsWhole}
+use Rattle.pipe_io.specs.Files.{Files, HasNoFile, IsLarger}
 use Rattle.pipe_io.specs.declared.whole_file.FileEnd.{FileEnd}
 use Rattle.pipe_io.specs.declared.whole_file.FileEnd.TheVariants as file_end
 use Rattle.pipe_io.specs.declared.whole_file.TheConstants.{MOST_FILE_BYTES}
@@ -10,13 +10,12 @@ use Rattle.pipe_model.specs.Query.{QueryTree}
 use Rattle.pipe_plan.specs.Run.{StoreSeen}
 use Rattle.pipe_run.specs.declared.error.PipeError.{PipeError}
 use Rattle.pipe_run.specs.declared.error.PipeError.TheVariants as pipe_error
-use Rattle.tool_query.specs.declared.no_query.NoQuery.{NoQuery}
 use Rattle.tool_run.specs.declared.error.FileRunError.{FileRunError}
 use Rattle.tool_run.specs.declared.error.FileRunError.TheVariants as run_error
 use Rattle.tool_shell.specs.declared.status.TheConstants.{DAMAGED, INPUT_FAILED, INPUT_REFUSED, NO_MEMORY, OUTPUT_FAILED, QUERY_REFUSED, STORE_FAILED, TOO_LARGE, WORDS_REFUSED}
 use Rattle.lavzimo_run.specs.Running.{IsEnd}
-use Rattle.lavzimo_words.specs.Asked.{AskedSeen, EndedBy, QuestionSeen, Words, ask, ended, is_fault, of_columns, of_file, refused}
-use Rattle.lavzimo_answer.specs.Asking.{IsQueryOf, file_query, job_of}
+use Rattle.lavzimo_words.specs.Asked.{AskedSeen, EndedBy, Words, ask, ended, is_fault, of_file, refused}
+use Rattle.lavzimo_answer.specs.Asking.{IsFileQuery, IsQueryOf, job_of}
 use Rattle.lavzimo_answer.specs.Lines.{LookSeen, no_query_text, run_text, unread_text}
 use Rattle.lavzimo_answer.specs.Names.{NamesSeen, names_of, names_seen}
 use Rattle.lavzimo_answer.specs.declared.fault.Fault.{Fault}
@@ -113,8 +112,7 @@ IsCaused n (fault.Refused r) w told stores = w ≡ refused r
 IsCaused n (fault.Unread name e) w told stores =
     AsksSome (λ a. (a.question ≡ of_file name) × IsUnread e name told) w
 IsCaused n (fault.NoQuery name why) w told stores =
-    AsksSome (λ a. (a.question ≡ of_file name)
-    × ((text : List ℕ) × IsWhole told name text × (file_query text ≡ Err why))) w
+    AsksSome (λ a. (a.question ≡ of_file name) × IsFileQuery told name (Err why)) w
 IsCaused n (fault.Run names e) w told stores =
     AsksSome (λ a. EndsEarly n a (names_seen names) e told stores) w
 IsCaused n fault.OutputFailed w told stores = ⊤

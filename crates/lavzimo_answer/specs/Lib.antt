@@ -7,3 +7,4 @@ pub mod Status
 pub mod Ended
 pub mod Reading
 pub mod Inside
+pub mod Looks

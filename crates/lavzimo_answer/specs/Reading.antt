@@ -1,11 +1,11 @@
 -- Of the proofs alone: how the query of a question is read.
 use Rattle.std.specs.Prelude.{◌≡◌, ◌⊎◌, List, ℕ, Option, Err, ⊤}
-use Rattle.pipe_io.specs.Files.{Files, IsWhole}
+use Rattle.pipe_io.specs.Files.{Files}
 use Rattle.tool_query.specs.declared.no_query.NoQuery.{NoQuery}
 use Rattle.tool_query.specs.declared.no_query.QueryError.{QueryError}
 use Rattle.tool_query.specs.declared.no_query.QueryError.TheVariants as query_error
 use Rattle.lavzimo_words.specs.Asked.{QuestionSeen, of_file}
-use Rattle.lavzimo_answer.specs.Asking.{file_query}
+use Rattle.lavzimo_answer.specs.Asking.{IsFileQuery, file_query}
 use Rattle.lavzimo_answer.specs.Faults.{IsUnread}
 use Rattle.lavzimo_answer.specs.declared.fault.Fault.{Fault}
 use Rattle.lavzimo_answer.specs.declared.fault.Fault.TheVariants as fault
@@ -26,7 +26,7 @@ IsAskedFault (fault.Faulty text) s told = ⊥
 IsAskedFault (fault.Refused r) s told = ⊥
 IsAskedFault (fault.Unread name e) s told = (s ≡ of_file name) × IsUnread e name told
 IsAskedFault (fault.NoQuery name why) s told =
-    (s ≡ of_file name) × ((text : List ℕ) × IsWhole told name text × (file_query text ≡ Err why))
+    (s ≡ of_file name) × IsFileQuery told name (Err why)
 IsAskedFault (fault.Run names e) s told = ⊥
 IsAskedFault fault.OutputFailed s told = ⊥
 IsAskedFault fault.Memory s told = ⊤

@@ -77,6 +77,12 @@ abbrev pub EndsAsDue : ℕ → Words → Option Files → Type 0
 EndsAsDue status w told =
     IfSome told (λ files. IsDue status w files ⊎ (is_failure status ≡ true))
 
+-- what is asked is answered over files, where nothing fails
+abbrev pub IsAnswered : Words → Files → Type 0
+IsAnswered (ask a) files = asked_status a files ≡ DONE
+IsAnswered (refused r) files = ⊥
+IsAnswered (ended kinds) files = ⊥
+
 -- ---- words
 
 -- words are refused, or `clap` has a fault for them

@@ -86,7 +86,9 @@ fn answer_job<
     match ended {
         Ok(answered) => {
             let GroupByOutput {
-                frame, journals, ..
+                frame,
+                journals,
+                ..
             } = answered;
             let fault = write_answer(alloc, format, &showing, &frame, output);
             Ran {

@@ -1,6 +1,7 @@
 //! What a run leaves.
 
 ghost use Rattle.std.specs.Prelude.{◌≡◌, [], Some};
+ghost use Rattle.pipe_plan.specs.Stores.{stores_seen};
 
 use crate::fault::Fault;
 use pipe_global::Journals;

@@ -24,20 +24,11 @@ pub enum Fault {
     /// The words are refused.
     Refused(Refusal),
     /// The file of a query isn't read.
-    Unread {
-        name: Text,
-        end: FileEnd,
-    },
+    Unread { name: Text, end: FileEnd },
     /// The file of a query has none that can be asked.
-    NoQuery {
-        name: Text,
-        why: NoQuery,
-    },
+    NoQuery { name: Text, why: NoQuery },
     /// The run ended early.
-    Run {
-        names: Names,
-        error: FileRunError,
-    },
+    Run { names: Names, error: FileRunError },
     /// A write failed.
     OutputFailed,
     /// Memory ran out.

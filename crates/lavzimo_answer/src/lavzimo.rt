@@ -9,7 +9,7 @@ ghost use Rattle.lavzimo_answer.specs.Asking.{files_asked, has_folder, stores_as
 ghost use Rattle.lavzimo_answer.specs.Faults.{IsCaused, status_of};
 ghost use Rattle.lavzimo_answer.specs.Headline.{HasNoRun, IsAnswerWritten, IsBegun, IsLeft, IsWritten};
 ghost use Rattle.lavzimo_answer.specs.Inside.{FaultUnasked, IsBefore};
-ghost use Rattle.lavzimo_answer.specs.Status.{AreRefused, AskNothing, EndsAsDue, EndsUnasked, IsDue, ReportsFault, ReportsFront, is_status, is_unwritten};
+ghost use Rattle.lavzimo_answer.specs.Status.{AreRefused, AskNothing, EndsAsDue, EndsUnasked, IsAnswered, ReportsFault, ReportsFront, is_status, is_unwritten};
 ghost use Rattle.tool_shell.specs.declared.status.TheConstants.{INPUT_FAILED};
 
 use crate::answer::answer;
@@ -123,7 +123,7 @@ pub fn run_lavzimo<
     ensures unmade { AskNothing (asked_of words.now) → maker.new ≡ maker.old }
 
     // A question over good files that nothing disturbs is answered, or memory ran out.
-    ensures complete { IfSome (I.told input.old) (λ files. IsDue DONE (asked_of words.now) files
+    ensures complete { IfSome (I.told input.old) (λ files. IsAnswered (asked_of words.now) files
         → All IsSoundStore result.stores
         → (Rose (I.faults input.old) (I.faults input.new) → ⊥)
         → (Rose (O.faults output.old) (O.faults output.new) → ⊥)

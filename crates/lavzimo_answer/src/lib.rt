@@ -17,5 +17,7 @@ mod words_line;
 mod written;
 
 pub use ended::LavzimoEnd;
+pub use fault::Fault;
 pub use lavzimo::run_lavzimo;
 pub use look::{ClosableOutput, Look, Looks};
+pub use names::Names;

@@ -3,10 +3,11 @@
 ghost use Rattle.std.specs.Prelude.{◌≡◌, IfOk, string_bytes};
 ghost use Rattle.lavzimo_answer.specs.Faults.{IsLineOf, IsTextOf};
 ghost use Rattle.lavzimo_answer.specs.Lines as spec;
+ghost use Rattle.lavzimo_answer.specs.Looks.{look_seen};
 ghost use Rattle.lavzimo_answer.specs.Names.{names_seen};
 
 use crate::fault::Fault;
-use crate::look::{Looks, look_at};
+use crate::look::{Look, Looks, look_of};
 use crate::names::Names;
 use crate::read_line::{read_text, told_name};
 use crate::words_line::{faulty_text, refusal_text};
@@ -35,7 +36,8 @@ fn no_query_text(alloc: Global, name: &Text, why: NoQuery) -> Result<String, All
     ensures { IfOk result (λ s. string_bytes s ≡ spec.no_query_text name.now why) }
 {
     let name = told_name(name.as_str());
-    format!(in alloc; "{name}: query refused: {}", no_query_name(why))
+    let why = no_query_name(why);
+    format!(in alloc; "{name}: query refused: {why}")
 }
 
 /// How it is told that a run is refused.
@@ -50,44 +52,38 @@ fn refused_text(error: &PipeError) -> &'static str
 }
 
 /// How it is told that a run ended early.
-fn run_text<L: Looks>(
+fn run_text(
     alloc: Global,
-    looks: &mut L,
     names: &Names,
     error: &FileRunError,
+    look: &Look,
 ) -> Result<String, AllocError>
-    ensures { IfOk result (λ s. (look : LookSeen)
-        × (string_bytes s ≡ spec.run_text (names_seen names.now) error.now look)) }
+    ensures { IfOk result (λ s. string_bytes s ≡ spec.run_text (names_seen names.now) error.now
+        (look_seen look.now)) }
 {
     match error {
-        FileRunError::Read(error) => {
-            let look = look_at(alloc, looks, names, error)?;
-            read_text(alloc, names, error, &look)
-        }
+        FileRunError::Read(error) => read_text(alloc, names, error, look),
         FileRunError::Run(error) => String::from_str(alloc, refused_text(error)),
     }
 }
 
-/// How a fault is told.
-fn fault_text<L: Looks>(
-    alloc: Global,
-    looks: &mut L,
-    fault: &Fault,
-) -> Result<String, AllocError>
-    ensures { IfOk result (λ s. (look : LookSeen) × IsTextOf fault.now look (string_bytes s)) }
+/// How a fault is told, with what a second look gives.
+fn fault_text(alloc: Global, fault: &Fault, look: &Look) -> Result<String, AllocError>
+    ensures { IfOk result (λ s. IsTextOf fault.now (look_seen look.now) (string_bytes s)) }
 {
     match fault {
         Fault::Faulty(text) => faulty_text(alloc, text),
         Fault::Refused(refusal) => refusal_text(alloc, refusal),
         Fault::Unread { name, end } => unread_text(alloc, name, end),
         Fault::NoQuery { name, why } => no_query_text(alloc, name, *why),
-        Fault::Run { names, error } => run_text(alloc, looks, names, error),
+        Fault::Run { names, error } => run_text(alloc, names, error, look),
         Fault::OutputFailed => String::from_str(alloc, "output failed"),
         Fault::Memory => String::from_str(alloc, "out of memory"),
     }
 }
 
 /// The line of a fault.
+#[tactic(auto, using(crate::proofs::ReportFacts::line_of))]
 pub(crate) fn fault_line<L: Looks>(
     alloc: Global,
     looks: &mut L,
@@ -95,7 +91,8 @@ pub(crate) fn fault_line<L: Looks>(
 ) -> Result<String, AllocError>
     ensures { IfOk result (λ s. IsLineOf fault.now (string_bytes s)) }
 {
-    let mut line = fault_text(alloc, looks, fault)?;
+    let look = look_of(alloc, looks, fault)?;
+    let mut line = fault_text(alloc, fault, &look)?;
     line.push('\n')?;
     Ok(line)
 }

@@ -1,14 +1,13 @@
 //! Second looks: at a file that isn't read to its end, and at an output that failed. Nothing is claimed
 //! of them.
 
-ghost use Rattle.std.specs.Prelude.{◌≡◌, IfOk};
-ghost use Rattle.lavzimo_answer.specs.Lines.{LookSeen};
-
+use crate::fault::Fault;
 use crate::names::Names;
 use pipe_columns::Text;
 use pipe_csv::CsvError;
 use pipe_io::Output;
 use std::alloc::{AllocError, Global};
+use tool_run::FileRunError;
 
 /// What a second look gives: how something is, and what stands behind it.
 #[derive(Drop)]
@@ -30,26 +29,39 @@ pub trait ClosableOutput: Output {
 }
 
 /// What is told without a look.
-fn no_look(alloc: Global, error: &CsvError) -> Result<Look, AllocError> {
-    let (how, more) = match error {
+fn no_look(error: &CsvError) -> (&'static str, &'static str) {
+    match error {
         CsvError::Field { row: 0, .. } => ("no", ", or more than one"),
         CsvError::Input | CsvError::TooLarge => ("the input", ""),
         _ => ("", ""),
-    };
+    }
+}
+
+/// A look of these texts.
+fn look_with(alloc: Global, how: &str, more: &str) -> Result<Look, AllocError> {
     let how = Text::new(alloc, how)?;
     let more = Text::new(alloc, more)?;
     Ok(Look { how, more })
 }
 
-/// What a second look at an error gives, or what is told without one.
-pub(crate) fn look_at<L: Looks>(
+/// What a second look at a fault gives, or what is told without one.
+pub(crate) fn look_of<L: Looks>(
     alloc: Global,
     looks: &mut L,
-    names: &Names,
-    error: &CsvError,
+    fault: &Fault,
 ) -> Result<Look, AllocError> {
+    let Fault::Run {
+        names,
+        error: FileRunError::Read(error),
+    } = fault
+    else {
+        return look_with(alloc, "", "");
+    };
     match looks.look(names, error) {
         Some(look) => Ok(look),
-        None => no_look(alloc, error),
+        None => {
+            let (how, more) = no_look(error);
+            look_with(alloc, how, more)
+        }
     }
 }

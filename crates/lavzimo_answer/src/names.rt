@@ -26,11 +26,7 @@ fn copy_names(alloc: Global, names: &[Text]) -> Result<Vec<Text>, AllocError>
 }
 
 /// The names of files, and the columns of a query.
-pub(crate) fn names_of(
-    alloc: Global,
-    files: &[Text],
-    columns: &Schema,
-) -> Result<Names, AllocError>
+pub(crate) fn names_of(alloc: Global, files: &[Text], columns: &Schema) -> Result<Names, AllocError>
     ensures { IfOk result
         (λ n. names_seen n ≡ record { files = files.now; columns = columns.now }) }
 {

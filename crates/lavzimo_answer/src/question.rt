@@ -1,11 +1,12 @@
 //! The query of a question, and what is shown of its answer.
 
-ghost use Rattle.std.specs.Prelude.{◌≡◌, ◌++◌, ◌∷◌, [], IfErr, IfOk, None, Ok};
+ghost use Rattle.std.specs.Prelude.{◌≡◌, ◌⊎◌, ◌≤◌, ◌++◌, ◌∷◌, [], IfErr, IfOk, None, Ok};
 ghost use Rattle.pipe_aggs.specs.Faults.{first_fault};
 ghost use Rattle.pipe_aggs.specs.QueryTrees.{query_tree};
 ghost use Rattle.pipe_columns.specs.Causes.{Rose};
 ghost use Rattle.pipe_io.specs.Files.{IsWhole};
 ghost use Rattle.pipe_io.specs.Tried.{TriedFront};
+ghost use Rattle.tool_shell.specs.declared.status.TheConstants.{INPUT_FAILED};
 ghost use Rattle.lavzimo_shown.specs.Showing.{shown_of};
 ghost use Rattle.lavzimo_words.specs.Askable.{IsAskable, MayBeAsked};
 ghost use Rattle.lavzimo_words.specs.Asked.{columns_seen, of_columns, of_file, question_seen};
@@ -93,11 +94,7 @@ fn no_query(alloc: Global, name: &Text, error: QueryError) -> Fault
 }
 
 /// The query of a file, and what is shown of its answer.
-fn ask_file<I: InputFiles>(
-    alloc: Global,
-    name: &Text,
-    input: &mut I,
-) -> Result<Ready, Fault>
+fn ask_file<I: InputFiles>(alloc: Global, name: &Text, input: &mut I) -> Result<Ready, Fault>
     ensures query { IfOk result (λ r. IsQueryOf (of_file name.now) (I.told input.old)
         (query_tree r.query)) }
     ensures faultless { IfOk result (λ r. first_fault r.query ≡ None) }
@@ -106,6 +103,7 @@ fn ask_file<I: InputFiles>(
     ensures failed { IfErr result
         (λ f. status_of f ≡ INPUT_FAILED → Rose (I.faults input.old) (I.faults input.new)) }
     ensures told { I.told input.new ≡ I.told input.old }
+    ensures rose { I.faults input.old ≤ I.faults input.new }
     ensures tried { I.tried input.new ≡ I.tried input.old ++ name.now ∷ [] }
 {
     let text = match read_file(alloc, input, name) {

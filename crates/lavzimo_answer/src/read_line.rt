@@ -2,6 +2,7 @@
 
 ghost use Rattle.std.specs.Prelude.{◌≡◌, IfOk, string_bytes};
 ghost use Rattle.lavzimo_answer.specs.Lines as spec;
+ghost use Rattle.lavzimo_answer.specs.Looks.{look_seen};
 ghost use Rattle.lavzimo_answer.specs.Names.{names_seen};
 
 use crate::look::Look;
@@ -69,8 +70,7 @@ fn field_text(
     look: &Look,
 ) -> Result<String, AllocError>
     ensures { IfOk result (λ s. string_bytes s ≡ spec.field_text file.now row
-        (record { name = column.now; dtype = dtype })
-        (record { how = look.now.how; more = look.now.more })) }
+        (record { name = column.now; dtype = dtype }) (look_seen look.now)) }
 {
     let more = look.more.as_str();
     if row == 0 {
@@ -89,7 +89,7 @@ pub(crate) fn read_text(
     look: &Look,
 ) -> Result<String, AllocError>
     ensures { IfOk result (λ s. string_bytes s ≡ spec.read_text (names_seen names.now) error.now
-        (record { how = look.now.how; more = look.now.more })) }
+        (look_seen look.now)) }
 {
     match error {
         CsvError::Missing { file } => {

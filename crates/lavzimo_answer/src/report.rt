@@ -1,6 +1,6 @@
 //! How a fault is reported.
 
-ghost use Rattle.std.specs.Prelude.{◌≡◌, ◌≢◌, ◌⊎◌};
+ghost use Rattle.std.specs.Prelude.{◌≡◌, ◌≢◌, ◌⊎◌, true};
 ghost use Rattle.pipe_io.specs.Output.{WroteFront};
 ghost use Rattle.lavzimo_answer.specs.Faults.{IsLineOf, status_of};
 ghost use Rattle.lavzimo_answer.specs.Status.{IsTold, ReportsFront};

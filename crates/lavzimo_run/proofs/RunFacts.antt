@@ -1,5 +1,5 @@
 -- What the run of a job owes at each of its ends.
-use Rattle.std.proofs.Common.{◌≡◌, ◌∙◌, ◌<◌, ℕ, Bool, true, false, List, [], length, map, refl, sym, ap, subst, arith, Option, None, Some, Result, Ok, Err}
+use Rattle.std.proofs.Common.{◌≡◌, ◌∙◌, ◌<◌, ℕ, Bool, true, false, List, [], map, refl, sym, ap, subst, arith, Option, None, Some, Result, Ok, Err}
 use Rattle.std.specs.Prelude.{IfErr, IfOk, IfSome, IsTrue, is_some}
 use Rattle.std.specs.List.{All, slice_index_or}
 use Rattle.std.proofs.lemmas.List.{length-replicate}
@@ -14,17 +14,17 @@ use Rattle.pipe_global.specs.Partition.{no_store}
 use Rattle.pipe_io.specs.Files.{Files}
 use Rattle.pipe_plan.specs.Rounds.{IsFront}
 use Rattle.pipe_plan.specs.Run.{StoreSeen}
-use Rattle.pipe_plan.specs.Stores.{stores_seen}
 use Rattle.pipe_run.specs.Answered.{HaveWholeFrames, IsAnswered}
 use Rattle.pipe_run.specs.Failing.{NoneFailed}
 use Rattle.pipe_run.specs.Fed.{FedSeen}
 use Rattle.pipe_run.specs.Refusals.{limits_fit}
 use Rattle.pipe_run.specs.Setting.{Setting, run_over}
-use Rattle.pipe_run.specs.WholeRun.{setting_fits}
 use Rattle.pipe_run.specs.declared.error.PipeError.TheVariants as pipe_error
 use Rattle.pipe_run.specs.declared.output.GroupByOutput.{GroupByOutput}
 use Rattle.pipe_run.proofs.RunEnds.{untouched-in}
 use Rattle.pipe_source.specs.CsvChunks.{CsvChunks, Stop}
+use Rattle.pipe_source.specs.NamedChunks.{named_chunks}
+use Rattle.pipe_source.specs.declared.read_options.CsvReadOptions.{CsvReadOptions}
 use Rattle.pipe_source.specs.Reader.{ReaderState, chunks_left}
 use Rattle.tool_run.specs.Answering.{AreFedOf, IsFrameFrom, IsRunEnd}
 use Rattle.tool_run.specs.Answering as fed
@@ -33,11 +33,10 @@ use Rattle.tool_run.specs.Reading.{ComeFirst, EndsBy, end_of, stop_of}
 use Rattle.tool_run.specs.declared.error.FileRunError.{FileRunError}
 use Rattle.tool_run.specs.declared.error.FileRunError.TheVariants as run_error
 use Rattle.lavzimo_run.specs.Begun.{setting_of}
-use Rattle.lavzimo_run.specs.Jobs.{CanRun, JobSeen, job_chunks, job_run, job_seen, limits_of}
+use Rattle.lavzimo_run.specs.Jobs.{JobSeen, job_chunks, job_run, limits_of, read_options}
 use Rattle.lavzimo_run.specs.Running.{AreAll, AreFed, HasRun, HasStopped, IsEnd}
 use Rattle.lavzimo_run.specs.Stores.{AreMade, IsSoundStore}
-use Rattle.lavzimo_run.specs.declared.job.Job.{Job}
-use Rattle.lavzimo_run.proofs.StoreFacts.{all-sound, frame-caused, job-fits, replayed-are, store-caused, unfailed, whole-are}
+use Rattle.lavzimo_run.proofs.StoreFacts.{HaveFrames, all-sound, frame-caused, replayed-are, store-caused, unfailed, whole-are}
 
 -- ---- what a reader has left is what the files give the job
 
@@ -58,6 +57,25 @@ ends-read : (j : JobSeen) (told : Option Files) (first : ReaderState) (stop : Op
 ends-read j None first stop reads ends = tt
 ends-read j (Some files) first None reads ends = tt
 ends-read j (Some files) first (Some s) reads ends = sym (ap end_of (reads files)) ∙ ends
+
+-- what a reader by name has left
+pub reads-job : (j : JobSeen) (r : ReaderState) (names : List (List ℕ)) (columns : List Field) (options : CsvReadOptions) → ((files : Files) → chunks_left files r ≡ named_chunks files names columns options)
+    → names ≡ j.files → columns ≡ j.query.schema → options ≡ read_options → ReadsJob j r
+reads-job j r names columns options left same schema by files = left files ∙ (λ i. named_chunks files (same i) (schema i) (by i))
+
+-- ---- results
+
+pub if-err : {A E : Type 0} (r : Result A E) (P Q : E → Type 0) → ((e : E) → P e → Q e) → IfErr r P → IfErr r Q
+if-err (Ok x) P Q f h = tt
+if-err (Err e) P Q f h = f e h
+
+pub if-both : {A E : Type 0} (r : Result A E) (P O Q : E → Type 0) → ((e : E) → P e → O e → Q e) → IfErr r P → IfErr r O → IfErr r Q
+if-both (Ok x) P O Q f h k = tt
+if-both (Err e) P O Q f h k = f e h k
+
+pub if-ok : {A E : Type 0} (r : Result A E) (P Q : A → Type 0) → ((x : A) → P x → Q x) → IfOk r P → IfOk r Q
+if-ok (Ok x) P Q f h = f x h
+if-ok (Err e) P Q f h = tt
 
 -- ---- a run that was begun
 
@@ -112,6 +130,11 @@ run-sound j told out stores h never none =
     let r = job_run j false h.chunks h.made in
     all-sound j.spill_dir r stores h.are_made (replayed-are r out stores h.answered) never none
 
+pub either-sound : (j : JobSeen) (told : Option Files) (stores : List StoreSeen) (r : Result GroupByOutput FileRunError) → IfOk r (λ out. HasRun j told out stores) → IfErr r (λ _. HasStopped j told stores)
+    → All (λ (x : StoreSeen). IsTrue x.sure → x.faults ≡ 0) stores → j.spill_dir ≡ None → All IsSoundStore stores
+either-sound j told stores (Ok out) ran stopped never none = run-sound j told out stores ran never none
+either-sound j told stores (Err e) ran stopped never none = stopped-sound j told stores stopped never none
+
 -- no run was begun: stores are as they were made
 pub unbegun : (j : JobSeen) (q : Query) (told : Option Files) (made now : List StoreSeen) → query_tree q ≡ j.query → now ≡ made → AreMade j.spill_dir j.partitions made
     → limits_fit (limits_of j.workers j.partitions) j.workers (map (λ (x : StoreSeen). x.held) made) ≡ true → HasStopped j told now
@@ -129,7 +152,7 @@ unbegun j q told made now query same new fit = rw same (record {
   where
     none : (told : Option Files) → AreFed j told true []
     none None = tt
-    none (Some files) = ((job_chunks files j).chunks, refl)
+    none (Some files) = record { rest = (job_chunks files j).chunks; is = refl }
 
 -- ---- causes
 
@@ -137,16 +160,18 @@ rose-above : (before now : ℕ) → Rose before now → 0 < now
 rose-above before now rose = omega (arith, rose)
 
 module _ (j : JobSeen) (q : Query) (made stores : List StoreSeen) (s : FedSeen) (began : Began j q made s) (told : Option Files) (first : ReaderState) (reads : ReadsJob j first)
-    (stopped : HasStopped j told stores) (made-same : stopped.made ≡ made) (never : All (λ (x : StoreSeen). IsTrue x.sure → x.faults ≡ 0) stores) where
+    (front : fed.HaveFront s.setting (AreFedOf told first) stores) (never : All (λ (x : StoreSeen). IsTrue x.sure → x.faults ≡ 0) stores) where
+  -- the frames are those of the job's run
+  own-frames : HaveFrames (job_run j front.is_open front.chunks made) stores
+  own-frames = whole-are (job_run j front.is_open front.chunks made) stores (subst (λ r. HaveWholeFrames r stores) (run-is j q made s began front.is_open front.chunks) front.frames)
+
   pub run-ends : (e : FileRunError) → IsRunEnd s told first stores e → IsEnd e j told stores
   run-ends (run_error.Read e) end = (ends-read j told first (stop_of e) reads end.0, unfailed j.spill_dir j.partitions made s.stores stores began.new began.counted end.1)
   run-ends (run_error.Run (pipe_error.Store k)) end =
-      let r = job_run j stopped.is_open stopped.chunks stopped.made in
-      store-caused j.spill_dir r stores stopped.are_made (whole-are r stores stopped.frames) never k end.exists (rose-above _ _ end.rose)
+      store-caused j.spill_dir (job_run j front.is_open front.chunks made) stores began.new own-frames never k end.exists (rose-above _ _ end.rose)
   run-ends (run_error.Run (pipe_error.Damaged k n)) end =
-      let r = job_run j stopped.is_open stopped.chunks stopped.made in
-      frame-caused j.spill_dir r stores stopped.are_made (whole-are r stores stopped.frames) never k n end.0
-      (ap (λ (xs : List StoreSeen). (slice_index_or xs k no_store).told) made-same ∙ subst (λ (x : Setting). (slice_index_or x.stores k no_store).told ≡ None) began.setting end.1.untold) end.1.last
+      frame-caused j.spill_dir (job_run j front.is_open front.chunks made) stores began.new own-frames never k n end.0
+      (subst (λ (x : Setting). (slice_index_or x.stores k no_store).told ≡ None) began.setting end.1.untold) end.1.last
   run-ends (run_error.Run pipe_error.Memory) end = tt
   run-ends (run_error.Run pipe_error.Limits) end = absurd end
   run-ends (run_error.Run (pipe_error.Query f)) end = absurd end

@@ -1,15 +1,16 @@
 -- What holds of the stores of a run.
-use Rattle.std.proofs.Common.{◌≡◌, ◌∙◌, ◌<◌, ◌≤◌, ◌^◌, ◌==◌, ℕ, Bool, true, false, List, [], ◌∷◌, ◌++◌, length, map, refl, sym, ap, subst, arith, suc, zero, inl, inr, rules, Option, None, Some}
-use Rattle.std.specs.Prelude.{◌⊎◌, ◌&&◌, IsTrue, is_some, nat_lt, option_map}
+use Rattle.std.proofs.Common.{◌≡◌, ◌∙◌, ◌+◌, ◌<◌, ◌≤◌, ◌^◌, ◌==◌, ℕ, Bool, true, List, [], ◌∷◌, ◌++◌, length, map, refl, sym, ap, subst, arith, suc, zero, inl, inr, rules, Vec, Global, Option, None, Some}
+use Rattle.std.specs.Prelude.{◌⊎◌, ◌&&◌, IsTrue, is_some, nat_lt, option_map, replicate}
 use Rattle.std.specs.Cmp.Derive.{both_true}
 use Rattle.std.specs.List.{All, list_all, slice_index_or}
 use Rattle.std.proofs.lemmas.Bool.{false≢true, le-leb, lt-ltb}
-use Rattle.std.proofs.lemmas.List.{length-append, length-map, map-append}
+use Rattle.std.proofs.lemmas.List.{length-append, length-map, map-append, replicate-append-replicate}
 use Rattle.std.proofs.lemmas.List.Elements.{All-append, All-cons, All-from_get_or, All-head, All-nil, All-tail}
 use Rattle.std.proofs.lemmas.Option.{none-some}
-use Rattle.pipe_columns.specs.declared.data_chunk.DataChunk.{DataChunk}
 use Rattle.pipe_columns.specs.Row.{Row}
 use Rattle.pipe_global.specs.Partition.{no_store, store_of, with_frames}
+use Rattle.pipe_plan.specs.declared.event.SpillAction.{SpillAction}
+use Rattle.pipe_plan.specs.declared.limits.Limits.{Limits}
 use Rattle.pipe_plan.specs.Run.{Run, StoreSeen, tells}
 use Rattle.pipe_plan.specs.Stores.{stores_seen}
 use Rattle.pipe_run.specs.Answered.{HasFrames, HaveWholeFrames, IsAnswered}
@@ -19,7 +20,20 @@ use Rattle.pipe_run.specs.declared.output.GroupByOutput.{GroupByOutput}
 use Rattle.lavzimo_run.specs.Jobs.{CanRun, JobSeen, limits_of}
 use Rattle.lavzimo_run.specs.Stores.{AreMade, HasFailed, HasUntold, IsMade, IsSoundStore, NeverFailed}
 
--- ---- stores as they are made
+-- ---- actions and stores as they are made
+
+same-number : (a b : ℕ) → a ≡ b → (a == b) ≡ true
+same-number a b e = rw e (search rules)
+
+-- limits that fit, with a list of actions and a rule for each worker
+pub begins_fit : (l : Limits) (workers n m : ℕ) (held : List ℕ) → limits_fit l workers held ≡ true → n ≡ workers → m ≡ workers → (limits_fit l n held && (m == workers)) ≡ true
+begins_fit l workers n m held fit actions rules = both_true (ap (λ k. limits_fit l k held) actions ∙ fit) (same-number m workers rules)
+
+-- no actions of one worker more
+pub actions_more : (n : ℕ) (old new : List (Vec SpillAction Global)) (v : Vec SpillAction Global) → map (λ l. l.items) old ≡ replicate n [] → v.items ≡ [] → new ≡ old ++ v ∷ [] → map (λ l. l.items) new ≡ replicate (n + 1) []
+actions_more n old new v h none grew =
+    ap (map (λ (l : Vec SpillAction Global). l.items)) grew ∙ map-append (λ (l : Vec SpillAction Global). l.items) old (v ∷ [])
+    ∙ (λ i. h i ++ none i ∷ []) ∙ replicate-append-replicate n 1 []
 
 -- what is made of nothing is nothing
 pub none-mapped : {A B : Type 0} (f : A → B) (o : Option A) → option_map f o ≡ None → o ≡ None
@@ -51,9 +65,6 @@ module _ {S : Type 0} (held : S → ℕ) (told : S → Option (List (List ℕ)))
       both_true (lt-ltb (held x) (2 ^ 63) (omega (arith, (All-head (IsMade folder) (seen x) (map seen xs) all).held)))
       (held-few folder xs (All-tail (IsMade folder) (seen x) (map seen xs) all))
 
-  same-number : (a b : ℕ) → a ≡ b → (a == b) ≡ true
-  same-number a b e = rw e (search rules)
-
   between : (low high n : ℕ) → low ≤ n → n ≤ high → lies_between low high n ≡ true
   between low high n above below = both_true (le-leb low n above) (le-leb n high below)
 
@@ -68,6 +79,19 @@ module _ {S : Type 0} (held : S → ℕ) (told : S → Option (List (List ℕ)))
       (same-number j.workers j.workers refl))
       (same-number (length (map held items)) j.partitions (length-map items held ∙ sym (length-map items seen) ∙ new.number)))
       (held-few j.spill_dir items new.each)
+
+  -- what is seen of the same stores is the same
+  pub seen-again : (now items : List S) → now ≡ items → stores_seen held told faults sure path now ≡ stores_seen held told faults sure path items
+  seen-again now items same = ap (map seen) same
+
+  -- how many frames they hold is seen
+  map-twice : (items : List S) → map (λ (s : StoreSeen). s.held) (map seen items) ≡ map held items
+  map-twice [] = refl
+  map-twice (x ∷ xs) = ap (λ l. held x ∷ l) (map-twice xs)
+
+  pub held-seen : (j : JobSeen) (items : List S) → limits_fit (limits_of j.workers j.partitions) j.workers (map held items) ≡ true
+      → limits_fit (limits_of j.workers j.partitions) j.workers (map (λ (s : StoreSeen). s.held) (stores_seen held told faults sure path items)) ≡ true
+  held-seen j items fit = ap (limits_fit (limits_of j.workers j.partitions) j.workers) (map-twice items) ∙ fit
 
   -- a store that is sure never failed
   pub never-seen : ((s : S) → IsTrue (sure s) → faults s ≡ 0) → (items : List S) → All (λ s. IsTrue s.sure → s.faults ≡ 0) (stores_seen held told faults sure path items)

@@ -1,5 +1,5 @@
 -- What is run: a query over files whose columns are found by their names.
-use Rattle.std.specs.Prelude.{◌≡◌, ◌≤◌, ℕ, Bool, List, [], replicate, Option, None, is_some, if◌then◌else◌}
+use Rattle.std.specs.Prelude.{◌≤◌, ℕ, Bool, List, [], replicate, Option, None, is_some, if◌then◌else◌}
 use Rattle.pipe_columns.specs.declared.data_chunk.DataChunk.{DataChunk}
 use Rattle.pipe_aggs.specs.QueryTrees.{query_tree}
 use Rattle.pipe_io.specs.Files.{Files}

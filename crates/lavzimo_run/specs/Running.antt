@@ -1,5 +1,5 @@
 -- What the run of a job answers, why it ends early, and what it leaves of its stores.
-use Rattle.std.specs.Prelude.{◌≡◌, Bool, true, false, List, length, Option, None, Some, IfSome, is_some, ⊤}
+use Rattle.std.specs.Prelude.{◌≡◌, Bool, true, false, List, Option, None, Some, IfSome, is_some, ⊤}
 use Rattle.pipe_columns.specs.declared.data_chunk.DataChunk.{DataChunk}
 use Rattle.pipe_io.specs.Files.{Files}
 use Rattle.pipe_plan.specs.Rounds.{IsFront}

@@ -19,6 +19,7 @@ use std::sync::Wait;
 
 /// A run of a query over stores as they were made, by so many workers, which dump what waits or merge
 /// it at once. Its tables hash under keys.
+#[tactic(auto, using(crate::proofs::StoreFacts::begins_fit))]
 pub(crate) fn begin_run<'a, S: SpillStore + Drop + Send, H: Wait>(
     rt: &H,
     alloc: Global,

@@ -1,6 +1,6 @@
 //! How a query is run.
 
-ghost use Rattle.std.specs.Prelude.{◌≡◌, [], IfOk, map, replicate};
+ghost use Rattle.std.specs.Prelude.{◌≡◌, [], IfOk, map, replicate, vec_len};
 ghost use Rattle.lavzimo_run.specs.Jobs as spec;
 
 use pipe_plan::{Limits, SinkKind, SpillAction};
@@ -53,7 +53,8 @@ pub(crate) fn rules_of(
     workers: usize,
     spills: bool,
 ) -> Result<Vec<SpillAction>, AllocError>
-    ensures { IfOk result (λ v. v.items ≡ replicate workers (spec.rule_of spills)) }
+    ensures rules { IfOk result (λ v. v.items ≡ replicate workers (spec.rule_of spills)) }
+    ensures each { IfOk result (λ v. vec_len v ≡ workers) }
 {
     let mut rules = Vec::new(alloc);
     rules.resize(workers, rule_of(spills))?;
@@ -61,11 +62,10 @@ pub(crate) fn rules_of(
 }
 
 /// No actions of their own for so many workers.
-pub(crate) fn no_actions(
-    alloc: Global,
-    workers: usize,
-) -> Result<Vec<Vec<SpillAction>>, AllocError>
-    ensures { IfOk result (λ v. map (λ l. l.items) v.items ≡ replicate workers []) }
+#[tactic(auto, using(crate::proofs::StoreFacts::actions_more))]
+pub(crate) fn no_actions(alloc: Global, workers: usize) -> Result<Vec<Vec<SpillAction>>, AllocError>
+    ensures lists { IfOk result (λ v. map (λ l. l.items) v.items ≡ replicate workers []) }
+    ensures each { IfOk result (λ v. vec_len v ≡ workers) }
 {
     let mut actions = Vec::new(alloc);
     for _ in 0..workers {

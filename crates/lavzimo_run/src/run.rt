@@ -74,7 +74,9 @@ pub fn run_job<
     let Ok(schema) = copy_schema(alloc, &query.schema) else {
         return (Err(FileRunError::Run(PipeError::Memory)), stores);
     };
-    let run = match begin_run(rt, alloc, hash_keys, &query, workers, partitions, spills, stores) {
+    let run = match begin_run(
+        rt, alloc, hash_keys, &query, workers, partitions, spills, stores,
+    ) {
         Ok(run) => run,
         Err(stores) => return (Err(FileRunError::Run(PipeError::Memory)), stores),
     };

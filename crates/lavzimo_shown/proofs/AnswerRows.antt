@@ -1,11 +1,10 @@
 -- The rows of an answer's frame: their keys, which differ, and the same rows with every number of partitions.
-use Rattle.std.proofs.Common.{◌≡◌, ◌∙◌, ◌+◌, ◌<◌, ◌++◌, ℕ, zero, suc, Bool, true, false, List, [], ◌∷◌, None, length, take, map, get_or, refl, sym, ap, subst, arith, append_assoc}
+use Rattle.std.proofs.Common.{◌≡◌, ◌∙◌, ◌+◌, ◌<◌, ◌++◌, ℕ, zero, suc, false, List, [], ◌∷◌, None, length, take, map, get_or, refl, sym, ap, subst, arith, append_assoc}
 use Rattle.std.specs.List.{All, AllByRecursion, IsDistinct, flat_map, range_with_len}
 use Rattle.std.specs.List.Sorted.{IsPermutation}
-use Rattle.std.specs.declared.cmp.Ordering.{Ordering}
 use Rattle.std.specs.Ordering.{eq_by_cmp, is_eq}
 use Rattle.std.proofs.lemmas.List.{ext_get_or, get_or-map, length-map, length_push}
-use Rattle.std.proofs.lemmas.List.Elements.{All-append, All-from_get_or, All-head, All-map, All-nil, All-tail}
+use Rattle.std.proofs.lemmas.List.Elements.{All-append, All-head, All-map, All-nil, All-tail}
 use Rattle.std.proofs.lemmas.List.FromFn.{get_or-map-range_with_len, length-map-range_with_len}
 use Rattle.std.proofs.lemmas.List.Sorted.{IsPermutation-map}
 use Rattle.pipe_columns.specs.declared.any_value.AnyValue.{AnyValue}
@@ -110,9 +109,9 @@ module _ (q : QueryTree) (chunks : List DataChunk) (unsliced : q.slice ≡ None)
       ∙ ap (λ o. map (cells 0 (output_schema q)) (map made (sliced o gs))) unsliced
       ∙ map-twice made gs
     where
-    map-twice : (f : List AnyValue → Row) (ks : List (List AnyValue)) → map (cells 0 (output_schema q)) (map f ks) ≡ map (λ k. cells 0 (output_schema q) (f k)) ks
-    map-twice f [] = refl
-    map-twice f (k ∷ ks) = ap (λ (rest : List Row). cells 0 (output_schema q) (f k) ∷ rest) (map-twice f ks)
+      map-twice : (f : List AnyValue → Row) (ks : List (List AnyValue)) → map (cells 0 (output_schema q)) (map f ks) ≡ map (λ k. cells 0 (output_schema q) (f k)) ks
+      map-twice f [] = refl
+      map-twice f (k ∷ ks) = ap (λ (rest : List Row). cells 0 (output_schema q) (f k) ∷ rest) (map-twice f ks)
 
   -- begins with its key
   row-key : (k : List AnyValue) → IsLong q k → take (length q.keys) (group_row k) ≡ k

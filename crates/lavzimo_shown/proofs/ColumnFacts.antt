@@ -1,6 +1,8 @@
 -- Columns that are shown, one by one.
-use Rattle.std.proofs.Common.{◌≡◌, ◌∙◌, ◌+◌, ◌<◌, ◌≤◌, ◌++◌, ◌⊎◌, ℕ, List, [], ◌∷◌, length, drop, get_or, inl, inr, refl, sym, ap}
+use Rattle.std.proofs.Common.{◌≡◌, ◌∙◌, ◌+◌, ◌<◌, ◌≤◌, ◌++◌, ◌⊎◌, ℕ, List, [], ◌∷◌, length, drop, get_or, inl, inr, refl, sym, ap, arith}
+use Rattle.std.specs.Prelude.{min}
 use Rattle.std.proofs.Math.ListN.{drop_of_length-le}
+use Rattle.std.proofs.lemmas.Bool.{cases_lt}
 use Rattle.std.proofs.lemmas.List.{append-nil, append_assoc, drop_more}
 use Rattle.pipe_columns.specs.declared.schema.Field.{Field}
 use Rattle.lavzimo_rows.specs.declared.columns.ShownColumn.{ShownColumn}
@@ -22,9 +24,9 @@ named-more cs ss i d e done new all few more h grew =
 
 -- what is past the less of two numbers is past one of them
 pub past-either : (m n i : ℕ) → min m n ≤ i → (m ≤ i) ⊎ (n ≤ i)
-past-either m n i past = elim (cases_Bool (leb m i)) [
-  | inl below ↦ inl (leb-le m i below)
-  | inr above ↦ inr (omega (arith, past, leb-false m i above))
+past-either m n i past = elim (cases_lt i m) [
+  | inl before ↦ inr (omega (arith, past, before))
+  | inr behind ↦ inl behind
 ]
 
 -- no column more

@@ -1,5 +1,5 @@
 -- What is shown of the answer to a question.
-use Rattle.std.specs.Prelude.{ℕ, ◌+◌, ◌++◌, Bool, true, false, pos, List, [], ◌∷◌, length, map, flat_map, if◌then◌else◌, None}
+use Rattle.std.specs.Prelude.{ℕ, ◌+◌, Bool, true, false, pos, List, [], ◌∷◌, length, map, flat_map, if◌then◌else◌, None}
 use Rattle.std.specs.List.{list_any}
 use Rattle.pipe_columns.specs.declared.any_value.AnyValue.{AnyValue}
 use Rattle.pipe_columns.specs.declared.any_value.AnyValue.TheVariants as av

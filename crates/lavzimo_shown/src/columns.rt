@@ -67,10 +67,7 @@ pub(crate) fn asked_shown(
 }
 
 /// Fields under their names.
-pub(crate) fn fields_shown(
-    alloc: Global,
-    fields: &[Field],
-) -> Result<Vec<ShownColumn>, AllocError>
+pub(crate) fn fields_shown(alloc: Global, fields: &[Field]) -> Result<Vec<ShownColumn>, AllocError>
     ensures { IfOk result (λ v. v.items ≡ spec.fields_shown 0 fields.now) }
 {
     let mut shown = Vec::new(alloc);

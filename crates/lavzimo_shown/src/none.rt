@@ -110,10 +110,7 @@ pub(crate) fn nothing(alloc: Global) -> DataFrame
 }
 
 /// The rows that stand in place of those of an answer without rows.
-pub(crate) fn rows_of_none(
-    alloc: Global,
-    columns: &[AskedColumn],
-) -> Result<DataFrame, AllocError>
+pub(crate) fn rows_of_none(alloc: Global, columns: &[AskedColumn]) -> Result<DataFrame, AllocError>
     ensures { IfOk result (λ f. frame_rows f ≡ spec.rows_of_none columns.now) }
 {
     if has_key(columns) {

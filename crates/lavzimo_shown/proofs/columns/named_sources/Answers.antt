@@ -1,4 +1,4 @@
-use Rattle.std.proofs.Common.{◌≡◌, ◌≤◌, ◌⊎◌, length, inl, inr, arith}
+use Rattle.std.proofs.Common.{length, arith}
 use Rattle.lavzimo_shown.proofs.ColumnFacts.{named-all, past-either}
 use Rattle.lavzimo_shown.proofs.columns.named_sources.Goals as goal
 
