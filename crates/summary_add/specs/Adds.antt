@@ -8,7 +8,7 @@ use Rattle.pipe_source.specs.CsvChunks.{CsvChunks, Stop, too_large}
 use Rattle.pipe_states.specs.Regrouped.{end_of}
 use Rattle.pipe_states.specs.States.{StateSeen}
 use Rattle.pipe_states.specs.Together.{total_rows}
-use Rattle.pipe_summary.specs.Additions.{CanBeAdded, states_with, told_with}
+use Rattle.pipe_summary.specs.Additions.{CanBeAdded, told_with}
 use Rattle.pipe_summary.specs.Sums.{StandsFor}
 use Rattle.rollup_save.specs.Saves.{file_chunks, Tells}
 use Rattle.summary_add.specs.declared.add_fault.AddFault.{AddFault}
@@ -36,14 +36,21 @@ abbrev pub TellsFault : AddFault → Option Stop → Type 0
 TellsFault (add_fault.Read e) stop = Tells e stop
 TellsFault add_fault.Store stop = ⊤
 
--- files were added behind states: where they are told, all their chunks; what the store told before is
--- then with the frame of these chunks, and stands for them too
+-- chunks were added behind states: all that is given of the files, where they are told; what the store
+-- told before is then with the frame of these chunks, and stands for them too
 pub record AreAdded
-    (q : QueryTree) (names : List (List ℕ)) (files : Option Files) (states : List StateSeen)
+    (q : QueryTree) (given : Files → CsvChunks) (files : Option Files) (states : List StateSeen)
     (before after : Option (List (List ℕ))) : Type 0 where
   pub chunks : List DataChunk
-  pub all : IfSome files (λ fs. file_chunks fs names q ≡ record { chunks = chunks; stop = None })
+  pub all : IfSome files (λ fs. given fs ≡ record { chunks = chunks; stop = None })
   pub can : CanBeAdded q.schema states chunks
   pub frames : after ≡ told_with q before states chunks
   pub stands : (earlier : List DataChunk) → StandsFor q before earlier
       → StandsFor q after (earlier ++ chunks)
+
+-- the files of some names were, as a query has their columns
+abbrev pub FilesAdded :
+    QueryTree → List (List ℕ) → Option Files → List StateSeen → Option (List (List ℕ))
+    → Option (List (List ℕ)) → Type 0
+FilesAdded q names files states before after =
+    AreAdded q (λ fs. file_chunks fs names q) files states before after

@@ -12,7 +12,7 @@ use Rattle.pipe_states.specs.States.{StateSeen}
 use Rattle.pipe_summary.specs.InTurn.{HoldsStates}
 use Rattle.pipe_summary.specs.Summed.{summed}
 use Rattle.pipe_summary.specs.Sums.{StandsFor}
-use Rattle.summary_add.specs.Adds.{AreAdded}
+use Rattle.summary_add.specs.Adds.{FilesAdded}
 use Rattle.summary_answer.specs.Opened.{opened, Opened, unopened}
 use Rattle.summary_words.specs.Asked.{adds, Asked, refused, shows}
 
@@ -22,7 +22,7 @@ pub record HasAdded
     (held : ℕ) (now : Option (List (List ℕ))) (text : List ℕ) : Type 0 where
   pub states : List StateSeen
   pub holds : HoldsStates q told held states
-  pub added : AreAdded q names files states told now
+  pub added : FilesAdded q names files states told now
   pub nothing : text ≡ []
 
 -- the store holds states, and a text is that of the frame which they come to: where the store tells its

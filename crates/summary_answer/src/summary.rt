@@ -60,6 +60,7 @@ fn run<S: SpillStore + Drop, I: InputFiles, O: Output, H: Threads + Sync>(
     ensures output { IfSome result.0 (λ f. LeavesOutput f (output.new ≡ output.old)
         (IsBegun (asked words.now) (opened_of S.told S.held opened) (O.told output.old)
         (O.told output.new))) }
+    ensures only { result.0 ≡ None → IsSome result.1 }
     ensures back { IsBack (λ s t. (S.sure t ≡ S.sure s) × (S.path t ≡ S.path s)) opened result.1 }
     ensures kept { IfSome result.0
         (λ _. IsBack (λ s t. S.told t ≡ S.told s) opened result.1) }
@@ -106,6 +107,7 @@ pub fn run_summary<S: SpillStore + Drop, I: InputFiles, O: Output, E: Output, H:
     // where one was opened.
     ensures done { result.0 ≡ DONE → IsBack (λ s t. IsDone (asked words.now) (I.told input.old)
         (S.told s) (S.held s) (S.told t) (O.told output.old) (O.told output.new)) opened result.1 }
+    ensures only { result.0 ≡ DONE → IsSome result.1 }
     ensures back { IsBack (λ s t. (S.sure t ≡ S.sure s) × (S.path t ≡ S.path s)) opened result.1 }
 
     // With any other status the store tells the frames that it told before. Where words are refused

@@ -1,0 +1,5 @@
+mod TurnFacts
+mod TextLists
+pub mod EndFacts
+pub mod CauseFacts
+pub mod SummaryFacts
