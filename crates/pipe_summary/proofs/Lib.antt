@@ -1,1 +1,7 @@
-
+mod TurnFacts
+mod TextLists
+mod SumFacts
+mod SummedFacts
+mod ReadFacts
+mod HoldFacts
+mod AddFacts

@@ -1,6 +1,6 @@
 //! What adds to a summary.
 
-ghost use Rattle.std.specs.Prelude.{◌≡◌, ◌≢◌, ◌++◌, ◌∷◌, ◌≤◌, [], ℕ, Err, IfOk, IsErrOf, length, List, OnErr, OnOk, Ok};
+ghost use Rattle.std.specs.Prelude.{◌≡◌, ◌≢◌, ◌++◌, ◌∷◌, ◌≤◌, [], ℕ, Err, IfOk, IsErrOf, length, List, OnErr, OnOk, Ok, false};
 ghost use Rattle.pipe_aggs.specs.QueryTrees.{query_tree};
 ghost use Rattle.pipe_columns.specs.Causes.{HasCause};
 ghost use Rattle.pipe_columns.specs.declared.data_chunk.DataChunk.{DataChunk};
@@ -26,6 +26,15 @@ use pipe_states::{StateFile, write_state};
 use std::alloc::AllocError;
 
 impl<'a, S: SpillStore + Drop> Summary<'a, S> {
+    /// Recalls what a summary keeps.
+    pub(crate) fn recall(&self)
+        ensures holds { HoldsStates (query_tree self.now.query) (S.told self.now.store)
+            (S.held self.now.store) self.now.states }
+        ensures unordered { (query_tree self.now.query).keeps_order ≡ false }
+    {
+        let _known = self.alloc;
+    }
+
     /// The state of chunks behind those held.
     fn save_behind(&self, chunks: &[DataChunk]) -> Result<StateFile, AddError>
         requires { 1 ≤ length chunks.now }
@@ -45,7 +54,10 @@ impl<'a, S: SpillStore + Drop> Summary<'a, S> {
         let query = self.reached.query();
         let few = rows_behind(u64::from(self.reached.rows()), chunks).is_some();
         match save(self.alloc, query, self.reached.end(), chunks) {
-            Ok(file) => if few { Ok(file) } else { Err(AddError::TooLarge) },
+            Ok(file) => {
+                let _known = file.end();
+                if few { Ok(file) } else { Err(AddError::TooLarge) }
+            }
             Err(SaveError::Schema { chunk }) => Err(AddError::Schema { chunk }),
             Err(SaveError::TooLarge) => Err(AddError::TooLarge),
             Err(SaveError::Memory) =>
@@ -127,6 +139,7 @@ impl<'a, S: SpillStore + Drop> Summary<'a, S> {
         ensures calm { (IsErrOf result add_error.Store → ⊥)
             → S.faults self.new.store ≡ S.faults self.old.store }
     {
+        self.recall();
         if chunks.is_empty() {
             return Ok(());
         }
@@ -185,12 +198,16 @@ impl<'a, S: SpillStore + Drop> Summary<'a, S> {
         ensures calm { (IsErrOf result store_error.Failed → ⊥)
             → S.faults self.new.store ≡ S.faults self.old.store }
     {
+        self.recall();
         let Ok(file) = adding.into_state() else {
             return Err(StoreError::Memory);
         };
         if file.first() == file.end() {
             return Ok(());
         }
-        self.put_state(&file)
+        match self.put_state(&file) {
+            Ok(()) => Ok(()),
+            Err(error) => Err(error),
+        }
     }
 }

@@ -8,7 +8,7 @@ ghost use Rattle.pipe_model.specs.Answer.{answer};
 ghost use Rattle.pipe_states.specs.Regrouped.{regrouped};
 ghost use Rattle.pipe_states.specs.Together.{AreKept};
 ghost use Rattle.pipe_summary.specs.InTurn.{HoldsStates, IsFirstDamaged};
-ghost use Rattle.pipe_summary.specs.Summed.{all_keys, summed};
+ghost use Rattle.pipe_summary.specs.Summed.{all_keys, sliced_rows, summed};
 ghost use Rattle.pipe_summary.specs.Sums.{StandsFor};
 ghost use Rattle.pipe_summary.specs.declared.read_error.ReadError.TheVariants as read_error;
 
@@ -18,7 +18,7 @@ use crate::reading::read_next;
 use crate::summary::Summary;
 use pipe_aggs::CheckedQuery;
 use pipe_columns::DataFrame;
-use pipe_regroup::{RegroupError, Regrouping};
+use pipe_regroup::Regrouping;
 use pipe_spill::SpillStore;
 use std::alloc::{AllocError, Global};
 
@@ -33,6 +33,16 @@ fn all_keys(alloc: Global, query: &CheckedQuery<'_>) -> Result<Vec<usize>, Alloc
         keep.push(index)?;
     }
     Ok(keep)
+}
+
+/// The rows of a frame that a slice keeps.
+fn sliced(frame: DataFrame, slice: Option<(usize, usize)>) -> DataFrame
+    ensures { result ≡ sliced_rows slice frame }
+{
+    match slice {
+        Some((offset, count)) => frame.slice(offset, count),
+        None => frame,
+    }
 }
 
 /// Adds the states of all frames of a store, one at a time.
@@ -98,8 +108,8 @@ impl<'a, S: SpillStore + Drop> Summary<'a, S> {
         let regrouping = add_all(self.alloc, regrouping, &mut reached, &mut self.store)?;
         match regrouping.finish(self.alloc) {
             Ok(frame) => Ok(frame),
-            Err(RegroupError::Memory) => Err(ReadError::Memory),
-            Err(_) => unreachable!(),
+            // states in turn can be regrouped, so memory was wanting
+            Err(_) => Err(ReadError::Memory),
         }
     }
 
@@ -131,10 +141,8 @@ impl<'a, S: SpillStore + Drop> Summary<'a, S> {
         ensures damaged { (n : ℕ) → result ≡ Err (read_error.Damaged n)
             → S.told self.old.store ≡ None }
     {
+        self.recall();
         let frame = self.regroup()?;
-        match self.reached.query().slice() {
-            Some((offset, count)) => Ok(frame.slice(offset, count)),
-            None => Ok(frame),
-        }
+        Ok(sliced(frame, self.reached.query().slice()))
     }
 }

@@ -95,7 +95,7 @@ fn put_into<T: SpillStore>(frame: &[u8], into: &mut T) -> Result<(), CompactErro
 
 impl<'a, S: SpillStore + Drop> Summary<'a, S> {
     /// The states that the frames tell.
-    fn read_files(&mut self) -> Result<Vec<StateFile>, ReadError>
+    fn read_again(&mut self) -> Result<Vec<StateFile>, ReadError>
         ensures files { IfOk result (λ v. IfSome (S.told self.old.store)
             (λ frames. v.items ≡ self.old.states)) }
         ensures in_turn { IfOk result (λ v. AreInTurn (query_tree self.old.query) v.items) }
@@ -116,7 +116,10 @@ impl<'a, S: SpillStore + Drop> Summary<'a, S> {
             → S.told self.old.store ≡ None }
     {
         let mut reached = Reached::none(self.reached.query());
-        read_files(self.alloc, &mut reached, &mut self.store)
+        match read_files(self.alloc, &mut reached, &mut self.store) {
+            Ok(files) => Ok(files),
+            Err(error) => Err(error),
+        }
     }
 
     /// Puts the summary as one frame into another store, which holds none. Of an empty summary there is
@@ -161,19 +164,21 @@ impl<'a, S: SpillStore + Drop> Summary<'a, S> {
         // A store that tells its frames gives back none that is damaged.
         ensures damaged { (n : ℕ) → result ≡ Err (fault.Damaged n) → S.told self.old.store ≡ None }
     {
-        let files = match self.read_files() {
+        self.recall();
+        let files = match self.read_again() {
             Ok(files) => files,
             Err(error) => return Err(of_read(error)),
         };
         if files.is_empty() {
             return Ok(());
         }
-        match merged_text(self.alloc, self.reached.query(), &files) {
-            Ok(text) => {
-                drop(files);
-                put_into(&text, into)
-            }
-            Err(_) => Err(CompactError::Memory),
+        let Ok(text) = merged_text(self.alloc, self.reached.query(), &files) else {
+            return Err(CompactError::Memory);
+        };
+        drop(files);
+        match put_into(&text, into) {
+            Ok(()) => Ok(()),
+            Err(error) => Err(error),
         }
     }
 }

@@ -98,7 +98,7 @@ impl<'a, S: SpillStore + Drop> Summary<'a, S> {
 
     /// The store, with its frames.
     pub fn into_store(self) -> S
-        ensures store { result ≡ self.store }
+        ensures store { result ≡ self.entry.store }
         ensures holds { HoldsStates (query_tree self.entry.query) (S.told result) (S.held result)
             self.entry.states }
     {

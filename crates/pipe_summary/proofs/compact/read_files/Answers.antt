@@ -1,0 +1,50 @@
+use Rattle.std.proofs.Common.{rules, ◌≡◌, ◌∙◌, ◌+◌, ◌<◌, ◌∷◌, ◌++◌, ℕ, [], List, length, Err, sym, ap, subst, arith}
+use Rattle.pipe_aggs.specs.QueryTrees.{query_tree}
+use Rattle.pipe_aggs.specs.declared.query.Query.{Query}
+use Rattle.pipe_model.specs.Query.{QueryTree}
+use Rattle.pipe_spill.specs.Store.{IsFrameAt}
+use Rattle.pipe_states.specs.States.{StateSeen}
+use Rattle.pipe_states.specs.StateText.{state_text}
+use Rattle.pipe_summary.specs.Held.{IsDamagedNext}
+use Rattle.pipe_summary.specs.InTurn.{AreInTurn}
+use Rattle.pipe_summary.proofs.ReadFacts.{read-all, read-damaged, read-more}
+use Rattle.pipe_summary.proofs.compact.read_files.Goals as goal
+
+pub loop-number-preserved : goal.loop-number-preserved
+loop-number-preserved g c =
+    let q : QueryTree = query_tree c.args.reached.now.query in
+    let told = g.S.SpillStore.told c.args.store.now in
+    let i = c.loop-number.invariant in
+    let s : StateSeen = c.in_ok-file.file in
+    let at : IsFrameAt (g.S.SpillStore.told c.loop-number.store) c.loop-number.number (state_text q s) =
+    subst (λ (v : Query). IsFrameAt (g.S.SpillStore.told c.loop-number.store) c.loop-number.number (state_text (query_tree v) s)) i.query c.in_ok-file.ensures.frame in
+    let more = read-more q told (g.S.SpillStore.told c.loop-number.store) c.loop-number.reached.states c.read_next.new.reached.states s c.loop-number.number i.count i.front i.told at c.in_ok-file.ensures.states in
+    record {
+      query = c.read_next.ensures.query ∙ i.query;
+      count = more.0;
+      in_turn = subst (λ (v : Query). AreInTurn (query_tree v) c.read_next.new.reached.states) i.query c.in_ok-file.ensures.in_turn;
+      front = more.1;
+      told = c.read_next.ensures.told ∙ i.told;
+      held = c.read_next.ensures.held ∙ i.held;
+      sure = c.read_next.ensures.sure ∙ i.sure;
+      path = c.read_next.ensures.path ∙ i.path;
+      faults = c.read_next.ensures.calm (search rules) ∙ i.faults;
+      files = c.in_ok-push.ensures.items ∙ ap (λ (l : List StateSeen). l ++ s ∷ []) i.files ∙ sym c.in_ok-file.ensures.states;
+    }
+
+pub returns-in_err-file-clause-damaged : goal.returns-in_err-file-clause-damaged
+returns-in_err-file-clause-damaged g c =
+    let q : QueryTree = query_tree c.args.reached.now.query in
+    let told = g.S.SpillStore.told c.args.store.now in
+    let i = c.loop-number.invariant in
+    λ n e.
+    read-damaged q told (g.S.SpillStore.told c.loop-number.store) c.loop-number.reached.states n i.in_turn i.front i.told
+    (subst (λ (v : Query). IsDamagedNext (query_tree v) (g.S.SpillStore.told c.loop-number.store) c.loop-number.reached.states n) i.query (c.read_next.ensures.damaged n (search rules)))
+
+pub returns-clause-holds : goal.returns-clause-holds
+returns-clause-holds g c =
+    let q : QueryTree = query_tree c.args.reached.now.query in
+    let i = c.loop-number.invariant in
+    let stop : c.loop-number.number ≡ g.S.SpillStore.held c.loop-number.store = let first = c.held-number-end.ensures in omega (arith, i.held, first, c.loop-number-test.false, c.loop-number.auto.number-end) in
+    read-all q (g.S.SpillStore.told c.args.store.now) (g.S.SpillStore.told c.loop-number.store) (g.S.SpillStore.held c.loop-number.store) c.loop-number.number c.loop-number.reached.states
+    i.in_turn i.front i.told (g.S.SpillStore.tells_all c.loop-number.store) i.count stop
