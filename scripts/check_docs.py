@@ -7,6 +7,8 @@ A fault is one line, `page:line: what is wrong`, and the status is 1 where there
 import itertools
 import os
 import re
+import shutil
+import subprocess
 import sys
 from collections import namedtuple
 
@@ -19,6 +21,9 @@ DEFINITIONS = "docs/DEFINITIONS.md"
 BY_CRATE = "docs/DEFINITIONS_BY_CRATE.md"
 PROMISES = "docs/PROMISES.md"
 MOST_WORDS = 900
+# The crates whose statuses the tables of a page have, in their order.
+LAVZIMO = "lavzimo_answer"
+STATUSES = {"README.md": [LAVZIMO], "docs/FORMATS.md": ["tool_answer", "rollup_answer", LAVZIMO]}
 
 Definition = namedtuple("Definition", "name crate path line words alone")
 
@@ -382,10 +387,27 @@ def check_mentions(page, text, names, pattern):
 OPTION = re.compile(r"(?<![\w-])--[a-z][a-z-]*")
 
 
-def program_options():
-    """The options of the program's command, as pipe_words makes it."""
+def options_of_group_tool():
+    """The options of the command of group_tool, as pipe_words makes it."""
     names = re.search(r"let names = \[(.*?)\];", read("crates/pipe_words/src/command.rt"), re.DOTALL)
     return {f"--{name}" for name in re.findall(r'"([a-z][a-z-]*)"', names.group(1))}
+
+
+def options_of_lavzimo():
+    """The options of the command of lavzimo, as lavzimo_words makes it, beside help and the version."""
+    found = re.findall(r'(?:name: |of_columns\(|of_run\(\s*|\.long\()"([a-z][a-z-]*)"', read("crates/lavzimo_words/src/command.rt"))
+    return {f"--{name}" for name in found}
+
+
+APART = {"--help", "--version"}
+
+
+def statuses_of(crate):
+    """The statuses that the sources of a program's answer name, of those that programs share and its own."""
+    own = f"crates/{crate}/src/status.rt"
+    known = re.findall(r"pub const (\w+): u8 = (\d+);", read("crates/tool_shell/src/status.rt") + (read(own) if there(own) else ""))
+    sources = "".join(read(path) for path in files_below(f"crates/{crate}/src", ".rt") if path != own)
+    return {number for name, number in known if re.search(rf"\b{name}\b", sources)}
 
 
 def script_options(names):
@@ -403,40 +425,49 @@ def check_options(page, text, options):
                 fault(page, number, f"there is no option {option}")
 
 
-def check_table_of_options(text, options):
-    listed = {}
-    for number, line in enumerate(text.splitlines(), 1):
-        match = re.match(r"^\| `(--[a-z][a-z-]*)", line)
-        if match:
-            listed[match.group(1)] = number
-    for option in sorted(set(listed) - options):
-        fault("README.md", listed[option], f"the program has no option {option}")
-    for option in sorted(options - set(listed)):
-        fault("README.md", 0, f"no row for the program's option {option}")
+def check_table_of_options(page, options):
+    """The table of options of a page has those of a program, each once."""
+    rows = [(line, row_cells) for head, found in tables(read(page)) if head[0] == "option" for line, row_cells in found]
+    told = [option for _, row_cells in rows for option in OPTION.findall(row_cells[0])]
+    for option in sorted(set(told) | options):
+        if told.count(option) != (option in options):
+            has = "has it" if option in options else "has none"
+            fault(page, rows[0][0] if rows else 0, f"the option {option} stands {told.count(option)} times in the table of options, and the program {has}")
 
 
-def check_statuses(page, text):
-    """The tables of statuses have those of the program, each at least once."""
-    path = "crates/tool_answer/src/status.rt"
-    known = set(re.findall(r"pub const \w+: u8 = (\d+);", read(path)))
-    for head, rows in tables(text):
-        if head[0] == "status":
-            told = {row_cells[0] for _, row_cells in rows}
-            for status in sorted(told ^ known, key=int):
-                what = "no row for the status" if status in known else "the program has no status"
-                fault(page, rows[0][0], f"{what} {status}")
+def check_statuses(page, text, programs):
+    """The tables of statuses have those of their programs, each at least once: the first is that of the first program, and so on."""
+    found = [rows for head, rows in tables(text) if head[0] in ("status", "exit status")]
+    if len(found) != len(programs):
+        fault(page, 0, f"{len(found)} tables of statuses, for {len(programs)} programs")
+    for rows, crate in zip(found, programs):
+        known = statuses_of(crate)
+        for status in sorted({row_cells[0] for _, row_cells in rows} ^ known, key=int):
+            what = "no row for the status" if status in known else "the program has no status"
+            fault(page, rows[0][0], f"{what} {status}")
 
 
-def check_manual(page, options):
-    """The manual page of group_tool has the options and the statuses of the program, each once."""
+def check_manual(page, options, statuses):
+    """A manual page has the options and the statuses of its program, each once, and mandoc takes it."""
     items = [line for line in read(page).splitlines() if line.startswith(".It ")]
     told = [f"-{name}" for name in re.findall(r"^\.It Fl (-[a-z-]+)", "\n".join(items), re.M)]
-    statuses = re.findall(r"^\.It (\d+)$", "\n".join(items), re.M)
-    known = re.findall(r"pub const \w+: u8 = (\d+);", read("crates/tool_answer/src/status.rt"))
-    for what, found, wanted in (("option", told, options), ("status", statuses, known)):
-        for one in sorted(set(found) | set(wanted)):
-            if found.count(one) != (one in wanted):
-                fault(page, 0, f"the {what} {one} stands {found.count(one)} times, and the program has {'it' if one in wanted else 'none'}")
+    found = re.findall(r"^\.It (\d+)$", "\n".join(items), re.M)
+    for what, seen, wanted in (("option", told, options), ("status", found, statuses)):
+        for one in sorted(set(seen) | set(wanted)):
+            if seen.count(one) != (one in wanted):
+                fault(page, 0, f"the {what} {one} stands {seen.count(one)} times, and the program has {'it' if one in wanted else 'none'}")
+    if shutil.which("mandoc"):
+        lint = subprocess.run(["mandoc", "-Tlint", page], cwd=ROOT, capture_output=True, text=True, check=False).stdout
+        for line in lint.splitlines():
+            fault(page, 0, line.removeprefix(f"mandoc: {page}:"))
+
+
+def check_version():
+    """The version that lavzimo tells is that of the package."""
+    path = "crates/lavzimo_words/src/command.rt"
+    told, version = re.findall(r'\.version\("([^"]*)"\)', read(path)), read("VERSION").strip()
+    if told != [version]:
+        fault(path, 0, f"the version is {', '.join(told)}, and in VERSION {version}")
 
 
 def rooms():
@@ -483,17 +514,22 @@ def main():
     check_definitions(definitions, write)
     pages = ["README.md", "cases/README.md"] + sorted(files_below("docs", ".md"))
     pages += [f"crates/{crate}/README.md" for crate in crates()]
-    names, options, pattern = file_names(), program_options(), mention()
+    names, pattern = file_names(), mention()
+    options, of_lavzimo = options_of_group_tool(), options_of_lavzimo()
     for page in pages:
         text = read(page)
         check_rows(page, text, definitions)
         check_prose(page, text, definitions)
         check_mentions(page, text, names, pattern)
-        check_options(page, text, options)
-        check_statuses(page, text)
+        check_options(page, text, options | of_lavzimo | APART)
+        check_statuses(page, text, STATUSES.get(page, []))
     check_first_promises()
-    check_table_of_options(read("README.md"), options)
-    check_manual("man/group_tool.1", options)
+    check_table_of_options("README.md", of_lavzimo)
+    check_table_of_options("docs/FORMATS.md", options)
+    check_manual("man/group_tool.1", options, statuses_of("tool_answer"))
+    check_manual("man/lavzimo.1", of_lavzimo | APART, statuses_of(LAVZIMO))
+    check_manual("man/rollup_tool.1", set(), statuses_of("rollup_answer"))
+    check_version()
     check_map("docs/ARCHITECTURE.md")
     check_edits()
     words = sum(bool(re.search(r"\w", word)) for word in read("README.md").split())

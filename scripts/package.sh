@@ -1,7 +1,7 @@
 #!/usr/bin/env bash
-# Makes a Debian package of the proved program, its man page and its licence, without root: lavzimo_VERSION_amd64.deb in
+# Makes a Debian package of the proved programs, their man pages and the licence, without root: lavzimo_VERSION_amd64.deb in
 # the folder that is the argument, or in out/. The version stands in VERSION; the maintainer is that of the last commit, or
-# MAINTAINER. Builds the program first, where it isn't built.
+# MAINTAINER. Builds the programs first, where they aren't built; BUILT in the environment is a folder where they lie.
 set -eu
 cd "$(dirname "$0")/.."
 into=$(mkdir -p "${1:-out}" && cd "${1:-out}" && pwd)
@@ -11,14 +11,21 @@ tree=$(mktemp -d)
 trap 'rm -rf "$tree"' EXIT
 umask 022
 chmod 755 "$tree"
-scripts/build.sh "$tree/usr/bin"
-strip --strip-unneeded --remove-section=.comment --remove-section=.note "$tree/usr/bin/group_tool"
+programs=(lavzimo group_tool rollup_tool)
+if [ -n "${BUILT:-}" ]; then
+    for program in "${programs[@]}"; do
+        install -D -m 755 "$BUILT/$program" "$tree/usr/bin/$program"
+    done
+else
+    scripts/build.sh "$tree/usr/bin" "${programs[@]}"
+fi
+strip --strip-unneeded --remove-section=.comment --remove-section=.note "$tree"/usr/bin/*
 
 docs=$tree/usr/share/doc/lavzimo
 pages=$tree/usr/share/man/man1
 mkdir -p "$docs" "$pages" "$tree/DEBIAN"
-for page in man/*.1; do
-    gzip -9n <"$page" >"$pages/$(basename "$page").gz"
+for program in "${programs[@]}"; do
+    gzip -9n <"man/$program.1" >"$pages/$program.1.gz"
 done
 {
     printf 'Format: https://www.debian.org/doc/packaging-manuals/copyright-format/1.0/\nUpstream-Name: lavzimo\n\nFiles: *\nCopyright:\n'
@@ -38,10 +45,13 @@ Depends: libc6
 Section: utils
 Priority: optional
 Description: group-by over CSV whose answers are proved
- Groups the rows of CSV files by key expressions, with any number of worker
- threads, in bounded memory. That workers, limits and spilled files, where
- they give back what was written, change nothing in the answer is proved of
- the program, from bytes to bytes.
+ Groups the rows of CSV files by columns or key expressions, with any number
+ of worker threads, in bounded memory. That workers, limits and spilled files,
+ where they give back what was written, change nothing in the answer is proved
+ of the programs, from bytes to bytes.
+ .
+ lavzimo takes the names of columns, group_tool a query in JSON, and
+ rollup_tool saves what groups come to, on many machines, and rolls it up.
 CONTROL
 (cd "$tree" && find usr -type f -exec md5sum {} + | sort -k 2 >DEBIAN/md5sums)
 dpkg-deb --root-owner-group -Zxz --build "$tree" "$into/lavzimo_${version}_amd64.deb"

@@ -17,10 +17,10 @@ from concurrent.futures import ThreadPoolExecutor
 
 ROOT = os.path.dirname(os.path.dirname(os.path.abspath(__file__)))
 CASES = os.path.join(ROOT, "cases")
-NAMES = ["group_tool", "rollup_tool", "summary_tool"]
+NAMES = ["group_tool", "rollup_tool", "lavzimo", "summary_tool"]
 BUILT = [os.path.join(ROOT, "crates", name, "out", name + ending) for name in NAMES for ending in ("", ".by-rattle")]
 CHOSEN = os.path.join(ROOT, "bench/chosen_keys.py")
-PARTS = {"program", "args", "options", "stdin", "chosen", "seconds", "stdout", "stderr", "status", "files", "made", "fed", "left"}
+PARTS = {"program", "args", "options", "stdin", "chosen", "seconds", "stdout", "stderr", "status", "files", "made", "fed", "left", "unread"}
 NOBODY = 65534
 AS_NOBODY = ["setpriv", f"--reuid={NOBODY}", f"--regid={NOBODY}", "--clear-groups", "--no-new-privs"]
 SECONDS = 60
@@ -129,16 +129,25 @@ def give_to_nobody(folder):
             os.chown(path, NOBODY, NOBODY)
 
 
-def ended(words, folder, given, seconds):
+def pipe_without_a_reader(opened):
+    """The end of a pipe into which is written, and whose other end is closed."""
+    reader, writer = os.pipe()
+    os.close(reader)
+    opened.callback(os.close, writer)
+    return writer
+
+
+def ended(words, folder, given, seconds, unread):
     """What a run ends with: its status, its output and its line of fault. It is given the bytes of a pipe, or a file's name, and some time."""
     environment = {"PATH": os.environ["PATH"], "HOME": folder, "TMPDIR": folder, "LANG": "C.UTF-8"}
     with contextlib.ExitStack() as opened:
         how = {"input": given} if isinstance(given, bytes) else {"stdin": opened.enter_context(open(given, "rb"))}
+        how["stdout"] = pipe_without_a_reader(opened) if unread else subprocess.PIPE
         try:
-            run = subprocess.run(words, cwd=folder, capture_output=True, env=environment, timeout=seconds, check=False, **how)
+            run = subprocess.run(words, cwd=folder, stderr=subprocess.PIPE, env=environment, timeout=seconds, check=False, **how)
         except subprocess.TimeoutExpired:
             return f"none in {seconds} seconds", b"", b""
-    return run.returncode, run.stdout, run.stderr
+    return run.returncode, run.stdout or b"", run.stderr
 
 
 def end_in(case, folder, words, given):
@@ -152,7 +161,8 @@ def end_in(case, folder, words, given):
         os.chmod(path, mode)
     for feeder in feeders.values():
         feeder.start()
-    end = ended([*prefix, *words], folder, given, int(read(os.path.join(case, "seconds")) or SECONDS))
+    seconds, unread = int(read(os.path.join(case, "seconds")) or SECONDS), os.path.exists(os.path.join(case, "unread"))
+    end = ended([*prefix, *words], folder, given, seconds, unread)
     for path, feeder in feeders.items():
         while feeder.is_alive():
             os.close(os.open(path, os.O_RDONLY | os.O_NONBLOCK))
@@ -239,7 +249,7 @@ def main():
     named = {os.path.basename(program).split(".")[0] for program in programs}
     cases = [case for case in all_cases() if fault_of(case) or program_of(case) in named]
     if not programs:
-        raise SystemExit("run_cases: no program is built; `rt ci` builds them, or `rt run` in crates/group_tool, crates/rollup_tool and crates/summary_tool")
+        raise SystemExit("run_cases: no program is built; `rt ci` builds them, or `rt run` in the folder of a program below crates/")
     if not cases:
         raise SystemExit("run_cases: there is no case")
     with tempfile.TemporaryDirectory(prefix="run-cases-") as room:

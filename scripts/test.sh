@@ -14,7 +14,8 @@ else
     copy=$(mktemp -d) && chmod 711 "$copy"
     tar --exclude=./.git --exclude=out --exclude=must-fail -c . | tar -x -C "$copy"
     (cd "$copy" && rt ci) || failed=1
-    scripts/run_cases.py "$copy"/crates/{group_tool/out/group_tool,rollup_tool/out/rollup_tool}{,.by-rattle} || failed=1
+    shopt -s nullglob
+    scripts/run_cases.py "$copy"/crates/*/out/{group_tool,rollup_tool,lavzimo}{,.by-rattle} || failed=1
     rm -rf "$copy"
 fi
 exit "$failed"

@@ -1,7 +1,7 @@
 #!/usr/bin/env bash
 # Makes the package, asks lintian for errors, and tries it where there is no toolchain: as root in a system made by
-# debootstrap, else unpacked into a folder. The program answers README's first example there, its page is read, and what was
-# installed can be removed. Needs dpkg-deb, lintian, mandoc, and debootstrap or none.
+# debootstrap, else unpacked into a folder. The programs answer README's first example and one more there, their pages are
+# read, and what was installed can be removed. Needs dpkg-deb, lintian, mandoc, and debootstrap or none.
 set -eu
 cd "$(dirname "$0")/.."
 work=$(mktemp -d)
@@ -17,19 +17,25 @@ if [ "$(id -u)" = 0 ] && command -v debootstrap >/dev/null && debootstrap --vari
     inside() { chroot "$system" "$@"; }
     cp "$package" "$system/tmp/"
     inside dpkg -i "/tmp/$(basename "$package")" >/dev/null
-    program=/usr/bin/group_tool
+    programs=/usr/bin
 else
     echo "try_package.sh: no debootstrap, so the package is unpacked into a folder" >&2
     inside() { "$@"; }
     dpkg -x "$package" "$system"
-    program=$system/usr/bin/group_tool
+    programs=$system/usr/bin
 fi
+printf 'status,bytes\n200,5\n404,\n200,7\n' | inside "$programs/lavzimo" --by status --count --sum bytes >"$work/answer"
+printf 'status,count,sum_bytes\n200,2,12\n404,1,\n' | diff - "$work/answer"
 query='{"schema":[["k","Int64"],["v","Int64"]],"keys":["k"],"aggs":[{"alias":[{"sum":"v"},"s"]},{"alias":[{"count":"v"},"c"]}]}'
-printf 'k,v\n1,5\n2,6\n1,7\n' | inside "$program" "$query" >"$work/answer"
+printf 'k,v\n1,5\n2,6\n1,7\n' | inside "$programs/group_tool" "$query" >"$work/answer"
 printf 'k,s,c\n1,12,2\n2,6,1\n' | diff - "$work/answer"
-gzip -dc "$system/usr/share/man/man1/group_tool.1.gz" | mandoc -Tascii | grep -q 'GROUP_TOOL(1)'
-if [ "$program" = /usr/bin/group_tool ]; then
+printf 'k,v\n1,5\n2,6\n1,7\n' | inside "$programs/rollup_tool" save "$query" 0 - | inside "$programs/rollup_tool" roll "$query" '["k"]' - >"$work/answer"
+printf 'k,s,c\n1,12,2\n2,6,1\n' | diff - "$work/answer"
+for program in lavzimo group_tool rollup_tool; do
+    gzip -dc "$system/usr/share/man/man1/$program.1.gz" | mandoc -Tascii | grep -q "${program^^}(1)"
+done
+if [ "$programs" = /usr/bin ]; then
     inside dpkg -r lavzimo >/dev/null
-    [ ! -e "$system$program" ] && [ ! -e "$system/usr/share/doc/lavzimo" ]
+    [ ! -e "$system/usr/bin/lavzimo" ] && [ ! -e "$system/usr/share/doc/lavzimo" ]
 fi
 echo "try_package.sh: ok"

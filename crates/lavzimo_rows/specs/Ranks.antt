@@ -22,7 +22,8 @@ rank_parts (rank.Text s) = (av.Text s.now, 0)
 -- the order of ranks
 abbrev pub rank_cmp : Rank → Rank → Ordering
 rank_cmp r s =
-    ordering_then (value_cmp (rank_parts r).0 (rank_parts s).0) (nat_cmp (rank_parts r).1 (rank_parts s).1)
+    ordering_then (value_cmp (rank_parts r).0 (rank_parts s).0)
+    (nat_cmp (rank_parts r).1 (rank_parts s).1)
 
 -- a number's rank is the number itself, or where it is a mean its millionths
 abbrev pub IsNumberRank : Bool → ℤ → Millionths → Type 0

@@ -40,7 +40,8 @@ csv_line columns row = line_of (csv_fields columns row)
 
 -- a line of names, then a line for each row that is shown
 abbrev pub csv_shown : ShownData → List Row → List ℕ
-csv_shown s rows = line_of (column_names s.columns) ++ flat_map (csv_line s.columns) (kept_rows s rows)
+csv_shown s rows =
+    line_of (column_names s.columns) ++ flat_map (csv_line s.columns) (kept_rows s rows)
 
 -- ---- JSON
 

@@ -32,7 +32,8 @@ fn rounds_up(quotient: u64, left: u64, divisor: u64) -> bool
 fn divide(number: u128, divisor: u32) -> Quotient
     requires some { 0 < divisor }
     requires within { number ≤ 2 ^ 127 }
-    ensures nearest { result.whole * 1000000 + result.millionths ≡ rounded (number * 1000000) divisor }
+    ensures nearest { result.whole * 1000000 + result.millionths
+        ≡ rounded (number * 1000000) divisor }
     ensures millionths { result.millionths < 1000000 }
     ensures within { result.whole ≤ number }
     ensures less { 0 < result.millionths → result.whole < number }

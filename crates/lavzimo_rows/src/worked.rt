@@ -18,7 +18,8 @@ pub fn means_of_sums()
     ensures half_to_next { mean_micros (pos 3) 400000 ≡ pos 8 }
     ensures below_zero { mean_micros (negsuc 2) 400000 ≡ negsuc 7 }
     ensures nearly_nothing { mean_micros (negsuc 0) 2000000 ≡ pos 0 }
-    ensures greatest { mean_micros (pos (2 ^ 127 - 1)) 1 ≡ pos 170141183460469231731687303715884105727000000 }
+    ensures greatest { mean_micros (pos (2 ^ 127 - 1)) 1
+        ≡ pos 170141183460469231731687303715884105727000000 }
     ensures none { mean_value av.Null (int 0) ≡ av.Null }
 {}
 
@@ -35,9 +36,11 @@ pub fn decimals()
 /// Rows by their keys, and by a mean downwards, of which two show the same; and windows of these.
 pub fn orders_of_rows()
     ensures keys { kept_rows (in_order_of order.Key 0 None) cities
-        ≡ row av.Null 4 4 ∷ row (av.Text (codes "Bonn")) 10 4 ∷ row (av.Text (codes "Oslo")) 5 2 ∷ [] }
+        ≡ row av.Null 4 4 ∷ row (av.Text (codes "Bonn")) 10 4
+        ∷ row (av.Text (codes "Oslo")) 5 2 ∷ [] }
     ensures mean { kept_rows (in_order_of (by_mean true) 0 None) cities
-        ≡ row (av.Text (codes "Bonn")) 10 4 ∷ row (av.Text (codes "Oslo")) 5 2 ∷ row av.Null 4 4 ∷ [] }
+        ≡ row (av.Text (codes "Bonn")) 10 4 ∷ row (av.Text (codes "Oslo")) 5 2
+        ∷ row av.Null 4 4 ∷ [] }
     ensures upwards { kept_rows (in_order_of (by_mean false) 1 (Some 1)) cities
         ≡ row (av.Text (codes "Bonn")) 10 4 ∷ [] }
     ensures first { kept_rows (in_order_of order.First 2 None) cities

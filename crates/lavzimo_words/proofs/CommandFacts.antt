@@ -1,5 +1,5 @@
 -- What the command finds in words.
-use Rattle.std.proofs.Common.{◌≡◌, ◌∙◌, ℕ, true, false, Bor, List, [], ◌∷◌, Option, codes, map, option_map, refl, ap, inl, inr, subst}
+use Rattle.std.proofs.Common.{◌≡◌, ◌∙◌, ℕ, true, Bor, List, [], ◌∷◌, Option, codes, map, option_map, refl, ap, inl, inr, subst}
 use Rattle.clap.specs.Kinds.{HasKind, IsAmong, Kinds}
 use Rattle.clap.specs.Values.{kind_of}
 use Rattle.clap.specs.Words.{App, HasMatchesOf, Row, all_of, fault_of, found_of, is_simple, matched_of, matches_of, raw_values, rows_of}

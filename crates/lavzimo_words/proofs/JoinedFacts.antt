@@ -1,7 +1,7 @@
 -- Words that are joined, one after another.
 use Rattle.std.proofs.Common.{◌≡◌, ◌∙◌, ◌<◌, ◌++◌, ℕ, Bool, true, false, cond, List, [], ◌∷◌, length, Option, Some, None, refl, sym, ap, arith}
 use Rattle.std.specs.Prelude.{bytes_eq, codes}
-use Rattle.std.proofs.lemmas.List.{append-nil, append_assoc}
+use Rattle.std.proofs.lemmas.List.{append_assoc}
 use Rattle.lavzimo_words.specs.Joined.{is_order, joined, next_word}
 
 -- what two words and the rest are, by whether the first is `--`, and whether they are an order

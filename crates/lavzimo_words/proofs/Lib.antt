@@ -7,3 +7,13 @@ pub mod PieceFacts
 pub mod QueryFacts
 pub mod SourceFacts
 pub mod CutFacts
+pub mod AskableFacts
+pub mod FieldFacts
+pub mod SoundFacts
+pub mod NameFacts
+pub mod AnsweredFacts
+pub mod AskedLaws
+pub mod WalkFacts
+pub mod TakenFacts
+pub mod PieceText
+pub mod AskedBack

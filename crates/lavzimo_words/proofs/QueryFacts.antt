@@ -1,5 +1,5 @@
 -- What a query is made of, column by column.
-use Rattle.std.proofs.Common.{◌≡◌, ◌∙◌, ◌+◌, ◌<◌, ◌≤◌, ◌++◌, ℕ, Bool, true, false, List, [], ◌∷◌, cond, length, take, get_or, map, Some, refl, sym, ap, arith}
+use Rattle.std.proofs.Common.{◌≡◌, ◌∙◌, ◌+◌, ◌<◌, ◌≤◌, ◌++◌, ℕ, true, false, List, [], ◌∷◌, cond, length, take, get_or, Some, sym, ap, arith}
 use Rattle.std.specs.Prelude.{fold, pos}
 use Rattle.std.proofs.lemmas.List.{append-nil, take_all}
 use Rattle.std.proofs.lemmas.List.Sums.{fold_more}
@@ -11,7 +11,7 @@ use Rattle.pipe_exprs.specs.declared.expression.AExpr.TheVariants as ax
 use Rattle.pipe_exprs.specs.declared.expression.Node.{Node}
 use Rattle.pipe_model.specs.Expr.{Expr}
 use Rattle.pipe_query.specs.Added.{AreAdded}
-use Rattle.pipe_query.specs.Flat.{node, root, roots, flat_all}
+use Rattle.pipe_query.specs.Flat.{node, roots}
 use Rattle.lavzimo_words.specs.AskedQuery.{is_there, keys_of, named_fields, with_field}
 use Rattle.lavzimo_words.specs.declared.asked_column.AskedColumn.{AskedColumn}
 

@@ -1,5 +1,5 @@
 -- The query that shown columns make, and where they stand in its answer.
-use Rattle.std.specs.Prelude.{ℕ, ◌+◌, ◌++◌, ◌&&◌, ◌||◌, Bool, true, false, not, pos, List, [], ◌∷◌, map, filter, fold, codes, bytes_eq, if◌then◌else◌, Option, None}
+use Rattle.std.specs.Prelude.{ℕ, ◌+◌, ◌++◌, ◌&&◌, ◌||◌, Bool, true, false, not, pos, List, [], ◌∷◌, map, filter, fold, codes, bytes_eq, if◌then◌else◌, None}
 use Rattle.std.specs.List.{list_any}
 use Rattle.pipe_columns.specs.declared.any_value.AnyValue.TheVariants as av
 use Rattle.pipe_columns.specs.declared.data_type.DataType.TheVariants as dt
@@ -57,7 +57,8 @@ input_of c =
 
 -- what the rows of a group have
 abbrev pub measured : AskedColumn → Expr
-measured c = if is_rows c.role then expr.len else expr.aggregate (aggregation_of c.role) (input_of c)
+measured c =
+    if is_rows c.role then expr.len else expr.aggregate (aggregation_of c.role) (input_of c)
 
 -- the name of an aggregate: the halves of a mean get endings of their own
 abbrev pub aggregate_name : AskedColumn → List ℕ

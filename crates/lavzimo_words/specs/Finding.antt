@@ -1,7 +1,6 @@
 -- Of the proofs alone: what `clap` makes of words.
 use Rattle.std.specs.Prelude.{◌≡◌, ℕ, true, List, [], ◌∷◌, codes, map}
-use Rattle.std.specs.Borrow.{Bor}
-use Rattle.clap.specs.Words.{IsAmong, Kinds, found_of, rows_of}
+use Rattle.clap.specs.Words.{IsAmong, found_of, rows_of}
 use Rattle.clap.specs.declared.error.kind.ErrorKind.{ErrorKind}
 use Rattle.clap.specs.declared.error.kind.ErrorKind.TheVariants as kind
 use Rattle.lavzimo_words.specs.Asked.{is_fault}

@@ -10,3 +10,6 @@ pub mod AskedQuery
 pub mod Finding
 pub mod Pieces
 pub mod Worked
+pub mod Askable
+pub mod InAnswer
+pub mod WordsOf

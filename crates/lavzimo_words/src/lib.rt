@@ -8,6 +8,7 @@ mod command;
 mod cut;
 mod item;
 mod joined;
+mod laws;
 mod pieces;
 mod query;
 mod refusal;

@@ -1,11 +1,12 @@
 //! The query that asked columns make.
 
-ghost use Rattle.std.specs.Prelude.{◌≡◌, ◌++◌, ◌∷◌, [], IfOk, OnOk, Some, codes, length, map, true};
-ghost use Rattle.pipe_aggs.specs.Faults.{has_nodes};
+ghost use Rattle.std.specs.Prelude.{◌≡◌, ◌++◌, ◌∷◌, [], IfOk, None, OnOk, Some, codes, length, map, true};
+ghost use Rattle.pipe_aggs.specs.Faults.{first_fault, has_nodes};
 ghost use Rattle.pipe_aggs.specs.QueryTrees.{query_tree, written};
 ghost use Rattle.pipe_model.specs.Expr as expr;
 ghost use Rattle.pipe_query.specs.Added.{AreAdded, IsAdded};
 ghost use Rattle.pipe_query.specs.Flat.{agg_node, node};
+ghost use Rattle.lavzimo_words.specs.Askable.{IsAskable};
 ghost use Rattle.lavzimo_words.specs.Asked.{columns_seen};
 ghost use Rattle.lavzimo_words.specs.AskedQuery as spec;
 ghost use Rattle.lavzimo_words.specs.Roles as roles;
@@ -242,6 +243,8 @@ pub fn query_of(alloc: Global, asked: &Columns) -> Result<Query, AllocError>
         ≡ spec.written_of asked.now.columns.items (spec.is_first asked.now.order)) }
     ensures query { IfOk result (λ q. query_tree q ≡ spec.query_of_words (columns_seen asked.now)) }
     ensures nodes { IfOk result (λ q. has_nodes q ≡ true) }
+    ensures faultless { IsAskable (columns_seen asked.now)
+        → IfOk result (λ q. first_fault q ≡ None) }
 {
     let schema = Schema::new(named_fields(alloc, &asked.columns)?);
     let mut arena = Arena::new(alloc);

@@ -2,6 +2,7 @@
 
 ghost use Rattle.std.specs.Prelude.{◌≡◌, IfErr, IfOk, Ok, map, option_map};
 ghost use Rattle.clap.specs.Words.{found_of, rows_of};
+ghost use Rattle.lavzimo_words.specs.Askable.{HasAskable};
 ghost use Rattle.lavzimo_words.specs.Asked as spec;
 ghost use Rattle.lavzimo_words.specs.Command.{found_in};
 ghost use Rattle.lavzimo_words.specs.Pieces.{pieces_seen};
@@ -179,6 +180,7 @@ fn lend<'a>(alloc: Global, words: &'a [Text]) -> Result<Vec<&'a str>, AllocError
 /// What the words of the program ask, or why they are refused; help and the version end apart.
 pub fn read_words(alloc: Global, words: &[Text]) -> Result<Reading, AllocError>
     ensures words { IfOk result (λ r. spec.IsReading r (spec.asked_of words.now)) }
+    ensures askable { IfOk result HasAskable }
 {
     let words = joined(alloc, words)?;
     let lent = lend(alloc, &words)?;

@@ -2,6 +2,7 @@
 #![tactic(auto)]
 
 mod at_once;
+mod code_hasher;
 mod coverage;
 mod frame;
 mod group;

@@ -9,8 +9,8 @@ use thiserror::Error;
 /// Why states were not regrouped.
 #[derive(Debug, Drop, PartialEq, Eq, Error)]
 pub enum RegroupError {
-    /// The range of the state at a position, counted from 0, shares a number with that of an earlier
-    /// one; it is the first such.
+    /// The range of the state at a position, counted from 0, shares a number with that of an
+    /// earlier one; it is the first such.
     #[error("state {file} overlaps an earlier one")]
     Overlap { file: usize },
     /// The states are of 2^32 rows or more.

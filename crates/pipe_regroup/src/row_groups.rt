@@ -10,6 +10,7 @@ ghost use Rattle.pipe_spill.specs.KeyTypes.{AreOfTypes};
 ghost use Rattle.pipe_states.specs.Regrouped.{kept};
 ghost use Rattle.pipe_regroup.specs.Groups.{AreFound, AreInOrder, count_rows, group_row, groups_of, HasAdded, IsJoinable};
 
+use crate::code_hasher::CodeHasher;
 use crate::group::{Group, start_group, value_order};
 use crate::rule::Rule;
 use indexmap::IndexSet;
@@ -17,6 +18,7 @@ use pipe_columns::{AnyValue, DataType};
 use pipe_spill::append_value;
 use pipe_states::StateRow;
 use std::alloc::{AllocError, Global};
+use std::hash::RandomState;
 
 /// The groups of state rows by the values at some positions of their keys, which are of some types.
 #[derive(Drop)]
@@ -24,7 +26,7 @@ pub struct RowGroups {
     pub keep: Vec<usize>,
     pub types: Vec<DataType>,
     pub rules: Vec<Rule>,
-    pub codes: IndexSet<Vec<u8>>,
+    pub codes: IndexSet<Vec<u8>, CodeHasher>,
     pub groups: Vec<Group>,
 }
 
@@ -49,12 +51,13 @@ fn encode_kept(
 }
 
 impl RowGroups {
-    /// No groups, and by what they are to be found and joined.
+    /// No groups, and by what they are to be found and joined. Their codes hash under keys.
     pub(crate) fn new(
         alloc: Global,
         keep: Vec<usize>,
         types: Vec<DataType>,
         rules: Vec<Rule>,
+        hash_keys: Option<RandomState>,
     ) -> RowGroups
         ensures keep { result.keep ≡ keep }
         ensures types { result.types ≡ types }
@@ -66,7 +69,7 @@ impl RowGroups {
             keep,
             types,
             rules,
-            codes: IndexSet::new(alloc),
+            codes: IndexSet::with_hasher(alloc, CodeHasher::new(hash_keys)),
             groups: Vec::new(alloc),
         }
     }

@@ -47,5 +47,5 @@ pub(crate) fn groups_by(
     let types = kept_types(alloc, query, keep)?;
     let rules = rules_of(alloc, query.prototypes())?;
     let keep = Vec::from_slice(alloc, keep)?;
-    Ok(RowGroups::new(alloc, keep, types, rules))
+    Ok(RowGroups::new(alloc, keep, types, rules, query.hash_keys()))
 }

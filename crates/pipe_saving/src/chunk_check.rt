@@ -45,7 +45,8 @@ pub(crate) fn check_chunks(
     chunks: &[DataChunk],
 ) -> Result<(), SaveError>
     ensures ok { OnOk result (CanBeSaved schema.now first chunks.now) }
-    ensures misfit { (i : ℕ) → result ≡ Err (fault.Schema i) → IsFirstMisfit schema.now chunks.now i }
+    ensures misfit { (i : ℕ) → result ≡ Err (fault.Schema i)
+        → IsFirstMisfit schema.now chunks.now i }
     ensures large { IsErrOf result fault.TooLarge → AreTooLarge schema.now first chunks.now }
     ensures memory { result ≢ Err fault.Memory }
 {

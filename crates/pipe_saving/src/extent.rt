@@ -23,7 +23,8 @@ pub(crate) fn put_place(
 ) -> Result<(), AllocError>
     requires few { All (λ e. e.rows + 1 < 2 ^ 32) extents.old.items }
     ensures there { OnOk result (index < length extents.old.items → extents.new.items
-        ≡ slice_set extents.old.items index (with_place place (extent_at extents.old.items index))) }
+        ≡ slice_set extents.old.items index
+        (with_place place (extent_at extents.old.items index))) }
     ensures new { OnOk result (length extents.old.items ≤ index → extents.new.items
         ≡ extents.old.items ++ (record { last = place; rows = 1 }) ∷ []) }
 {

@@ -63,7 +63,8 @@ fn rows_of(
 impl FedGroups {
     /// Those of no rows of a query.
     pub(crate) fn new(alloc: Global, query: &CheckedQuery<'_>) -> Result<FedGroups, AllocError>
-        ensures { IfOk result (λ g. IsFed (shape_of (query_tree query.now)) [] g.table g.extents.items) }
+        ensures { IfOk result
+            (λ g. IsFed (shape_of (query_tree query.now)) [] g.table g.extents.items) }
     {
         let table = AggHashTable::new(alloc, query, None)?;
         Ok(FedGroups {

@@ -32,7 +32,8 @@ fn feed_chunk(
     requires fits { FitsSchema query.now.schema chunk.now.frame }
     requires few { AreFew first (map (λ s. s.value) taken.now ++ chunk.now ∷ []) }
     ensures { OnOk result (HasTaken (query_tree query.now) first
-        (map (λ s. s.value) taken.now ++ chunk.now ∷ []) groups.new.table groups.new.extents.items) }
+        (map (λ s. s.value) taken.now ++ chunk.now ∷ [])
+        groups.new.table groups.new.extents.items) }
 {
     let height = chunk.frame.height();
     let index = first + taken.len() as u32;
@@ -64,8 +65,8 @@ fn file_of(
     Ok(StateFile::new(first, end, rows))
 }
 
-/// The state of chunks that come one by one. Contracts see the query, the position of the first chunk
-/// and the chunks taken, though of each only a mark without bytes is kept.
+/// The state of chunks that come one by one. Contracts see the query, the position of the first
+/// chunk and the chunks taken, though of each only a mark without bytes is kept.
 #[derive(Drop)]
 pub struct Saving<'a> {
     query: &'a CheckedQuery<'a>,
@@ -96,8 +97,8 @@ impl<'a> Model for Saving<'a> {
 }
 
 impl<'a> Saving<'a> {
-    /// No chunk is taken yet; the first has a position. The error is want of memory, as it is of the
-    /// other methods.
+    /// No chunk is taken yet; the first has a position. The error is want of memory, as it is of
+    /// the other methods.
     pub fn new(
         alloc: Global,
         query: &'a CheckedQuery<'a>,
@@ -115,8 +116,8 @@ impl<'a> Saving<'a> {
         })
     }
 
-    /// Whether there is room for one more chunk: all rows are then fewer than 2^32, and their chunks
-    /// have positions.
+    /// Whether there is room for one more chunk: all rows are then fewer than 2^32, and their
+    /// chunks have positions.
     pub fn has_room(&self, chunk: &DataChunk) -> bool
         ensures { IsTrue result ↔ AreFew self.now.first (self.now.taken ++ chunk.now ∷ []) }
     {

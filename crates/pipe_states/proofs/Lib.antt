@@ -22,6 +22,10 @@ pub mod Ascent
 pub mod Forms
 pub mod SumHalves
 pub mod Saved
+pub mod PlainResults
+pub mod ReadResults
 pub mod Fronts
 pub mod Rows
+pub mod ReadRow
+pub mod ReadRows
 pub mod Texts

@@ -1,5 +1,5 @@
 -- The state rows of a query as rows of a frame, and back.
-use Rattle.std.proofs.Common.{◌≡◌, ◌≢◌, ◌∙◌, ◌+◌, ◌^◌, ◌<◌, ℕ, true, false, List, [], ◌∷◌, ◌++◌, map, length, take, drop, take-append-drop, append_assoc, refl, sym, ap, subst, arith}
+use Rattle.std.proofs.Common.{◌≡◌, ◌≢◌, ◌∙◌, ℕ, true, false, List, [], ◌∷◌, ◌++◌, map, length, take, drop, take-append-drop, append_assoc, refl, sym, ap, subst}
 use Rattle.std.specs.Prelude.{All, Some, None}
 use Rattle.std.specs.Int.{bytes_high_first}
 use Rattle.std.proofs.lemmas.Bool.{false≢true}
@@ -23,7 +23,7 @@ use Rattle.pipe_spill.specs.KeyTypes.{AreOfTypes, IsCodeOfNone, IsTuple}
 use Rattle.pipe_spill.specs.SpillRow.{IsRow}
 use Rattle.pipe_spill.specs.declared.spill_row.SpillRow.{SpillRow}
 use Rattle.pipe_spill.proofs.CodeOrder.{codes_injective}
-use Rattle.pipe_states.specs.Fair.{IsRowOf, result_types}
+use Rattle.pipe_states.specs.Fair.{IsRowOf}
 use Rattle.pipe_states.specs.Forms.{all_give, all_result_types, all_saved, all_saved_types, restored_behind}
 use Rattle.pipe_states.specs.StateText.{saved_aggs, saved_row, state_types}
 use Rattle.pipe_states.specs.declared.state_row.StateRow.{StateRow}

@@ -1,6 +1,6 @@
 -- Results are saved, and what was saved gives them back.
 use Rattle.std.proofs.Common.{◌≡◌, ◌∙◌, ◌+◌, ◌*◌, ◌^◌, ◌<◌, ◌≤◌, ◌&&◌, ℕ, Bool, true, false, List, [], ◌∷◌, ◌++◌, length, take, drop, get_or, take-append-drop, append_assoc, refl, sym, ap, subst, arith}
-use Rattle.std.specs.Prelude.{All, if◌then◌else◌, Option, Some, None, option_map, ℤ, pos, ◌*ℤ◌, ◌+ℤ◌}
+use Rattle.std.specs.Prelude.{All, if◌then◌else◌, Option, Some, None, option_map, pos, ◌*ℤ◌, ◌+ℤ◌}
 use Rattle.std.specs.Option.{option_and_then}
 use Rattle.std.proofs.lemmas.Bool.{false≢true}
 use Rattle.std.proofs.lemmas.List.{append-nil, drop_at, drop_more}

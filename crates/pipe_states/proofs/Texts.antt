@@ -1,21 +1,23 @@
 -- The text of a state is the text of no other.
-use Rattle.std.proofs.Common.{◌≡◌, ◌≢◌, ◌∙◌, ◌+◌, ◌^◌, ◌<◌, ◌≤◌, ℕ, List, [], ◌∷◌, ◌++◌, map, length, drop, sym, ap, subst, arith}
+use Rattle.std.proofs.Common.{◌≡◌, ◌∙◌, ◌^◌, ◌<◌, ℕ, List, ◌++◌, map, length, drop, sym, ap, subst, arith}
 use Rattle.std.specs.Prelude.{All}
 use Rattle.std.specs.Int.{bytes_high_first}
 use Rattle.std.proofs.lemmas.List.{length-map}
-use Rattle.pipe_columns.specs.declared.data_type.DataType.{DataType}
+use Rattle.std.proofs.lemmas.List.Elements.{All-weaker}
 use Rattle.pipe_model.specs.Groupable.{IsGroupable}
 use Rattle.pipe_model.specs.Output.{key_types}
 use Rattle.pipe_model.specs.Query.{QueryTree}
-use Rattle.pipe_spill.specs.FrameBytes.{frame_bytes, IsFrameOfNone, rows_bytes}
+use Rattle.pipe_spill.specs.FrameBytes.{frame_bytes, rows_bytes}
 use Rattle.pipe_spill.specs.SpillRow.{AreRows}
-use Rattle.pipe_spill.specs.declared.spill_row.SpillRow.{SpillRow}
+use Rattle.pipe_spill.proofs.FrameOnce.{read_back}
 use Rattle.pipe_spill.proofs.RowOnce.{four_once}
 use Rattle.pipe_states.specs.Fair.{IsFair, IsRowOf}
 use Rattle.pipe_states.specs.Files.{IsFairStateOf, IsTextOfNone}
+use Rattle.pipe_states.specs.Reading.{IsFrameOfNoState, IsTextRow}
 use Rattle.pipe_states.specs.States.{StateSeen}
 use Rattle.pipe_states.specs.StateText.{saved_row, state_text, state_types}
 use Rattle.pipe_states.specs.declared.state_row.StateRow.{StateRow}
+use Rattle.pipe_states.proofs.ReadRows.{saved_text, text_of_saved}
 use Rattle.pipe_states.proofs.Rows.{same_rows}
 use Rattle.pipe_states.proofs.TextFacts.{saved_are_rows}
 
@@ -31,20 +33,6 @@ range_once a b c d xs ys p q r s e = (
 -- fewer than eight bytes are no state
 pub no_range : (q : QueryTree) (bytes : List ℕ) → length bytes < 8 → IsTextOfNone q bytes
 no_range q bytes h s p e = omega (arith, h, ap length e)
-
--- rows were read of a frame of given types
-pub record AreRead (key_types types : List DataType) (frame : List ℕ) (read : List SpillRow) : Type 0 where
-  pub rows : AreRows key_types types read
-  pub bytes : frame_bytes types read ≡ frame
-  pub sole : (rows : List SpillRow) → AreRows key_types types rows → frame_bytes types rows ≡ frame → rows ≡ read
-
--- they are of the types of a query
-pub read_of : (kt it ks ts : List DataType) (frame : List ℕ) (read : List SpillRow) → kt ≡ ks → it ≡ ts → AreRead kt it frame read → AreRead ks ts frame read
-read_of kt it ks ts frame read k t h = subst (λ (x : List DataType). AreRead ks x frame read) t (subst (λ (x : List DataType). AreRead x it frame read) k h)
-
--- bytes of no rows of some types are those of none of the types of a query
-pub none_of : (kt it ks ts : List DataType) (frame : List ℕ) → kt ≡ ks → it ≡ ts → IsFrameOfNone kt it frame → IsFrameOfNone ks ts frame
-none_of kt it ks ts frame k t h = subst (λ (x : List DataType). IsFrameOfNone ks x frame) t (subst (λ (x : List DataType). IsFrameOfNone x it frame) k h)
 
 -- what was written of a state is its text
 pub written_state : (q : QueryTree) (s : StateSeen) (first end count : ℕ) (rows : List StateRow) (head text : List ℕ)
@@ -72,41 +60,37 @@ module _ (q : QueryTree) (g : IsGroupable q) where
         range_once s.first s.end first end (frame_bytes (state_types q) (map (saved_row q) s.rows)) frame
         (omega (arith, h.fair.range, h.fair.end)) h.fair.end short few (e ∙ sym head)
 
-    -- what stands behind the range is no frame
-    pub no_frame : IsFrameOfNone (key_types q) (state_types q) frame → IsTextOfNone q bytes
-    no_frame none s h e = none (map (saved_row q) s.rows) (saved_are s h) (parts s h e).2
+    -- what stands behind the range is the frame of no state rows
+    pub no_state_rows : IsFrameOfNoState q frame → IsTextOfNone q bytes
+    no_state_rows none s h e = none s.rows (text_of_saved q s.rows h.of_query (saved_are s h)) (parts s h e).2
 
-    -- rows were read of it
-    module _ (read : List SpillRow)
-        (sole : (rows : List SpillRow) → AreRows (key_types q) (state_types q) rows → frame_bytes (state_types q) rows ≡ frame → rows ≡ read) where
-      -- the rows of a state are saved as them
-      the_rows : (s : StateSeen) → IsFairStateOf q s → state_text q s ≡ bytes → map (saved_row q) s.rows ≡ read
-      the_rows s h e = sole (map (saved_row q) s.rows) (saved_are s h) (parts s h e).2
+    -- state rows were read of it
+    module _ (rows : List StateRow) (text : All (IsTextRow q) rows) (read : frame_bytes (state_types q) (map (saved_row q) rows) ≡ frame) (room : length frame < 2 ^ 64) where
+      -- they are of the query
+      pub of_query : All (IsRowOf q) rows
+      of_query = All-weaker (IsTextRow q) (IsRowOf q) (λ r is. is.of_query) rows text
 
-      -- no state rows are
-      pub no_rows : ((rows : List StateRow) → All (IsRowOf q) rows → map (saved_row q) rows ≢ read) → IsTextOfNone q bytes
-      no_rows none s h e = none s.rows h.of_query (the_rows s h e)
+      -- the rows of a state are they
+      the_rows : (s : StateSeen) → IsFairStateOf q s → state_text q s ≡ bytes → s.rows ≡ rows
+      the_rows s h e =
+          same_rows q g s.rows rows h.of_query of_query
+          (read_back (key_types q) (state_types q) (map (saved_row q) rows) (map (saved_row q) s.rows) frame (saved_text q rows text) (saved_are s h) room read (parts s h e).2)
 
-      -- state rows are
-      module _ (rows : List StateRow) (saved : map (saved_row q) rows ≡ read) (of_query : All (IsRowOf q) rows) where
-        -- the state of the range with these rows
-        abbrev pub the_state : StateSeen
-        the_state = record { first = first; end = end; rows = rows }
+      -- the state of the range with these rows
+      abbrev pub the_state : StateSeen
+      the_state = record { first = first; end = end; rows = rows }
 
-        -- no other has the text
-        pub sole_state : (s : StateSeen) → IsFairStateOf q s → state_text q s ≡ bytes → s ≡ the_state
-        sole_state s h e =
-            let at = parts s h e in
-            let same = same_rows q g s.rows rows h.of_query of_query (the_rows s h e ∙ sym saved) in
-            λ i. record { first = at.0 i; end = at.1 i; rows = same i }
+      -- no other has the text
+      pub sole_state : (s : StateSeen) → IsFairStateOf q s → state_text q s ≡ bytes → s ≡ the_state
+      sole_state s h e =
+          let at = parts s h e in
+          let same = the_rows s h e in
+          λ i. record { first = at.0 i; end = at.1 i; rows = same i }
 
-        -- it isn't fair
-        pub unfair : (IsFair the_state → ⊥) → IsTextOfNone q bytes
-        unfair none s h e = none (subst IsFair (sole_state s h e) h.fair)
+      -- it isn't fair
+      pub unfair : (IsFair the_state → ⊥) → IsTextOfNone q bytes
+      unfair none s h e = none (subst IsFair (sole_state s h e) h.fair)
 
-        -- it has the text
-        pub text_of_state : frame_bytes (state_types q) read ≡ frame → state_text q the_state ≡ bytes
-        text_of_state e =
-            ap (λ (rs : List SpillRow). bytes_high_first 4 first ++ bytes_high_first 4 end ++ frame_bytes (state_types q) rs) saved
-            ∙ ap (λ (l : List ℕ). bytes_high_first 4 first ++ bytes_high_first 4 end ++ l) e
-            ∙ head
+      -- it has the text
+      pub text_of_state : state_text q the_state ≡ bytes
+      text_of_state = ap (λ (l : List ℕ). bytes_high_first 4 first ++ bytes_high_first 4 end ++ l) read ∙ head

@@ -1,5 +1,5 @@
 -- Of the proofs alone: what a state holds of the results of running aggregates, and how it is saved.
-use Rattle.std.specs.Prelude.{◌*◌, ◌^◌, ◌+ℤ◌, ◌*ℤ◌, ◌&&◌, ℕ, pos, Bool, true, false, not, if◌then◌else◌, List, [], ◌∷◌, ◌++◌, drop, take, Option, Some, None, option_map}
+use Rattle.std.specs.Prelude.{◌^◌, ◌+ℤ◌, ◌*ℤ◌, ◌&&◌, ℕ, pos, Bool, true, false, not, if◌then◌else◌, List, [], ◌∷◌, ◌++◌, drop, take, Option, Some, None, option_map}
 use Rattle.std.specs.List.{flat_map}
 use Rattle.std.specs.Option.{option_and_then}
 use Rattle.pipe_columns.specs.declared.any_value.AnyValue.{AnyValue}

@@ -6,5 +6,6 @@ pub mod Parts
 pub mod Fair
 pub mod Files
 pub mod Forms
+pub mod Reading
 pub mod Together
 pub mod Worked

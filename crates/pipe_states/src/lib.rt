@@ -6,13 +6,15 @@ mod fair_laws;
 mod fairness;
 mod halves;
 mod laws;
+mod numbers;
 mod reading;
-mod restored;
 mod results;
+mod row_read;
 mod saved_types;
 mod state_error;
 mod state_file;
 mod state_row;
+mod values;
 mod worked;
 mod writing;
 

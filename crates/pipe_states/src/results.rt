@@ -1,7 +1,7 @@
 //! Results out of the values that they are saved as, and whether they can be those of a query.
 
-ghost use Rattle.std.specs.Prelude.{◌≡◌, ◌+◌, ◌<◌, ◌^◌, ◌++◌, ◌&&◌, [], IfOk, IsErrOf, None, OnOk, Some, drop, false, option_map, take};
-ghost use Rattle.pipe_columns.specs.AnyValue.{is_null};
+ghost use Rattle.std.specs.Prelude.{◌≡◌, ◌+◌, ◌<◌, ◌^◌, ◌++◌, ◌&&◌, [], All, IfOk, IsErrOf, None, OnOk, Some, drop, false, option_map, take};
+ghost use Rattle.pipe_columns.specs.AnyValue.{HasUtf8, is_null};
 ghost use Rattle.pipe_columns.specs.Frame.{value_at};
 ghost use Rattle.pipe_columns.specs.declared.any_value.AnyValue.TheVariants as av;
 ghost use Rattle.pipe_columns.specs.declared.any_value.AnyValue.{AnyValue};
@@ -9,13 +9,15 @@ ghost use Rattle.pipe_model.specs.Aggregate.{counted};
 ghost use Rattle.pipe_spill.specs.KeyTypes.{AreOfTypes};
 ghost use Rattle.pipe_states.specs.Fair.{does_sum_suit, is_count_within, is_number};
 ghost use Rattle.pipe_states.specs.Forms.{all_give, all_result_types, all_saved_types, BeginWithResults, gives, is_mean, restored, restored_behind, saved_types_of, saved_width};
+ghost use Rattle.pipe_states.specs.Reading.{AreResults, BeginsNoResults, results_bytes};
 ghost use Rattle.pipe_states.specs.declared.state_error.StateError.TheVariants as fault;
 
 use crate::halves::joined_halves;
 use crate::saved_types::{is_mean, saved_width, width};
 use crate::state_error::StateError;
+use crate::values::read_values;
 use pipe_aggs::AggregateFunction;
-use pipe_columns::AnyValue;
+use pipe_columns::{AnyValue, DataType};
 use pipe_spill::Values;
 use std::alloc::Global;
 
@@ -152,23 +154,61 @@ fn restore(
     Ok(())
 }
 
-/// The results of running aggregates that the values of a row behind its first three are.
-pub(crate) fn restored_results(
+/// The results of running aggregates that were saved as some values, which it takes out.
+fn restored_results(
     alloc: Global,
     functions: &[AggregateFunction],
     values: &mut Values,
 ) -> Result<Values, StateError>
-    requires { AreOfTypes (all_saved_types functions.now) (drop 3 values.old) }
+    requires { AreOfTypes (all_saved_types functions.now) values.old }
     ensures restored { IfOk result
-        (λ results. restored_behind [] functions.now (drop 3 values.old) ≡ Some results) }
+        (λ results. restored_behind [] functions.now values.old ≡ Some results) }
     ensures refused { IsErrOf result fault.NotAState
-        → restored_behind [] functions.now (drop 3 values.old) ≡ None }
+        → restored_behind [] functions.now values.old ≡ None }
 {
     let mut results = Vec::with_capacity(alloc, functions.len())?;
-    let mut j = 3;
+    let mut j = 0;
     for function in functions {
         restore(function, values, j, &mut results)?;
         j += saved_width(function);
     }
     Ok(Values::new(results))
+}
+
+/// The results of running aggregates that were saved as some values: they are those values where
+/// none is a mean.
+fn results_of(
+    alloc: Global,
+    functions: &[AggregateFunction],
+    mut values: Values,
+) -> Result<Values, StateError>
+    requires { AreOfTypes (all_saved_types functions.now) values }
+    ensures restored { IfOk result
+        (λ results. restored_behind [] functions.now values ≡ Some results) }
+    ensures refused { IsErrOf result fault.NotAState
+        → restored_behind [] functions.now values ≡ None }
+{
+    if values.as_slice().len() == functions.len() {
+        return Ok(values);
+    }
+    restored_results(alloc, functions, &mut values)
+}
+
+/// The results of running aggregates that the bytes begin with, saved in these types, and the bytes
+/// after them.
+pub(crate) fn read_results<'a>(
+    alloc: Global,
+    functions: &[AggregateFunction],
+    types: &[DataType],
+    bytes: &'a [u8],
+) -> Result<(Values, &'a [u8]), StateError>
+    requires { types.now ≡ all_saved_types functions.now }
+    ensures results { IfOk result (λ p. AreResults functions.now p.0) }
+    ensures utf8 { IfOk result (λ p. All HasUtf8 p.0) }
+    ensures code { IfOk result (λ p. results_bytes functions.now p.0 ++ p.1.now ≡ bytes.now) }
+    ensures refused { IsErrOf result fault.NotAState → BeginsNoResults functions.now bytes.now }
+{
+    let (values, rest) = read_values(alloc, bytes, types)?;
+    let results = results_of(alloc, functions, values)?;
+    Ok((results, rest))
 }

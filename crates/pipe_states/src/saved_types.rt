@@ -1,10 +1,10 @@
 //! The types in which a state is saved.
 
 ghost use Rattle.std.specs.Prelude.{◌≡◌, ◌++◌, IfOk, OnOk};
+ghost use Rattle.pipe_aggs.specs.HashAggs.{prototypes};
 ghost use Rattle.pipe_aggs.specs.QueryTrees.{query_tree};
 ghost use Rattle.pipe_model.specs.Groupable.{IsGroupable};
 ghost use Rattle.pipe_states.specs.Forms.{all_saved_types, is_mean, saved_types_of, saved_width, width};
-ghost use Rattle.pipe_states.specs.StateText.{state_types};
 
 use pipe_aggs::{AggregateFn, AggregateFunction, CheckedQuery};
 use pipe_columns::DataType;
@@ -56,16 +56,16 @@ fn push_all_types(
     Ok(())
 }
 
-/// The types of what a state row of a query is saved as, behind its key.
-pub(crate) fn state_types(
+/// The types in which the results of a query are saved.
+pub(crate) fn saved_types(
     alloc: Global,
     query: &CheckedQuery<'_>,
 ) -> Result<Vec<DataType>, AllocError>
-    ensures types { IfOk result (λ types. types.items ≡ state_types (query_tree query.now)) }
+    ensures types { IfOk result
+        (λ types. types.items ≡ all_saved_types (prototypes (query_tree query.now))) }
     ensures groupable { OnOk result (IsGroupable (query_tree query.now)) }
 {
     let mut types = Vec::new(alloc);
-    types.extend_from_slice(&[DataType::UInt32, DataType::UInt32, DataType::UInt32])?;
     push_all_types(&mut types, query.prototypes())?;
     Ok(types)
 }

@@ -3,7 +3,7 @@
 ghost use Rattle.std.specs.Prelude.{◌≡◌};
 ghost use Rattle.pipe_states.specs.declared.state_error.StateError.TheVariants as fault;
 
-use pipe_spill::{DecodeError, FrameError};
+use pipe_spill::DecodeError;
 use std::alloc::{AllocError, AllocFailed};
 use thiserror::Error;
 
@@ -31,16 +31,6 @@ impl<T: Drop> From<AllocFailed<T>> for StateError {
 
     fn from(_: AllocFailed<T>) -> Self {
         StateError::Memory
-    }
-}
-
-/// What a fault of a frame is to a state.
-pub(crate) fn of_frame(error: FrameError) -> StateError
-    ensures { result ≡ fault.NotAState → error ≡ FrameError.NotAFrame }
-{
-    match error {
-        FrameError::NotAFrame => StateError::NotAState,
-        FrameError::Memory => StateError::Memory,
     }
 }
 

@@ -1,5 +1,5 @@
 -- Additions: chunks that are counted, and a state that is put behind others.
-use Rattle.std.proofs.Common.{◌≡◌, ◌∙◌, ℕ, ◌+◌, ◌<◌, ◌≤◌, ◌^◌, List, [], ◌∷◌, ◌++◌, length, All, Option, Some, None, IfSome, true, false, is_some, ◌-◌, refl, sym, ap, subst, arith}
+use Rattle.std.proofs.Common.{◌≡◌, ℕ, ◌+◌, ◌<◌, ◌≤◌, ◌^◌, List, [], ◌∷◌, ◌++◌, length, Option, Some, None, IfSome, true, false, is_some, ◌-◌, sym, subst, arith}
 use Rattle.std.proofs.lemmas.List.Elements.{All-append}
 use Rattle.std.proofs.lemmas.List.Sums.{sum_by-append}
 use Rattle.pipe_columns.specs.declared.data_chunk.DataChunk.{DataChunk}

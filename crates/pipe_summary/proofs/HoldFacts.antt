@@ -1,6 +1,5 @@
 -- What a store holds and stands for: with one more frame, answered, and merged.
-use Rattle.std.proofs.Common.{◌≡◌, ◌∙◌, ℕ, zero, suc, ◌+◌, ◌<◌, ◌≤◌, ◌^◌, List, [], ◌∷◌, ◌++◌, length, map, All, Option, Some, None, IfSome, Bool, false, refl, sym, ap, subst, arith}
-use Rattle.std.specs.Option.{option_map}
+use Rattle.std.proofs.Common.{◌≡◌, ◌∙◌, ℕ, suc, ◌+◌, ◌<◌, ◌≤◌, ◌^◌, List, [], ◌∷◌, ◌++◌, length, Option, Some, None, IfSome, false, refl, sym, ap, subst, arith}
 use Rattle.std.proofs.lemmas.List.{append-nil}
 use Rattle.std.proofs.lemmas.List.Elements.{All-nil}
 use Rattle.pipe_columns.specs.declared.data_chunk.DataChunk.{DataChunk}
@@ -18,12 +17,12 @@ use Rattle.pipe_states.specs.Regrouped.{end_of, merged_states, regrouped}
 use Rattle.pipe_states.specs.States.{StateSeen}
 use Rattle.pipe_states.specs.StateText.{state_text}
 use Rattle.pipe_states.specs.Together.{total_rows}
-use Rattle.pipe_summary.specs.Additions.{AreFewBehind, CanBeAdded, state_behind, states_with, told_with}
+use Rattle.pipe_summary.specs.Additions.{CanBeAdded, state_behind, states_with, told_with}
 use Rattle.pipe_summary.specs.InTurn.{AreInTurn, HoldsStates}
 use Rattle.pipe_summary.specs.Summed.{all_keys, sliced_rows, summed, told_merged}
 use Rattle.pipe_summary.specs.Sums.{StandsFor, Sums, texts_of}
 use Rattle.pipe_summary.proofs.ReadFacts.{count-more}
-use Rattle.pipe_summary.proofs.SumFacts.{sums-end, sums-merged, sums-more, sums-none}
+use Rattle.pipe_summary.proofs.SumFacts.{sums-end, sums-merged, sums-more}
 use Rattle.pipe_summary.proofs.SummedFacts.{frames-answer}
 use Rattle.pipe_summary.proofs.TextLists.{texts-more}
 use Rattle.pipe_summary.proofs.TurnFacts.{end-low, more-in_turn, next-in_turn, row_count}
@@ -148,9 +147,9 @@ module _ (q : QueryTree) where
   merged-told (Some frames) into now states files text e some t put =
       put ∙ ap (with_frame into) (t ∙ ap (λ (l : List StateSeen). state_text q (merged_states q l)) e) ∙ sym (by states (λ n. some (ap (λ (l : List StateSeen). length l) e ∙ n)))
     where
-    by : (states : List StateSeen) → (length states ≡ 0 → ⊥) → told_merged q into states ≡ with_frame into (state_text q (merged_states q states))
-    by [] some = absurd (some refl)
-    by (s ∷ states) some = refl
+      by : (states : List StateSeen) → (length states ≡ 0 → ⊥) → told_merged q into states ≡ with_frame into (state_text q (merged_states q states))
+      by [] some = absurd (some refl)
+      by (s ∷ states) some = refl
 
   -- an empty store tells no frame
   empty-told : (told : Option (List (List ℕ))) → HasHeld told 0 → IfSome told (λ frames. frames ≡ [])
@@ -165,12 +164,12 @@ module _ (q : QueryTree) where
   stands-merged (Some frames) into now held states chunks h empty e s =
       by states into e h.in_turn (subst (λ (l : List (List ℕ)). Sums q l chunks) h.texts s) (empty-told into empty)
     where
-    by : (states : List StateSeen) (into : Option (List (List ℕ))) → now ≡ told_merged q into states → AreInTurn q states → Sums q (texts_of q states) chunks → IfSome into (λ frames. frames ≡ [])
-        → IfSome now (λ frames. StandsFor q now chunks)
-    by [] None e turn sums none = subst (λ (n : Option (List (List ℕ))). IfSome n (λ frames. StandsFor q n chunks)) (sym e) tt
-    by [] (Some l) e turn sums none = subst (λ (n : Option (List (List ℕ))). IfSome n (λ frames. StandsFor q n chunks)) (sym e) (subst (λ (l : List (List ℕ)). Sums q l chunks) (sym none) sums)
-    by (t ∷ others) None e turn sums none = subst (λ (n : Option (List (List ℕ))). IfSome n (λ frames. StandsFor q n chunks)) (sym e) tt
-    by (t ∷ others) (Some l) e turn sums none =
-        subst (λ (n : Option (List (List ℕ))). IfSome n (λ frames. StandsFor q n chunks)) (sym e)
-        (subst (λ (l : List (List ℕ)). Sums q (l ++ state_text q (merged_states q (t ∷ others)) ∷ []) chunks) (sym none)
-        (sums-merged q (t ∷ others) chunks turn sums (omega arith)))
+      by : (states : List StateSeen) (into : Option (List (List ℕ))) → now ≡ told_merged q into states → AreInTurn q states → Sums q (texts_of q states) chunks → IfSome into (λ frames. frames ≡ [])
+          → IfSome now (λ frames. StandsFor q now chunks)
+      by [] None e turn sums none = subst (λ (n : Option (List (List ℕ))). IfSome n (λ frames. StandsFor q n chunks)) (sym e) tt
+      by [] (Some l) e turn sums none = subst (λ (n : Option (List (List ℕ))). IfSome n (λ frames. StandsFor q n chunks)) (sym e) (subst (λ (l : List (List ℕ)). Sums q l chunks) (sym none) sums)
+      by (t ∷ others) None e turn sums none = subst (λ (n : Option (List (List ℕ))). IfSome n (λ frames. StandsFor q n chunks)) (sym e) tt
+      by (t ∷ others) (Some l) e turn sums none =
+          subst (λ (n : Option (List (List ℕ))). IfSome n (λ frames. StandsFor q n chunks)) (sym e)
+          (subst (λ (l : List (List ℕ)). Sums q (l ++ state_text q (merged_states q (t ∷ others)) ∷ []) chunks) (sym none)
+          (sums-merged q (t ∷ others) chunks turn sums (omega arith)))

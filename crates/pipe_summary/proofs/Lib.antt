@@ -1,5 +1,5 @@
-mod TurnFacts
-mod TextLists
+pub mod TurnFacts
+pub mod TextLists
 mod SumFacts
 mod SummedFacts
 mod ReadFacts

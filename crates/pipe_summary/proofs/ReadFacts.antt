@@ -1,5 +1,5 @@
 -- States that are read frame by frame: one more of them, all, and a frame that is damaged.
-use Rattle.std.proofs.Common.{◌≡◌, ◌∙◌, ℕ, ◌+◌, ◌<◌, ◌≤◌, List, [], ◌∷◌, ◌++◌, length, map, take, drop, All, Option, Some, None, IfSome, Result, Ok, Err, refl, sym, ap, subst, arith}
+use Rattle.std.proofs.Common.{◌≡◌, ◌∙◌, ℕ, ◌+◌, List, [], ◌∷◌, ◌++◌, length, take, Option, Some, None, IfSome, Result, Err, refl, sym, ap, subst, arith}
 use Rattle.std.specs.List.{slice_get}
 use Rattle.std.proofs.Math.Seq.{take-length}
 use Rattle.pipe_aggs.specs.QueryTrees.{query_tree}
@@ -11,7 +11,6 @@ use Rattle.pipe_states.specs.States.{StateSeen}
 use Rattle.pipe_states.specs.StateText.{state_text}
 use Rattle.pipe_summary.specs.Held.{AreFront, IsDamagedAt, IsDamagedNext}
 use Rattle.pipe_summary.specs.InTurn.{AreInTurn, HoldsStates, IsFirstDamaged}
-use Rattle.pipe_summary.specs.Sums.{texts_of}
 use Rattle.pipe_summary.specs.declared.read_error.ReadError.{ReadError}
 use Rattle.pipe_summary.specs.declared.read_error.ReadError.TheVariants as read_error
 use Rattle.pipe_summary.proofs.TextLists.{none-damaged, one_list, one_state, take-one, texts-more}

@@ -1,26 +1,24 @@
 -- Frames that sum chunks up: their states, one frame more, and all of them merged.
-use Rattle.std.proofs.Common.{◌≡◌, ◌≢◌, ◌∙◌, ℕ, zero, suc, ◌+◌, ◌<◌, ◌≤◌, ◌^◌, List, [], ◌∷◌, ◌++◌, length, map, All, append_assoc, refl, sym, ap, subst, arith}
+use Rattle.std.proofs.Common.{◌≡◌, ◌∙◌, ℕ, ◌+◌, ◌≤◌, List, [], ◌∷◌, ◌++◌, length, map, All, refl, sym, ap, subst, arith}
 use Rattle.std.specs.List.{flat_map}
 use Rattle.std.proofs.lemmas.Grind.{flat_map-append}
 use Rattle.std.proofs.lemmas.List.{append-nil, length-append, map-append}
-use Rattle.std.proofs.lemmas.List.Elements.{All-append, All-cons, All-head, All-nil, All-push, All-tail, All-weaker}
+use Rattle.std.proofs.lemmas.List.Elements.{All-cons, All-head, All-nil, All-push, All-tail, All-weaker}
 use Rattle.pipe_columns.specs.declared.data_chunk.DataChunk.{DataChunk}
 use Rattle.pipe_model.specs.Query.{QueryTree}
 use Rattle.pipe_model.specs.Rows.{rows_from}
 use Rattle.pipe_states.specs.Fair.{IsFair, IsStateOf}
 use Rattle.pipe_states.specs.Files.{IsFairStateOf}
-use Rattle.pipe_states.specs.Parts.{IsInRange, Part, part_of, parts_from, rows_of_parts, saved}
-use Rattle.pipe_states.specs.Regrouped.{end_of, first_of, merged_states, rows_of_states}
-use Rattle.pipe_states.specs.States.{state, state_rows, StateSeen}
+use Rattle.pipe_states.specs.Parts.{Part, part_of, parts_from, rows_of_parts, saved}
+use Rattle.pipe_states.specs.Regrouped.{end_of, first_of, merged_states}
+use Rattle.pipe_states.specs.States.{state_rows, StateSeen}
 use Rattle.pipe_states.specs.StateText.{state_text}
-use Rattle.pipe_states.specs.Together.{total_rows}
 use Rattle.pipe_states.proofs.GivenStates.{merged-state-of}
 use Rattle.pipe_states.proofs.MergedFair.{merged-fair}
 use Rattle.pipe_states.proofs.PartFacts.{rows_of_all}
 use Rattle.pipe_states.proofs.RegroupFacts.{merged_rows-are}
 use Rattle.pipe_model.proofs.RowPlaces.{rows-distinct}
 use Rattle.pipe_model.specs.Rows.{HaveDistinctPlaces}
-use Rattle.pipe_columns.specs.Row.{Row}
 use Rattle.pipe_summary.specs.InTurn.{AreInTurn, FollowFrom}
 use Rattle.pipe_summary.specs.Sums.{run_states, Sums, texts_of}
 use Rattle.pipe_summary.proofs.TextLists.{one_list}
@@ -114,9 +112,9 @@ module _ (q : QueryTree) where
         let ends : end_of states ≡ 0 + length chunks = let e = sums-end in omega (arith, e) in
         λ i. record { first = begins i; end = ends i; rows = rows i }
       where
-      first-is : (states : List StateSeen) → FollowFrom 0 states → first_of states ≡ 0
-      first-is [] f = refl
-      first-is (t ∷ others) f = f.0
+        first-is : (states : List StateSeen) → FollowFrom 0 states → first_of states ≡ 0
+        first-is [] f = refl
+        first-is (t ∷ others) f = f.0
 
     -- so its text alone sums them up
     pub sums-merged : 1 ≤ length states → Sums q (state_text q (merged_states q states) ∷ []) chunks
@@ -136,5 +134,5 @@ module _ (q : QueryTree) where
           texts = ap (λ (t : StateSeen). state_text q t ∷ []) whole;
         }
       where
-      count-up : (states : List StateSeen) → FollowFrom 0 states → length states ≤ reach 0 states
-      count-up states f = let n = count-within 0 states f in omega (arith, n)
+        count-up : (states : List StateSeen) → FollowFrom 0 states → length states ≤ reach 0 states
+        count-up states f = let n = count-within 0 states f in omega (arith, n)

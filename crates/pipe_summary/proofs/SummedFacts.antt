@@ -1,15 +1,15 @@
 -- What states come to by all keys, under a query's slice, is its answer.
-use Rattle.std.proofs.Common.{◌≡◌, ◌∙◌, ℕ, zero, suc, ◌+◌, ◌-◌, ◌<◌, ◌≤◌, min, Bool, true, false, cond, List, [], ◌∷◌, ◌++◌, length, map, take, drop, get_or, All, Option, Some, None, append_assoc, refl, sym, ap, subst, arith, ne_eqb}
+use Rattle.std.proofs.Common.{◌≡◌, ◌∙◌, ℕ, zero, suc, ◌+◌, ◌-◌, ◌<◌, ◌≤◌, min, Bool, false, List, [], ◌∷◌, ◌++◌, length, map, take, drop, All, Option, Some, None, append_assoc, refl, sym, ap, subst, arith, ne_eqb}
 use Rattle.std.specs.List.{AllByRecursion, drop-map, flat_map, IsDistinct, range_with_len, slice_get, take-map}
 use Rattle.std.specs.Option.{option_to_list}
 use Rattle.std.specs.Prelude.{nat_eq}
-use Rattle.std.proofs.lemmas.List.{length-append, length-drop, length-map, length-take}
+use Rattle.std.proofs.lemmas.List.{length-append, length-drop, length-take}
 use Rattle.std.proofs.lemmas.List.Elements.{All-cons, All-nil}
 use Rattle.std.proofs.lemmas.List.FromFn.{length-range_with_len}
 use Rattle.pipe_columns.specs.declared.any_value.AnyValue.{AnyValue}
 use Rattle.pipe_columns.specs.declared.data_chunk.DataChunk.{DataChunk}
 use Rattle.pipe_columns.specs.declared.schema.Field.{Field}
-use Rattle.pipe_columns.specs.Frame.{ColumnData, columns_from, frame_of, FrameData, sliced_column, sliced_frame, value_at}
+use Rattle.pipe_columns.specs.Frame.{columns_from, frame_of, sliced_column, value_at}
 use Rattle.pipe_columns.specs.Row.{Row}
 use Rattle.pipe_columns.specs.Slice.{sliced}
 use Rattle.pipe_model.proofs.RowPlaces.{rows-distinct}
@@ -21,7 +21,7 @@ use Rattle.pipe_model.specs.Rows.{HaveDistinctPlaces, rows_from}
 use Rattle.pipe_states.proofs.PartFacts.{rows_by_keys, rows_of_all}
 use Rattle.pipe_states.proofs.RegroupFacts.{regrouped-is}
 use Rattle.pipe_states.specs.Parts.{kept_rows, parts_from}
-use Rattle.pipe_states.specs.Regrouped.{regrouped, with_keys}
+use Rattle.pipe_states.specs.Regrouped.{with_keys}
 use Rattle.pipe_states.specs.States.{StateSeen}
 use Rattle.pipe_states.specs.Together.{AreKept}
 use Rattle.pipe_summary.specs.InTurn.{AreInTurn}

@@ -1,5 +1,5 @@
 -- Lists of states and their texts: one list has the texts, and the first frame that tells none is one.
-use Rattle.std.proofs.Common.{◌≡◌, ◌≢◌, ◌∙◌, ℕ, zero, suc, ◌+◌, ◌<◌, ◌≤◌, List, [], ◌∷◌, ◌++◌, length, map, take, get_or, drop, All, ◌⊎◌, inl, inr, Option, Some, None, refl, sym, ap, subst, arith}
+use Rattle.std.proofs.Common.{◌≡◌, ◌∙◌, ℕ, zero, suc, ◌+◌, ◌<◌, ◌≤◌, List, [], ◌∷◌, ◌++◌, length, take, get_or, drop, All, ◌⊎◌, inl, inr, Option, Some, None, refl, sym, ap, subst, arith}
 use Rattle.std.specs.List.{slice_get}
 use Rattle.std.specs.List.{take-map}
 use Rattle.std.proofs.Math.Seq.{take-length}
@@ -12,7 +12,7 @@ use Rattle.pipe_states.specs.Files.{IsFairStateOf}
 use Rattle.pipe_states.specs.States.{StateSeen}
 use Rattle.pipe_states.specs.StateText.{state_text}
 use Rattle.pipe_states.proofs.TextFacts.{state_once}
-use Rattle.pipe_summary.specs.InTurn.{AreInTurn, IsFirstDamaged, TellNoneBehind}
+use Rattle.pipe_summary.specs.InTurn.{AreInTurn, IsFirstDamaged}
 use Rattle.pipe_summary.specs.Sums.{texts_of}
 use Rattle.pipe_summary.proofs.TurnFacts.{front-in_turn}
 

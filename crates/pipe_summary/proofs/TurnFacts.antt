@@ -1,12 +1,11 @@
 -- States in turn: one more, and the first of them.
-use Rattle.std.proofs.Common.{◌≡◌, ◌≢◌, ◌∙◌, ℕ, zero, suc, ◌+◌, ◌<◌, ◌≤◌, ◌^◌, List, [], ◌∷◌, ◌++◌, length, All, refl, sym, ap, subst, arith, lit<}
+use Rattle.std.proofs.Common.{◌≡◌, ◌∙◌, ℕ, ◌+◌, ◌<◌, ◌≤◌, ◌^◌, List, [], ◌∷◌, ◌++◌, length, All, refl, sym, ap, arith, lit<}
 use Rattle.std.specs.List.{sum_by}
-use Rattle.std.proofs.lemmas.List.Elements.{All-append, All-cons, All-head, All-nil, All-push, All-tail}
+use Rattle.std.proofs.lemmas.List.Elements.{All-cons, All-head, All-nil, All-push, All-tail}
 use Rattle.std.proofs.lemmas.List.Sums.{sum_by-append, sum_by-cons}
 use Rattle.pipe_model.specs.Query.{QueryTree}
-use Rattle.pipe_states.specs.Fair.{IsFair}
 use Rattle.pipe_states.specs.Files.{IsFairStateOf}
-use Rattle.pipe_states.specs.Regrouped.{end_of, first_of}
+use Rattle.pipe_states.specs.Regrouped.{end_of}
 use Rattle.pipe_states.specs.States.{StateSeen}
 use Rattle.pipe_states.specs.Together.{FollowOn, total_rows}
 use Rattle.pipe_summary.specs.InTurn.{AreInTurn, FollowFrom}

@@ -13,8 +13,8 @@ use Rattle.pipe_states.specs.States.{StateSeen}
 use Rattle.pipe_states.specs.StateText.{state_text}
 use Rattle.pipe_states.specs.Together.{total_rows}
 
--- chunks from a first position on, behind so many rows: all rows are fewer than 2^32, and a range can
--- end behind the last position
+-- chunks from a first position on, behind so many rows: all rows are fewer than 2^32, and a range
+-- can end behind the last position
 pub record AreFewBehind (before first : ℕ) (chunks : List DataChunk) : Type 0 where
   pub rows : before + total_height chunks < 2 ^ 32
   pub positions : first + length chunks < 2 ^ 32
@@ -53,8 +53,8 @@ told_with q told states [] = told
 told_with q told states (c ∷ cs) =
     with_frame told (state_text q (state_behind q states (c ∷ cs)))
 
--- an addition under way: the query, of how many rows the states before it are and where they end, and
--- the chunks taken, in order
+-- an addition under way: the query, of how many rows the states before it are and where they end,
+-- and the chunks taken, in order
 pub record AddingSeen : Type 0 where
   pub query : Query
   pub rows : ℕ

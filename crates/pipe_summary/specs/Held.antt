@@ -21,12 +21,13 @@ pub record HasReached (q : QueryTree) (states : List StateSeen) (stop count : �
 
 -- a summary: its query doesn't keep order, and its store holds its states
 pub record IsSummary
-    (q : QueryTree) (told : Option (List (List ℕ))) (held : ℕ) (states : List StateSeen) : Type 0 where
+    (q : QueryTree) (told : Option (List (List ℕ))) (held : ℕ) (states : List StateSeen)
+    : Type 0 where
   pub unordered : q.keeps_order ≡ false
   pub holds : HoldsStates q told held states
 
--- an addition: its chunks have the columns of a schema and are few behind the rows before, and so many
--- rows are counted
+-- an addition: its chunks have the columns of a schema and are few behind the rows before, and so
+-- many rows are counted
 pub record IsAdding
     (fields : List Field) (before first : ℕ) (taken : List DataChunk) (rows : ℕ) : Type 0 where
   pub fit : AllFit fields taken

@@ -36,7 +36,8 @@ pub record IsFirstDamaged (q : QueryTree) (frames : List (List ℕ)) (number : �
 
 -- so many frames are held, which are the texts of states in turn, where they are told
 pub record HoldsStates
-    (q : QueryTree) (told : Option (List (List ℕ))) (held : ℕ) (states : List StateSeen) : Type 0 where
+    (q : QueryTree) (told : Option (List (List ℕ))) (held : ℕ) (states : List StateSeen)
+    : Type 0 where
   pub in_turn : AreInTurn q states
   pub count : held ≡ length states
   pub texts : IfSome told (λ frames. frames ≡ texts_of q states)

@@ -8,8 +8,8 @@ use Rattle.pipe_states.specs.Parts.{parts_from, saved}
 use Rattle.pipe_states.specs.States.{StateSeen}
 use Rattle.pipe_states.specs.StateText.{state_text}
 
--- the states of runs of chunks, one behind another: the range of the first begins at 0, that of each
--- other one where the one before ends
+-- the states of runs of chunks, one behind another: the range of the first begins at 0, that of
+-- each other one where the one before ends
 abbrev pub run_states : QueryTree → List (List DataChunk) → List StateSeen
 run_states q runs = map (saved q) (parts_from q 0 runs)
 
@@ -17,8 +17,8 @@ run_states q runs = map (saved q) (parts_from q 0 runs)
 abbrev pub texts_of : QueryTree → List StateSeen → List (List ℕ)
 texts_of q states = map (state_text q) states
 
--- frames sum chunks up: the chunks are cut into runs of one at least, and the frames are the texts of
--- the states of these, which are fair
+-- frames sum chunks up: the chunks are cut into runs of one at least, and the frames are the texts
+-- of the states of these, which are fair
 pub record Sums (q : QueryTree) (frames : List (List ℕ)) (chunks : List DataChunk) : Type 0 where
   pub runs : List (List DataChunk)
   pub joined : chunks ≡ flat_map (λ run. run) runs

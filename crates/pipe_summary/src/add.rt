@@ -56,12 +56,19 @@ impl<'a, S: SpillStore + Drop> Summary<'a, S> {
         match save(self.alloc, query, self.reached.end(), chunks) {
             Ok(file) => {
                 let _known = file.end();
-                if few { Ok(file) } else { Err(AddError::TooLarge) }
+                if few {
+                    Ok(file)
+                } else {
+                    Err(AddError::TooLarge)
+                }
             }
             Err(SaveError::Schema { chunk }) => Err(AddError::Schema { chunk }),
             Err(SaveError::TooLarge) => Err(AddError::TooLarge),
-            Err(SaveError::Memory) =>
-                if few { Err(AddError::Memory) } else { Err(AddError::TooLarge) },
+            Err(SaveError::Memory) => if few {
+                Err(AddError::Memory)
+            } else {
+                Err(AddError::TooLarge)
+            },
         }
     }
 
@@ -106,12 +113,14 @@ impl<'a, S: SpillStore + Drop> Summary<'a, S> {
         ensures states { OnOk result (self.new.states
             ≡ states_with (query_tree self.old.query) self.old.states chunks.now) }
         ensures told { OnOk result (S.told self.new.store
-            ≡ told_with (query_tree self.old.query) (S.told self.old.store) self.old.states chunks.now) }
+            ≡ told_with (query_tree self.old.query) (S.told self.old.store) self.old.states
+            chunks.now) }
 
         // What stood for chunks stands for these followed by those added.
         ensures stands { OnOk result ((before : List DataChunk)
             → StandsFor (query_tree self.old.query) (S.told self.old.store) before
-            → StandsFor (query_tree self.old.query) (S.told self.new.store) (before ++ chunks.now)) }
+            → StandsFor (query_tree self.old.query) (S.told self.new.store)
+            (before ++ chunks.now)) }
         ensures none { chunks.now ≡ [] → result ≡ Ok tt }
         ensures none_same { chunks.now ≡ [] → self.new ≡ self.old }
 
@@ -123,8 +132,8 @@ impl<'a, S: SpillStore + Drop> Summary<'a, S> {
         ensures sure { S.sure self.new.store ≡ S.sure self.old.store }
         ensures path { S.path self.new.store ≡ S.path self.old.store }
 
-        // The first chunk with other columns is told, then that rows or chunks are too many with those
-        // held; a failed store raised its count.
+        // The first chunk with other columns is told, then that rows or chunks are too many with
+        // those held; a failed store raised its count.
         ensures ok { OnOk result (CanBeAdded self.old.query.schema self.old.states chunks.now) }
         ensures misfit { (i : ℕ) → result ≡ Err (add_error.Schema i)
             → IsFirstMisfit self.old.query.schema chunks.now i }
@@ -165,8 +174,8 @@ impl<'a, S: SpillStore + Drop> Summary<'a, S> {
         )
     }
 
-    /// Ends an addition that was begun where the summary stands: the state of its chunks is one frame
-    /// more. Without a chunk it changes nothing.
+    /// Ends an addition that was begun where the summary stands: the state of its chunks is one
+    /// frame more. Without a chunk it changes nothing.
     pub fn finish(&mut self, adding: Adding<'a>) -> Result<(), StoreError>
         requires query { adding.query ≡ self.old.query }
         requires rows { adding.rows ≡ total_rows self.old.states }

@@ -15,9 +15,9 @@ use pipe_states::StateFile;
 use std::alloc::{AllocError, Global};
 use std::marker::Model;
 
-/// An addition to a summary, which chunks are fed to and which the summary then finishes. Contracts see
-/// the query, of how many rows the states of the summary are and where they end, and the chunks taken,
-/// though of each only a mark without bytes is kept.
+/// An addition to a summary, which chunks are fed to and which the summary then finishes. Contracts
+/// see the query, of how many rows the states of the summary are and where they end, and the chunks
+/// taken, though of each only a mark without bytes is kept.
 #[derive(Drop)]
 pub struct Adding<'a> {
     alloc: Global,
@@ -63,8 +63,8 @@ impl<'a> Adding<'a> {
         })
     }
 
-    /// Whether there is room for some chunks more, all of them: all rows are then fewer than 2^32 with
-    /// those of the summary, and their chunks have positions.
+    /// Whether there is room for some chunks more, all of them: all rows are then fewer than 2^32
+    /// with those of the summary, and their chunks have positions.
     pub fn has_room_for(&self, chunks: &[DataChunk]) -> bool
         ensures { IsTrue result ↔ AreFewBehind self.now.rows self.now.first
             (self.now.taken ++ chunks.now) }
@@ -75,8 +75,8 @@ impl<'a> Adding<'a> {
         }
     }
 
-    /// Takes the rows of the next chunks, which may then be dropped. The error is want of memory, and
-    /// lets all go.
+    /// Takes the rows of the next chunks, which may then be dropped. The error is want of memory,
+    /// and lets all go.
     pub fn feed_all(self, chunks: &[DataChunk]) -> Result<Adding<'a>, AllocError>
         requires fit { AllFit self.query.schema chunks.now }
         requires few { AreFewBehind self.rows self.first (self.taken ++ chunks.now) }

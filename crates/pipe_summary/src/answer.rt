@@ -113,10 +113,11 @@ impl<'a, S: SpillStore + Drop> Summary<'a, S> {
         }
     }
 
-    /// The answer of the query over all that was added. It holds one frame at a time beside the groups.
+    /// The answer of the query over all that was added. It holds one frame at a time beside the
+    /// groups.
     pub fn answer(&mut self) -> Result<DataFrame, AnswerError>
-        // Where the store tells its frames, it is what their states come to: so it is the answer over
-        // all chunks that the summary stands for.
+        // Where the store tells its frames, it is what their states come to: so it is the answer
+        // over all chunks that the summary stands for.
         ensures summed { IfOk result (λ f. IfSome (S.told self.old.store)
             (λ frames. f ≡ summed (query_tree self.old.query) self.old.states)) }
         ensures answer { IfOk result (λ f. (chunks : List DataChunk)

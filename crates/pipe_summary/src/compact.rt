@@ -122,13 +122,13 @@ impl<'a, S: SpillStore + Drop> Summary<'a, S> {
         }
     }
 
-    /// Puts the summary as one frame into another store, which holds none. Of an empty summary there is
-    /// none.
+    /// Puts the summary as one frame into another store, which holds none. Of an empty summary
+    /// there is none.
     pub fn compact<T: SpillStore>(&mut self, into: &mut T) -> Result<(), CompactError>
         requires { T.held into.old ≡ 0 }
 
-        // The frame is the text of the states merged, where the summary's store tells its frames: so the
-        // other store stands for all chunks that the summary stands for.
+        // The frame is the text of the states merged, where the summary's store tells its frames:
+        // so the other store stands for all chunks that the summary stands for.
         ensures merged { OnOk result (IfSome (S.told self.old.store) (λ frames. T.told into.new
             ≡ told_merged (query_tree self.old.query) (T.told into.old) self.old.states)) }
         ensures count { OnOk result (T.held into.new
@@ -145,7 +145,8 @@ impl<'a, S: SpillStore + Drop> Summary<'a, S> {
         ensures into_path { T.path into.new ≡ T.path into.old }
         ensures into_cause { HasCause (T.faults into.old) (T.faults into.new)
             (IsErrOf result fault.Into) }
-        ensures into_calm { (IsErrOf result fault.Into → ⊥) → T.faults into.new ≡ T.faults into.old }
+        ensures into_calm { (IsErrOf result fault.Into → ⊥)
+            → T.faults into.new ≡ T.faults into.old }
 
         // Nothing of the summary changes but the count of a store that failed.
         ensures query { self.new.query ≡ self.old.query }

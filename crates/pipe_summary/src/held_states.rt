@@ -7,7 +7,8 @@ use pipe_states::StateFile;
 use std::marker::Model;
 use std::snapshot::Snapshot;
 
-/// A list of states that contracts see. The code holds no byte of them, so one more takes no memory.
+/// A list of states that contracts see. The code holds no byte of them, so one more takes no
+/// memory.
 #[derive(Drop)]
 pub struct HeldStates {
     last: HeldState,

@@ -14,9 +14,9 @@ ghost use Rattle.pipe_summary.specs.InTurn.{AreInTurn, IsFirstDamaged};
 ghost use Rattle.pipe_summary.specs.Summed.{summed};
 ghost use Rattle.pipe_summary.specs.Sums.{run_states, Sums, texts_of};
 
-/// The answer of a query that doesn't keep order, with one partition, is what the states of the chunks
-/// come to, in whatever runs these are saved; so it is what the states come to whose texts are frames
-/// that sum the chunks up.
+/// The answer of a query that doesn't keep order, with one partition, is what the states of the
+/// chunks come to, in whatever runs these are saved; so it is what the states come to whose texts
+/// are frames that sum the chunks up.
 pub fn answer_of_a_summary()
     ensures runs { (q : QueryTree) (runs : List (List DataChunk)) → q.keeps_order ≡ false
         → summed q (run_states q runs) ≡ answer (flat_map (λ run. run) runs) q 1 }
@@ -46,13 +46,14 @@ pub fn frame_more_in_a_summary()
 /// Frames that sum chunks up, merged into one, do so too.
 pub fn summary_as_one_frame()
     ensures none { (q : QueryTree) → Sums q [] [] }
-    ensures one { (q : QueryTree) (s : StateSeen) (states : List StateSeen) (chunks : List DataChunk)
-        → AreInTurn q (s ∷ states) → Sums q (texts_of q (s ∷ states)) chunks
+    ensures one { (q : QueryTree) (s : StateSeen) (states : List StateSeen)
+        (chunks : List DataChunk) → AreInTurn q (s ∷ states)
+        → Sums q (texts_of q (s ∷ states)) chunks
         → Sums q (state_text q (merged_states q (s ∷ states)) ∷ []) chunks }
 {}
 
-/// Of frames one at most is the first that is damaged, and none where they are the texts of states in
-/// turn.
+/// Of frames one at most is the first that is damaged, and none where they are the texts of states
+/// in turn.
 pub fn one_frame_is_damaged()
     ensures one { (q : QueryTree) (frames : List (List ℕ)) (m n : ℕ)
         → IsFirstDamaged q frames m → IsFirstDamaged q frames n → m ≡ n }

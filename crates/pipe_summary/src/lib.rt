@@ -16,6 +16,7 @@ mod read_error;
 mod reading;
 mod rows;
 mod summary;
+mod worked;
 
 pub use add_error::AddError;
 pub use adding::Adding;

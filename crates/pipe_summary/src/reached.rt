@@ -13,8 +13,8 @@ use pipe_aggs::CheckedQuery;
 use pipe_states::StateFile;
 use std::marker::Model;
 
-/// States of a query in turn. Contracts see them and the query; the code holds where they end and of how
-/// many rows they are.
+/// States of a query in turn. Contracts see them and the query; the code holds where they end and
+/// of how many rows they are.
 #[derive(Drop)]
 pub struct Reached<'a> {
     query: &'a CheckedQuery<'a>,
@@ -88,7 +88,8 @@ impl<'a> Reached<'a> {
 
     /// Takes a state that stands in turn behind the others. With it they are of so many rows.
     pub(crate) fn push(&mut self, file: &StateFile, rows: u32)
-        requires in_turn { AreInTurn (query_tree self.old.query) (self.old.states ++ file.now ∷ []) }
+        requires in_turn { AreInTurn (query_tree self.old.query)
+            (self.old.states ++ file.now ∷ []) }
         requires rows { rows ≡ total_rows (self.old.states ++ file.now ∷ []) }
         ensures query { self.new.query ≡ self.old.query }
         ensures states { self.new.states ≡ self.old.states ++ file.now ∷ [] }

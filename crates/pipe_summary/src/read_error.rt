@@ -12,9 +12,9 @@ pub enum ReadError {
     /// The store failed.
     #[error("store failed")]
     Store,
-    /// The frame of a number, counted from 0, is the first that isn't the text of a fair state of the
-    /// query, or whose range is empty or doesn't begin where the one before ends, or with which the rows
-    /// are 2^32 or more.
+    /// The frame of a number, counted from 0, is the first that isn't the text of a fair state of
+    /// the query, or whose range is empty or doesn't begin where the one before ends, or with which
+    /// the rows are 2^32 or more.
     #[error("frame {number}: no state")]
     Damaged { number: u64 },
     /// Memory ran out.

@@ -16,9 +16,9 @@ use pipe_spill::SpillStore;
 use std::alloc::Global;
 use std::marker::Model;
 
-/// What chunks come to, an addition one frame of a store. Contracts see the query, the store, and the
-/// states that its frames are, though of these the code holds nothing but where they end and of how many
-/// rows they are.
+/// What chunks come to, an addition one frame of a store. Contracts see the query, the store, and
+/// the states that its frames are, though of these the code holds nothing but where they end and of
+/// how many rows they are.
 #[derive(Drop)]
 pub struct Summary<'a, S: SpillStore + Drop> {
     pub(crate) alloc: Global,
@@ -39,13 +39,13 @@ impl<'a, S: SpillStore + Drop> Model for Summary<'a, S> {
       states = s.reached.states;
     } };
 
-    ghost invariant = { λ s. IsSummary (query_tree s.reached.query) (S.told s.store) (S.held s.store)
-        s.reached.states };
+    ghost invariant = { λ s. IsSummary (query_tree s.reached.query) (S.told s.store)
+        (S.held s.store) s.reached.states };
 }
 
 impl<'a, S: SpillStore + Drop> Summary<'a, S> {
-    /// Opens the summary that a store holds, whose frames are read one at a time. A refusal gives the
-    /// store back.
+    /// Opens the summary that a store holds, whose frames are read one at a time. A refusal gives
+    /// the store back.
     pub fn open(
         alloc: Global,
         query: &'a CheckedQuery<'a>,
@@ -68,8 +68,8 @@ impl<'a, S: SpillStore + Drop> Summary<'a, S> {
             → StandsFor (query_tree query.now) (S.told store) chunks
             → StandsFor (query_tree query.now) (S.told s.store) chunks) }
 
-        // A damaged frame is the first; a failed store raised its count. So is it where the store is
-        // given back, with its frames.
+        // A damaged frame is the first; a failed store raised its count. So is it where the store
+        // is given back, with its frames.
         ensures damaged { IfErr result (λ e. (n : ℕ) → e.0 ≡ read_error.Damaged n
             → IfSome (S.told store) (λ frames. IsFirstDamaged (query_tree query.now) frames n)) }
         ensures cause { IfErr result (λ e. HasCause (S.faults store) (S.faults e.1)

@@ -3,7 +3,7 @@
 use crate::runs::output_of;
 use std::io::ErrorKind;
 use std::test::Fail;
-use tool_answer::report_untaken;
+use tool_shell::report_untaken;
 
 /// What went wrong, the status, and the line.
 const KINDS: [(ErrorKind, u8, &str); 3] = [
@@ -17,7 +17,7 @@ const KINDS: [(ErrorKind, u8, &str); 3] = [
 fn words_that_are_not_taken(rt: HostRuntime) -> Result<(), Fail> {
     for (kind, status, line) in KINDS {
         let mut messages = output_of(rt.alloc(), &[])?;
-        assert_eq!(rt; report_untaken(rt.alloc(), &mut messages, kind), status);
+        assert_eq!(rt; report_untaken(&mut messages, kind), status);
         assert_eq!(rt; messages.bytes(), line.as_bytes());
     }
     Ok(())

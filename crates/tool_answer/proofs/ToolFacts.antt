@@ -25,7 +25,7 @@ use Rattle.tool_words.specs.declared.refusal.Refusal.{Refusal}
 use Rattle.tool_words.specs.declared.refusal.Refusal.TheVariants as refusal
 use Rattle.tool_answer.specs.declared.fault.ToolFault.{ToolFault}
 use Rattle.tool_answer.specs.declared.fault.ToolFault.TheVariants as fault
-use Rattle.tool_answer.specs.declared.status.TheConstants.{DAMAGED, DONE, INPUT_REFUSED, NO_MEMORY, QUERY_REFUSED, STORE_FAILED, WORDS_REFUSED}
+use Rattle.tool_shell.specs.declared.status.TheConstants.{DAMAGED, DONE, INPUT_REFUSED, NO_MEMORY, QUERY_REFUSED, STORE_FAILED, WORDS_REFUSED}
 use Rattle.tool_run.specs.Answering.{AreFedMade}
 use Rattle.tool_stores.specs.StorePath.{store_paths}
 use Rattle.tool_answer.specs.Asking.{asked_run, due_paths, stop_due}
@@ -176,9 +176,7 @@ done-unread (makes p m) = refl
 
 refusal-not-done : (r : Refusal) → refusal_status r ≡ DONE → ⊥
 refusal-not-done refusal.Words is = omega (arith, is)
-refusal-not-done refusal.NotJson is = omega (arith, is)
-refusal-not-done refusal.NotAQuery is = omega (arith, is)
-refusal-not-done (refusal.Faulty f) is = omega (arith, is)
+refusal-not-done (refusal.NoQuery why) is = omega (arith, is)
 refusal-not-done refusal.UnfitSink is = omega (arith, is)
 
 fault-not-done : (f : ToolFault) → status_of f ≡ DONE → ⊥
@@ -202,9 +200,7 @@ told-not-done f status (inr is) done = omega (arith, is, done)
 
 refusal-either : (r : Refusal) → (refusal_status r ≡ WORDS_REFUSED) ⊎ (refusal_status r ≡ QUERY_REFUSED)
 refusal-either refusal.Words = inl refl
-refusal-either refusal.NotJson = inr refl
-refusal-either refusal.NotAQuery = inr refl
-refusal-either (refusal.Faulty f) = inr refl
+refusal-either (refusal.NoQuery why) = inr refl
 refusal-either refusal.UnfitSink = inl refl
 
 -- refused words have no status behind these
@@ -251,9 +247,7 @@ told-damaged f a told stores status cause (inr is) damaged = absurd (omega (arit
 
 refusal-no-end : (r : Refusal) → IsTrue (is_read_end (refusal_status r)) → ⊥
 refusal-no-end refusal.Words is = false≢true is
-refusal-no-end refusal.NotJson is = false≢true is
-refusal-no-end refusal.NotAQuery is = false≢true is
-refusal-no-end (refusal.Faulty f) is = false≢true is
+refusal-no-end (refusal.NoQuery why) is = false≢true is
 refusal-no-end refusal.UnfitSink is = false≢true is
 
 -- where reading ended early no store has failed
@@ -283,9 +277,7 @@ written-run (makes p m) told old new journals stores written = (written.0, writt
 
 refusal-no-answer : (r : Refusal) → IsTrue (is_answer (refusal_status r)) → ⊥
 refusal-no-answer refusal.Words is = false≢true is
-refusal-no-answer refusal.NotJson is = false≢true is
-refusal-no-answer refusal.NotAQuery is = false≢true is
-refusal-no-answer (refusal.Faulty f) is = false≢true is
+refusal-no-answer (refusal.NoQuery why) is = false≢true is
 refusal-no-answer refusal.UnfitSink is = false≢true is
 
 left-ran : (f : ToolFault) (a : Asked) (told : Option Files) (journals : List (List PartitionEvent)) (stores : List StoreSeen) → IsLeft f a told journals stores → IsTrue (is_answer (status_of f)) → HasRun a told journals stores

@@ -1,27 +1,24 @@
 -- The faults of a run: their statuses, their lines and their causes.
 use Rattle.std.specs.Prelude.{◌≡◌, ℕ, true, List, ◌++◌, codes, Option, Some, IfSome, ⊤}
 use Rattle.std.specs.Fmt.{decimal}
-use Rattle.pipe_aggs.specs.declared.query_fault.QueryFault.{QueryFault}
-use Rattle.pipe_aggs.specs.declared.query_fault.QueryFault.TheVariants as query_fault
 use Rattle.pipe_csv.specs.CsvRows.{field, header, missing, width}
 use Rattle.pipe_io.specs.Files.{Files}
 use Rattle.pipe_plan.specs.Run.{StoreSeen}
 use Rattle.pipe_source.specs.CsvChunks.{Stop, misfit, too_large}
+use Rattle.tool_query.specs.Names.{no_query_name}
+use Rattle.tool_shell.specs.declared.status.TheConstants.{DAMAGED, INPUT_FAILED, INPUT_REFUSED, NO_MEMORY, OUTPUT_FAILED, QUERY_REFUSED, STORE_FAILED, TOO_LARGE, WORDS_REFUSED}
 use Rattle.tool_words.specs.Asked.{Asked, refused}
 use Rattle.tool_words.specs.declared.refusal.Refusal.{Refusal}
 use Rattle.tool_words.specs.declared.refusal.Refusal.TheVariants as refusal
 use Rattle.tool_answer.specs.declared.fault.ToolFault.{ToolFault}
 use Rattle.tool_answer.specs.declared.fault.ToolFault.TheVariants as fault
-use Rattle.tool_answer.specs.declared.status.TheConstants.{DAMAGED, INPUT_FAILED, INPUT_REFUSED, NO_MEMORY, OUTPUT_FAILED, QUERY_REFUSED, STORE_FAILED, TOO_LARGE, WORDS_REFUSED}
 use Rattle.tool_answer.specs.Asking.{has_folder, stop_due}
 use Rattle.tool_answer.specs.Ended.{HasFailed, HasUntold, NeverFailed}
 
 -- the exit status of words that are refused
 abbrev pub refusal_status : Refusal → ℕ
 refusal_status refusal.Words = WORDS_REFUSED
-refusal_status refusal.NotJson = QUERY_REFUSED
-refusal_status refusal.NotAQuery = QUERY_REFUSED
-refusal_status (refusal.Faulty f) = QUERY_REFUSED
+refusal_status (refusal.NoQuery why) = QUERY_REFUSED
 refusal_status refusal.UnfitSink = WORDS_REFUSED
 
 -- the exit status of a fault
@@ -40,25 +37,10 @@ status_of fault.Memory = NO_MEMORY
 
 -- ---- lines
 
--- the name by which a fault of a query is told
-abbrev pub fault_name : QueryFault → List ℕ
-fault_name query_fault.DoubleName = codes "DoubleName"
-fault_name query_fault.NoKey = codes "NoKey"
-fault_name query_fault.BadNode = codes "BadNode"
-fault_name query_fault.UnknownColumn = codes "UnknownColumn"
-fault_name query_fault.IllTyped = codes "IllTyped"
-fault_name query_fault.KeyHasAggregate = codes "KeyHasAggregate"
-fault_name query_fault.NotConvertible = codes "NotConvertible"
-fault_name query_fault.SumOfDate = codes "SumOfDate"
-fault_name query_fault.DoubleOutput = codes "DoubleOutput"
-fault_name query_fault.NegativeSlice = codes "NegativeSlice"
-
 -- how refused words are told
 abbrev pub refusal_text : Refusal → List ℕ
 refusal_text refusal.Words = codes "words refused"
-refusal_text refusal.NotJson = codes "query refused: json"
-refusal_text refusal.NotAQuery = codes "query refused: shape"
-refusal_text (refusal.Faulty f) = codes "query refused: " ++ fault_name f
+refusal_text (refusal.NoQuery why) = codes "query refused: " ++ no_query_name why
 refusal_text refusal.UnfitSink = codes "sink does not fit"
 
 -- how a fault is told

@@ -1,15 +1,14 @@
 -- The statuses of a run: when each is due, and how it is told.
 use Rattle.std.specs.Prelude.{◌≡◌, ◌⊎◌, ℕ, ◌==◌, Bool, true, List, [], ◌∷◌, Option, Some, None, IfSome, ⊤}
 use Rattle.std.specs.List.{list_any}
-use Rattle.std.specs.Io.KnownBytes.{Appends}
-use Rattle.pipe_columns.specs.Causes.{Rose}
 use Rattle.pipe_io.specs.Files.{Files}
 use Rattle.pipe_io.specs.Output.{WroteFront}
 use Rattle.pipe_plan.specs.Run.{StoreSeen}
 use Rattle.pipe_source.specs.CsvChunks.{misfit, Stop, too_large}
+use Rattle.tool_shell.specs.Reports.{Reports}
+use Rattle.tool_shell.specs.declared.status.TheConstants.{DAMAGED, DONE, INPUT_FAILED, INPUT_REFUSED, NO_MEMORY, OUTPUT_FAILED, QUERY_REFUSED, STORE_FAILED, TOO_LARGE, WORDS_REFUSED}
 use Rattle.tool_words.specs.Asked.{Asked, asks, makes, refused}
 use Rattle.tool_answer.specs.declared.fault.ToolFault.{ToolFault}
-use Rattle.tool_answer.specs.declared.status.TheConstants.{DAMAGED, DONE, INPUT_FAILED, INPUT_REFUSED, NO_MEMORY, OUTPUT_FAILED, QUERY_REFUSED, STORE_FAILED, TOO_LARGE, WORDS_REFUSED}
 use Rattle.tool_answer.specs.Asking.{has_folder, stop_due}
 use Rattle.tool_answer.specs.Ended.{HasFailed, HasUntold}
 use Rattle.tool_answer.specs.Faults.{fault_line, IsCaused, refusal_status, status_of}
@@ -83,11 +82,6 @@ abbrev pub EndsUnread : Asked → ℕ → Type 0
 EndsUnread (refused r) status = ⊤
 EndsUnread (asks p q) status = ⊤
 EndsUnread (makes p m) status = is_unread status ≡ true
-
--- a line was reported: whole where no write failed, and else a front of it
-pub record Reports (line : List ℕ) (before now : ℕ) (old new : Option (List ℕ)) : Type 0 where
-  pub whole : (Rose before now → ⊥) → Appends old new line
-  pub front : WroteFront old new line
 
 -- a fault that has its cause was reported by its status and its line
 pub record ReportsFault

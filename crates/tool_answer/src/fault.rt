@@ -4,13 +4,13 @@ ghost use Rattle.std.specs.Prelude.{◌≡◌};
 ghost use Rattle.tool_answer.specs.Faults.{refusal_status, status_of};
 ghost use Rattle.tool_answer.specs.Inside.{ask_fault, CanCome, file_fault, read_fault, run_fault};
 
-use crate::status::{
-    DAMAGED, INPUT_FAILED, INPUT_REFUSED, NO_MEMORY, OUTPUT_FAILED, QUERY_REFUSED, STORE_FAILED,
-    TOO_LARGE, WORDS_REFUSED,
-};
 use pipe_csv::CsvError;
 use pipe_run::PipeError;
 use tool_run::FileRunError;
+use tool_shell::{
+    DAMAGED, INPUT_FAILED, INPUT_REFUSED, NO_MEMORY, OUTPUT_FAILED, QUERY_REFUSED, STORE_FAILED,
+    TOO_LARGE, WORDS_REFUSED,
+};
 use tool_words::{AskError, Refusal};
 
 /// Why a run ended without its answer. Files, rows and columns are counted from 1, and the header is
@@ -63,9 +63,7 @@ fn refusal_status(refusal: Refusal) -> u8
 {
     match refusal {
         Refusal::Words => WORDS_REFUSED,
-        Refusal::NotJson => QUERY_REFUSED,
-        Refusal::NotAQuery => QUERY_REFUSED,
-        Refusal::Faulty(_) => QUERY_REFUSED,
+        Refusal::NoQuery(_) => QUERY_REFUSED,
         Refusal::UnfitSink => WORDS_REFUSED,
     }
 }

@@ -10,11 +10,8 @@ mod made_run;
 mod read;
 mod ready;
 mod run;
-mod status;
 mod stores;
 mod tool;
-mod untaken;
 
 pub use ended::ToolEnd;
 pub use tool::run_tool;
-pub use untaken::report_untaken;

@@ -2,33 +2,15 @@
 
 ghost use Rattle.std.specs.Prelude.{◌≡◌, ◌≢◌, ◌⊎◌, IfOk, string_bytes};
 ghost use Rattle.pipe_io.specs.Output.{WroteFront};
-ghost use Rattle.tool_answer.specs.Faults.{fault_line, fault_name, fault_text, refusal_text, status_of};
-ghost use Rattle.tool_answer.specs.Status.{Reports};
+ghost use Rattle.tool_shell.specs.Reports.{Reports};
+ghost use Rattle.tool_answer.specs.Faults.{fault_line, fault_text, refusal_text, status_of};
 
 use crate::fault::{ToolFault, status_of};
-use crate::status::NO_MEMORY;
-use pipe_aggs::QueryFault;
-use pipe_io::{Output, OutputError, write_all};
+use pipe_io::Output;
 use std::alloc::{AllocError, Global};
+use tool_query::no_query_name;
+use tool_shell::{NO_MEMORY, put_line};
 use tool_words::Refusal;
-
-/// The name of a fault of a query.
-fn fault_name(fault: QueryFault) -> &'static str
-    ensures { result.now ≡ fault_name fault }
-{
-    match fault {
-        QueryFault::DoubleName => "DoubleName",
-        QueryFault::NoKey => "NoKey",
-        QueryFault::BadNode => "BadNode",
-        QueryFault::UnknownColumn => "UnknownColumn",
-        QueryFault::IllTyped => "IllTyped",
-        QueryFault::KeyHasAggregate => "KeyHasAggregate",
-        QueryFault::NotConvertible => "NotConvertible",
-        QueryFault::SumOfDate => "SumOfDate",
-        QueryFault::DoubleOutput => "DoubleOutput",
-        QueryFault::NegativeSlice => "NegativeSlice",
-    }
-}
 
 /// How refused words are told.
 fn refusal_text(alloc: Global, refusal: Refusal) -> Result<String, AllocError>
@@ -36,9 +18,7 @@ fn refusal_text(alloc: Global, refusal: Refusal) -> Result<String, AllocError>
 {
     match refusal {
         Refusal::Words => String::from_str(alloc, "words refused"),
-        Refusal::NotJson => String::from_str(alloc, "query refused: json"),
-        Refusal::NotAQuery => String::from_str(alloc, "query refused: shape"),
-        Refusal::Faulty(fault) => format!(in alloc; "query refused: {}", fault_name(fault)),
+        Refusal::NoQuery(why) => format!(in alloc; "query refused: {}", no_query_name(why)),
         Refusal::UnfitSink => String::from_str(alloc, "sink does not fit"),
     }
 }
@@ -73,22 +53,6 @@ fn fault_line(alloc: Global, fault: &ToolFault) -> Result<String, AllocError>
     let mut line = fault_text(alloc, fault)?;
     line.push('\n')?;
     Ok(line)
-}
-
-/// Writes the line of a fault, and answers the exit status that is left: that of wanting memory where it
-/// is wanting for the line.
-fn put_line<E: Output>(messages: &mut E, line: &[u8], status: u8) -> u8
-    ensures either { (result ≡ status) ⊎ (result ≡ NO_MEMORY) }
-    ensures status { result ≢ NO_MEMORY → result ≡ status }
-    ensures line { result ≢ NO_MEMORY → Reports line.now (E.faults messages.old)
-        (E.faults messages.new) (E.told messages.old) (E.told messages.new) }
-    ensures front { WroteFront (E.told messages.old) (E.told messages.new) line.now }
-{
-    match write_all(messages, line) {
-        Ok(()) => status,
-        Err(OutputError::Failed) => status,
-        Err(OutputError::Memory) => NO_MEMORY,
-    }
 }
 
 /// Reports a fault by its line, and answers its exit status. Where memory is wanting for the line, the

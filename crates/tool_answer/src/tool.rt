@@ -25,9 +25,6 @@ use crate::fault::{ToolFault, ask_fault};
 use crate::line::report;
 use crate::made::answer_made;
 use crate::run::run_question;
-use crate::status::{
-    DAMAGED, DONE, INPUT_FAILED, INPUT_REFUSED, NO_MEMORY, OUTPUT_FAILED, STORE_FAILED, TOO_LARGE,
-};
 use crate::stores::make_stores;
 use pipe_columns::Text;
 use pipe_global::{Gate, Journals};
@@ -36,6 +33,9 @@ use pipe_writers::{WriteError, write_texts};
 use std::alloc::Global;
 use std::sync::Wait;
 use std::thread::Threads;
+use tool_shell::{
+    DAMAGED, DONE, INPUT_FAILED, INPUT_REFUSED, NO_MEMORY, OUTPUT_FAILED, STORE_FAILED, TOO_LARGE,
+};
 use tool_stores::StoreMaker;
 use tool_words::{Question, Request, read_request};
 

@@ -5,8 +5,9 @@ use Rattle.pipe_io.specs.Files.{Files}
 use Rattle.pipe_plan.specs.Rounds.{IsFront}
 use Rattle.pipe_plan.specs.Run.{StoreSeen}
 use Rattle.pipe_lines.specs.Lines.{LineText}
+use Rattle.pipe_run.specs.declared.output.GroupByOutput.{GroupByOutput}
 use Rattle.pipe_run.specs.declared.output.TextOutput.{TextOutput}
-use Rattle.pipe_run.specs.Answered.{HaveWholeFrames}
+use Rattle.pipe_run.specs.Answered.{HaveWholeFrames, IsAnswered}
 use Rattle.pipe_run.specs.AnsweredText.{IsAnsweredText}
 use Rattle.pipe_run.specs.Failing.{NoneFailed}
 use Rattle.pipe_run.specs.Fed.{FedSeen}
@@ -29,6 +30,16 @@ pub record IsAnsweredFrom
   pub few : are_few chunks ≡ true
   pub fit : AllHaveFields x.query.schema chunks
   pub answered : IsAnsweredText t (run_over x false chunks) out stores
+
+-- the same run was answered by a frame
+pub record IsFrameFrom
+    (x : Setting) (told : Option Files) (first : ReaderState) (out : GroupByOutput)
+    (stores : List StoreSeen) : Type 0 where
+  pub chunks : List DataChunk
+  pub all : AreAll told first chunks
+  pub few : are_few chunks ≡ true
+  pub fit : AllHaveFields x.query.schema chunks
+  pub answered : IsAnswered (run_over x false chunks) out stores
 
 -- why a run over files ends early: their reading does, and no store failed; or the store that is named
 -- is the first that did; or a store doesn't tell, and the frame that is named is one that the run put

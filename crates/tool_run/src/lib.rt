@@ -13,6 +13,6 @@ mod read_round;
 mod run_lines;
 
 pub use error::FileRunError;
-pub use file_run::run_files;
+pub use file_run::{run_files, run_files_to_frame};
 pub use made_run::run_made;
 pub use run_lines::made_lines;

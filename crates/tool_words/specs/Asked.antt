@@ -1,20 +1,16 @@
 -- What the words of a command ask for.
 use Rattle.std.specs.Prelude.{◌≡◌, Bool, true, false, ℕ, List, [], ◌∷◌, codes, Option, Some, None, if◌then◌else◌, Result, Ok, Err, unwrap_or, ⊤}
-use Rattle.serde_json.specs.Data.{Data}
-use Rattle.serde_json.specs.Read.{read}
 use Rattle.pipe_columns.specs.declared.data_type.DataType.{DataType}
 use Rattle.pipe_columns.specs.DataType.{is_integer, is_string}
-use Rattle.pipe_aggs.specs.declared.query_fault.QueryFault.{QueryFault}
-use Rattle.pipe_aggs.specs.Faults.{written_fault}
 use Rattle.pipe_model.specs.Output.{key_types}
-use Rattle.pipe_model.specs.Query.{QueryTree, WrittenQuery}
-use Rattle.pipe_model.specs.WrittenTree.{written_tree}
+use Rattle.pipe_model.specs.Query.{QueryTree}
 use Rattle.pipe_plan.specs.declared.limits.SinkKind.{SinkKind}
 use Rattle.pipe_plan.specs.declared.limits.SinkKind.TheVariants as sink_kind
-use Rattle.pipe_query.specs.QueryJson.{query_of}
 use Rattle.pipe_words.specs.Plans.{plan_of, PlanSeen}
 use Rattle.tool_made.specs.MadeQuery.{made_tree}
 use Rattle.tool_made.specs.declared.made.Made.{Made}
+use Rattle.tool_query.specs.QueryWord.{word_query}
+use Rattle.tool_query.specs.declared.no_query.NoQuery.{NoQuery}
 use Rattle.tool_words.specs.declared.refusal.AskError.{AskError}
 use Rattle.tool_words.specs.declared.refusal.AskError.TheVariants as ask_error
 use Rattle.tool_words.specs.declared.refusal.Refusal.{Refusal}
@@ -41,27 +37,17 @@ does_keep sink_kind.Generic types = true
 does_keep sink_kind.Primitive types = is_sole is_integer types
 does_keep sink_kind.Text types = is_sole is_string types
 
--- a query whose first fault is this, if it has one
-abbrev pub unless : Option QueryFault → QueryTree → Result QueryTree Refusal
-unless (Some f) q = Err (refusal.Faulty f)
-unless None q = Ok q
-
--- a query as it is written, if it has no fault
-abbrev pub written_query : Option WrittenQuery → Result QueryTree Refusal
-written_query None = Err refusal.NotAQuery
-written_query (Some w) = unless (written_fault w) (written_tree w)
-
--- the query that a JSON value is
-abbrev pub json_query : Option Data → Result QueryTree Refusal
-json_query None = Err refusal.NotJson
-json_query (Some d) = written_query (query_of d)
+-- a query, or the refusal of words whose query is none
+abbrev pub query_or : Result QueryTree NoQuery → Result QueryTree Refusal
+query_or (Ok q) = Ok q
+query_or (Err why) = Err (refusal.NoQuery why)
 
 -- the query of a run: over generated rows the one that they are asked, and else the first of the words
 -- that belong to no option, as JSON
 abbrev pub run_query : Option ℕ → List (List ℕ) → Result QueryTree Refusal
 run_query (Some seed) words = Ok made_tree
 run_query None [] = Err refusal.Words
-run_query None (query ∷ files) = json_query (read query)
+run_query None (query ∷ files) = query_or (word_query query)
 
 -- the rows that a plan generates from a seed
 abbrev pub made_rows : PlanSeen → ℕ → Made

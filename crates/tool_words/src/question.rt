@@ -1,15 +1,14 @@
 //! How what words ask for is read.
 
-ghost use Rattle.std.specs.Prelude.{◌≡◌, IfErr, IfOk, IfSome, None, OnOk, Some, true};
-ghost use Rattle.serde_json.specs.Read.{read};
-ghost use Rattle.serde_json.specs.View.{view};
+ghost use Rattle.std.specs.Prelude.{◌≡◌, IfErr, IfOk, IfSome, None, Ok, OnOk, true};
 ghost use Rattle.pipe_aggs.specs.Faults.{first_fault};
 ghost use Rattle.pipe_aggs.specs.QueryTrees.{query_tree};
 ghost use Rattle.pipe_model.specs.Output.{key_types};
 ghost use Rattle.pipe_words.specs.Plans.{CanRun, plan_seen};
 ghost use Rattle.tool_made.specs.MadeQuery.{made_tree};
-ghost use Rattle.tool_words.specs.Asked.{asked, asks_from, asks_of, does_keep, IsRefusedFor, json_query, run_query};
-ghost use Rattle.tool_words.specs.Reading.{IsNoQuery, sound_query};
+ghost use Rattle.tool_query.specs.QueryWord.{word_query};
+ghost use Rattle.tool_words.specs.Asked.{asked, asks_from, asks_of, does_keep, IsRefusedFor, query_or, run_query};
+ghost use Rattle.tool_words.specs.Reading.{IsNoQuery};
 ghost use Rattle.tool_words.specs.Requests.{IsOfRows, request_plan, request_query, requested};
 
 use crate::refusal::{AskError, Refusal};
@@ -18,11 +17,10 @@ use pipe_aggs::{CheckError, Query};
 use pipe_columns::{DataType, Text};
 use pipe_exprs::is_integer;
 use pipe_plan::SinkKind;
-use pipe_query::query_of;
 use pipe_words::{Plan, read_words};
-use serde_json::Value;
 use std::alloc::{AllocError, Global};
 use tool_made::{Made, made_query};
+use tool_query::{QueryError, query_of_word};
 
 /// Whether a sink keeps keys of these types.
 fn does_keep(sink: SinkKind, types: &[DataType]) -> bool
@@ -35,60 +33,28 @@ fn does_keep(sink: SinkKind, types: &[DataType]) -> bool
     }
 }
 
-/// The query that a JSON value is, with or without faults.
-#[tactic(auto, using(crate::proofs::AskedFacts::nodes_ask))]
-fn json_query(alloc: Global, json: &Value) -> Result<Query, AskError>
-    ensures query { IfOk result (λ q. json_query (Some (view json.now)) ≡ sound_query q) }
-    ensures cause { IfErr result (λ e. IsNoQuery e (json_query (Some (view json.now)))) }
-{
-    match query_of(alloc, json) {
-        Ok(Some(query)) => Ok(query),
-        Ok(None) => Err(AskError::Refused(Refusal::NotAQuery)),
-        Err(_) => Err(AskError::Memory),
-    }
-}
-
-/// The query that a word is as JSON, with or without faults.
+/// The query without fault that a word is.
 fn word_query(alloc: Global, word: &Text) -> Result<Query, AskError>
-    ensures query { IfOk result (λ q. json_query (read word.now) ≡ sound_query q) }
-    ensures cause { IfErr result (λ e. IsNoQuery e (json_query (read word.now))) }
+    ensures query { IfOk result (λ q. query_or (word_query word.now) ≡ Ok (query_tree q)) }
+    ensures faultless { IfOk result (λ q. first_fault q ≡ None) }
+    ensures cause { IfErr result (λ e. IsNoQuery e (query_or (word_query word.now))) }
 {
-    match Value::from_str(alloc, word.as_str()) {
-        Ok(json) => json_query(alloc, &json),
-        Err(error) if error.is_memory() => Err(AskError::Memory),
-        Err(_) => Err(AskError::Refused(Refusal::NotJson)),
+    match query_of_word(alloc, word) {
+        Ok(query) => Ok(query),
+        Err(QueryError::Refused(why)) => Err(AskError::Refused(Refusal::NoQuery(why))),
+        Err(QueryError::Memory) => Err(AskError::Memory),
     }
 }
 
-/// Tests that a query has no fault, and keys that the sink of a plan keeps.
-fn check_query(alloc: Global, plan: &Plan, query: &Query) -> Result<(), AskError>
-    ensures faultless { OnOk result (first_fault query.now ≡ None) }
-    ensures suited { OnOk result
-        (does_keep plan.now.limits.sink (key_types (query_tree query.now)) ≡ true) }
-    ensures asks { OnOk result (asks_of (plan_seen plan.now) (sound_query query.now)
-        ≡ asks_from plan.now.generate (plan_seen plan.now) (query_tree query.now)) }
-    ensures cause { IfErr result
-        (λ e. IsRefusedFor e (asks_of (plan_seen plan.now) (sound_query query.now))) }
-{
-    let checked = match query.check(alloc) {
-        Ok(checked) => checked,
-        Err(CheckError::Fault(fault)) => return Err(AskError::Refused(Refusal::Faulty(fault))),
-        Err(CheckError::Memory) => return Err(AskError::Memory),
-    };
-    if does_keep(plan.limits.sink, checked.key_types()) {
-        Ok(())
-    } else {
-        Err(AskError::Refused(Refusal::UnfitSink))
-    }
-}
-
-/// The query of a plan: over generated rows the one that they are asked, and else that of its first
-/// word.
-#[tactic(auto, using(crate::proofs::AskedFacts::made_sound))]
+/// The query of a plan, without fault: over generated rows the one that they are asked, and else that of
+/// its first word.
 fn run_query(alloc: Global, plan: &Plan) -> Result<Query, AskError>
-    ensures query { IfOk result (λ q. run_query plan.now.generate plan.now.words.items ≡ sound_query q) }
+    ensures query { IfOk result (λ q. run_query plan.now.generate plan.now.words.items
+        ≡ Ok (query_tree q)) }
+    ensures faultless { IfOk result (λ q. first_fault q ≡ None) }
     ensures made { IfOk result (λ q. IfSome plan.now.generate (λ _. query_tree q ≡ made_tree)) }
-    ensures cause { IfErr result (λ e. IsNoQuery e (run_query plan.now.generate plan.now.words.items)) }
+    ensures cause { IfErr result
+        (λ e. IsNoQuery e (run_query plan.now.generate plan.now.words.items)) }
 {
     if plan.generate.is_some() {
         return match made_query(alloc) {
@@ -100,6 +66,28 @@ fn run_query(alloc: Global, plan: &Plan) -> Result<Query, AskError>
         return Err(AskError::Refused(Refusal::Words));
     }
     word_query(alloc, &plan.words[0])
+}
+
+/// Tests that the sink of a plan keeps the keys of a query without fault.
+fn check_sink(alloc: Global, plan: &Plan, query: &Query) -> Result<(), AskError>
+    requires faultless { first_fault query.now ≡ None }
+    ensures suited { OnOk result
+        (does_keep plan.now.limits.sink (key_types (query_tree query.now)) ≡ true) }
+    ensures asks { OnOk result (asks_of (plan_seen plan.now) (Ok (query_tree query.now))
+        ≡ asks_from plan.now.generate (plan_seen plan.now) (query_tree query.now)) }
+    ensures cause { IfErr result
+        (λ e. IsRefusedFor e (asks_of (plan_seen plan.now) (Ok (query_tree query.now)))) }
+{
+    let checked = match query.check(alloc) {
+        Ok(checked) => checked,
+        Err(CheckError::Fault(_)) => unreachable!(),
+        Err(CheckError::Memory) => return Err(AskError::Memory),
+    };
+    if does_keep(plan.limits.sink, checked.key_types()) {
+        Ok(())
+    } else {
+        Err(AskError::Refused(Refusal::UnfitSink))
+    }
 }
 
 /// What is asked by a plan of its query.
@@ -141,6 +129,6 @@ pub fn read_request(alloc: Global, words: &[Text]) -> Result<Request, AskError>
         Err(_) => return Err(AskError::Memory),
     };
     let query = run_query(alloc, &plan)?;
-    check_query(alloc, &plan, &query)?;
+    check_sink(alloc, &plan, &query)?;
     Ok(request_of(plan, query))
 }

@@ -1,18 +1,14 @@
 //! Why words ask for nothing.
 
-use pipe_aggs::QueryFault;
+use tool_query::NoQuery;
 
 /// Why words are refused.
 #[derive(Clone, Copy, Debug, PartialEq, Eq)]
 pub enum Refusal {
     /// The command doesn't take them, or a value isn't one of its option.
     Words,
-    /// The query's word is no JSON.
-    NotJson,
-    /// The JSON is no query.
-    NotAQuery,
-    /// The query has a fault.
-    Faulty(QueryFault),
+    /// The query's word is no query that can be asked.
+    NoQuery(NoQuery),
     /// The sink that is named doesn't keep keys of the query's types.
     UnfitSink,
 }

@@ -4,6 +4,7 @@ ghost use Rattle.std.specs.Prelude.{◌≡◌, ◌∷◌, [], codes};
 ghost use Rattle.tool_words.specs.Asked.{asked, asks, makes, refused};
 ghost use Rattle.tool_words.specs.WorkedQuery.{keyless_text, made_plan, plain_plan, sum_and_count_query, sum_and_count_text};
 ghost use Rattle.pipe_aggs.specs.declared.query_fault.QueryFault.TheVariants as query_fault;
+ghost use Rattle.tool_query.specs.declared.no_query.NoQuery.TheVariants as no_query;
 ghost use Rattle.tool_words.specs.declared.refusal.Refusal.TheVariants as refusal;
 
 /// The sum and the count of `v` by `k`, as the one word of a command, and before the names of files.
@@ -28,9 +29,10 @@ pub fn refused_words()
     ensures none { asked [] ≡ refused refusal.Words }
     ensures workers { asked (codes "--workers" ∷ codes "0" ∷ sum_and_count_text ∷ [])
         ≡ refused refusal.Words }
-    ensures cut { asked (codes "{" ∷ []) ≡ refused refusal.NotJson }
-    ensures list { asked (codes "[]" ∷ []) ≡ refused refusal.NotAQuery }
-    ensures keyless { asked (keyless_text ∷ []) ≡ refused (refusal.Faulty query_fault.NoKey) }
+    ensures cut { asked (codes "{" ∷ []) ≡ refused (refusal.NoQuery no_query.NotJson) }
+    ensures list { asked (codes "[]" ∷ []) ≡ refused (refusal.NoQuery no_query.NotAQuery) }
+    ensures keyless { asked (keyless_text ∷ [])
+        ≡ refused (refusal.NoQuery (no_query.Faulty query_fault.NoKey)) }
     ensures sink { asked (codes "--sink" ∷ codes "text" ∷ sum_and_count_text ∷ [])
         ≡ refused refusal.UnfitSink }
 {}

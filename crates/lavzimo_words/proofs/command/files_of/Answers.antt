@@ -1,6 +1,5 @@
-use Rattle.std.proofs.Common.{◌≡◌, ◌∙◌, ℕ, List, Bor, Option, codes, map, option_map, ap, sym, rules}
-use Rattle.clap.specs.Words.{all_of, found_of, rows_of}
-use Rattle.lavzimo_words.specs.Asked.{files_in}
+use Rattle.std.proofs.Common.{rules}
+use Rattle.clap.specs.Words.{found_of}
 use Rattle.lavzimo_words.proofs.CommandFacts.{files-lent}
 use Rattle.lavzimo_words.proofs.command.files_of.Goals as goal
 

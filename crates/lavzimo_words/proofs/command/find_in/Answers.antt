@@ -1,4 +1,4 @@
-use Rattle.std.proofs.Common.{◌∙◌, ℕ, List, Bor, map}
+use Rattle.std.proofs.Common.{ℕ, List, Bor, map}
 use Rattle.std.proofs.lemmas.Result.{IfOk-weaker}
 use Rattle.clap.specs.Values.{kind_of}
 use Rattle.clap.specs.Words.{app_of}

@@ -1,4 +1,4 @@
-use Rattle.std.proofs.Common.{◌≡◌, ◌∙◌, ℕ, List, Bor, option_map, ap, arith, rules}
+use Rattle.std.proofs.Common.{◌≡◌, ℕ, List, Bor, option_map, ap, arith, rules}
 use Rattle.lavzimo_words.proofs.CutFacts.{cut-last}
 use Rattle.lavzimo_words.specs.Items.{typed, typed_by}
 use Rattle.lavzimo_words.proofs.cut.typed.Goals as goal

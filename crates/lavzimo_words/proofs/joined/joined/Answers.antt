@@ -1,4 +1,4 @@
-use Rattle.std.proofs.Common.{◌≡◌, ◌∙◌, ◌++◌, ℕ, List, Some, None, rules, ap, sym}
+use Rattle.std.proofs.Common.{◌≡◌, ◌∙◌, ◌++◌, Some, None, rules, ap, sym}
 use Rattle.lavzimo_words.specs.Joined.{joined, next_word}
 use Rattle.lavzimo_words.proofs.JoinedFacts.{joined-done, joined-shorter, joined-step}
 use Rattle.lavzimo_words.proofs.joined.joined.Goals as goal

@@ -1,4 +1,4 @@
-use Rattle.std.proofs.Common.{◌≡◌, Result, arith}
+use Rattle.std.proofs.Common.{Result}
 use Rattle.lavzimo_words.specs.Items.{item_of}
 use Rattle.lavzimo_words.specs.declared.item.Item.{Item}
 use Rattle.lavzimo_words.specs.declared.pieces.Piece.{Piece}

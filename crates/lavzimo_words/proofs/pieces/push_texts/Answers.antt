@@ -1,4 +1,4 @@
-use Rattle.std.proofs.Common.{◌≡◌, ◌∙◌, ◌++◌, [], ap, sym, arith}
+use Rattle.std.proofs.Common.{◌∙◌, ap, sym, arith}
 use Rattle.std.proofs.lemmas.List.{append-nil, map_push}
 use Rattle.lavzimo_words.specs.Pieces.{piece_seen, pieces_seen}
 use Rattle.lavzimo_words.proofs.PieceFacts.{behind-all, behind-more, lent_in_role}

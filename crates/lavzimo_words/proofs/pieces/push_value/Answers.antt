@@ -1,4 +1,4 @@
-use Rattle.std.proofs.Common.{◌≡◌, ◌∙◌, ◌++◌, ℕ, Bor, List, map, ap}
+use Rattle.std.proofs.Common.{◌∙◌, ◌++◌, ℕ, Bor, List, map, ap}
 use Rattle.lavzimo_words.specs.Pieces.{pieces_seen}
 use Rattle.lavzimo_words.proofs.PieceFacts.{in-role, in_role}
 use Rattle.lavzimo_words.proofs.pieces.push_value.Goals as goal

@@ -1,4 +1,4 @@
-use Rattle.std.proofs.Common.{◌≡◌, ◌∙◌, Bool, true, false, refl, sym, ap}
+use Rattle.std.proofs.Common.{◌∙◌, sym, ap}
 use Rattle.std.specs.Prelude.{not}
 use Rattle.lavzimo_words.specs.AskedQuery.{agg_expr}
 use Rattle.lavzimo_words.specs.Roles.{is_key}

@@ -1,5 +1,4 @@
-use Rattle.std.proofs.Common.{◌≡◌, ◌∙◌, Bool, true, false, refl, sym, ap}
-use Rattle.std.specs.Prelude.{not}
+use Rattle.std.proofs.Common.{◌∙◌, sym}
 use Rattle.lavzimo_words.specs.AskedQuery.{key_expr}
 use Rattle.lavzimo_words.specs.Roles.{is_key}
 use Rattle.lavzimo_words.proofs.FlatMore.{chosen-more}

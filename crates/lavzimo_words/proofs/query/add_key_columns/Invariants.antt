@@ -1,4 +1,3 @@
-use Rattle.std.specs.Prelude.{not}
 use Rattle.lavzimo_words.specs.AskedQuery.{key_expr}
 use Rattle.lavzimo_words.specs.Roles.{is_key}
 use Rattle.lavzimo_words.proofs.FlatMore.{AreAddedOf}

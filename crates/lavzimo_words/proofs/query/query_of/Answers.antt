@@ -1,17 +1,16 @@
-use Rattle.std.proofs.Common.{◌≡◌, ◌∙◌, List, [], Option, Some, None, map, true, refl, sym, ap, subst}
+use Rattle.std.proofs.Common.{◌≡◌, ◌∙◌, List, [], Option, Some, None, map, sym, ap, subst}
 use Rattle.std.specs.Prelude.{unwrap_or}
-use Rattle.pipe_aggs.specs.QueryTrees.{written}
-use Rattle.pipe_columns.specs.declared.schema.Field.{Field}
 use Rattle.pipe_exprs.specs.Trees.{tree}
 use Rattle.pipe_exprs.specs.declared.expression.AExpr.{AExpr}
 use Rattle.pipe_exprs.specs.declared.expression.Node.{Node}
 use Rattle.pipe_model.specs.Expr.{Expr}
-use Rattle.pipe_model.specs.Query.{WrittenQuery}
 use Rattle.pipe_model.specs.WrittenTree.{written_tree}
 use Rattle.pipe_query.specs.Added.{AreAdded}
 use Rattle.pipe_query.proofs.QueryFacts.{first_list, nodes_there, second_list}
-use Rattle.lavzimo_words.specs.AskedQuery.{agg_expr, aggs_in, is_first, key_expr, keys_in, keys_of, named_fields, written_of}
+use Rattle.lavzimo_words.specs.AskedQuery.{agg_expr, aggs_in, key_expr, keys_in, keys_of, named_fields}
 use Rattle.lavzimo_words.specs.declared.asked_column.AskedColumn.{AskedColumn}
+use Rattle.lavzimo_words.specs.Asked.{columns_seen}
+use Rattle.lavzimo_words.proofs.AskedLaws.{made-faultless}
 use Rattle.lavzimo_words.proofs.query.query_of.Goals as goal
 
 -- the keys and the aggregates of columns
@@ -58,3 +57,6 @@ returns-clause-nodes c =
     let first = keys-added c.deref-2.result.now cs c.new-arena.result c.add_keys.new.arena c.in_ok-keys.keys.items c.deref-2.ensures.value c.new-arena.ensures c.in_ok-keys.ensures in
     let second = aggs-added c.deref-3.result.now cs c.add_keys.new.arena c.add_aggs.new.arena c.in_ok-aggs.aggs.items c.deref-3.ensures.value c.in_ok-aggs.ensures in
     nodes_there (keys_for cs) (aggs_for cs) c.add_keys.new.arena c.add_aggs.new.arena c.in_ok-keys.keys.items c.in_ok-aggs.aggs.items first second
+
+pub returns-clause-faultless : goal.returns-clause-faultless
+returns-clause-faultless c = made-faultless (columns_seen c.args.asked.now) _ _ (returns-clause-written c) (returns-clause-nodes c)

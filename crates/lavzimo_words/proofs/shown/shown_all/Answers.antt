@@ -1,6 +1,6 @@
 use Rattle.std.proofs.Common.{◌≡◌, ◌∙◌, Ok, sym, ap, rules, arith}
 use Rattle.lavzimo_words.specs.Shown.{column_type, shown_as}
-use Rattle.lavzimo_words.proofs.ResultFacts.{given-all, given-first, given-more, given-refused}
+use Rattle.lavzimo_words.proofs.ResultFacts.{given-all, given-first, given-more}
 use Rattle.lavzimo_words.proofs.shown.shown_all.Goals as goal
 
 pub loop-item-init : goal.loop-item-init

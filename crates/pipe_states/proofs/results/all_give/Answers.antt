@@ -1,4 +1,4 @@
-use Rattle.std.proofs.Common.{rules, arith, ◌≡◌, ◌∙◌, ◌+◌, ◌∷◌, [], List, ℕ, true, false, drop, refl, ap, sym, subst}
+use Rattle.std.proofs.Common.{rules, arith, ◌≡◌, ◌∙◌, ◌+◌, [], List, ℕ, true, false, drop, refl, ap, sym, subst}
 use Rattle.std.proofs.lemmas.List.{drop_all, take_rest}
 use Rattle.pipe_columns.specs.declared.any_value.AnyValue.{AnyValue}
 use Rattle.pipe_columns.specs.Frame.{value_at}

@@ -1,4 +1,4 @@
-use Rattle.std.proofs.Common.{rules, arith, ◌≡◌, ◌∙◌, ◌+◌, ◌*◌, ◌<◌, ◌≤◌, ◌^◌, ◌++◌, [], List, ℕ, drop, ap, sym, subst}
+use Rattle.std.proofs.Common.{rules, arith, ◌≡◌, ◌∙◌, ◌+◌, ◌++◌, [], List, ℕ, drop, ap, sym, subst}
 use Rattle.std.specs.Prelude.{IsErrOf, Some, option_map}
 use Rattle.std.proofs.lemmas.List.{drop_all, drop-drop}
 use Rattle.pipe_columns.specs.declared.any_value.AnyValue.{AnyValue}
@@ -12,7 +12,7 @@ use Rattle.pipe_states.proofs.results.restored_results.Goals as goal
 pub loop-function-init : goal.loop-function-init
 loop-function-init c =
     let none : c.in_ok-results.results.items ≡ [] = c.in_ok-results.ensures.items in
-    let rest : List AnyValue = drop 3 c.args.values.now in
+    let rest : List AnyValue = c.args.values.now in
     record {
       typed = c.requires;
       is = ap (λ (l : List AnyValue). restored_behind l c.args.functions.now rest) none;
@@ -26,7 +26,7 @@ restore-requires-clause-typed c =
     let i : ℕ = c.loop-function.function-index in
     let rest : List AnyValue = drop c.loop-function.j c.loop-function.values in
     let left = left_over fs i f c.loop-function-test.true c.function-item.is in
-    let inv = subst (λ (l : List AggregateFunction). AreRestored fs (drop 3 c.args.values.now) c.loop-function.results.items l i c.loop-function.j rest) left c.loop-function.invariant in
+    let inv = subst (λ (l : List AggregateFunction). AreRestored fs c.args.values.now c.loop-function.results.items l i c.loop-function.j rest) left c.loop-function.invariant in
     (front_saved f (drop (i + 1) fs) rest inv.typed).0
 
 pub loop-function-preserved : goal.loop-function-preserved
@@ -35,7 +35,7 @@ loop-function-preserved c =
     let f : AggregateFunction = c.function-item.result in
     let i : ℕ = c.loop-function.function-index in
     let j : ℕ = c.loop-function.j in
-    let all : List AnyValue = drop 3 c.args.values.now in
+    let all : List AnyValue = c.args.values.now in
     let rest : List AnyValue = drop j c.loop-function.values in
     let left = left_over fs i f c.loop-function-test.true c.function-item.is in
     let inv = subst (λ (l : List AggregateFunction). AreRestored fs all c.loop-function.results.items l i j rest) left c.loop-function.invariant in
@@ -51,7 +51,7 @@ returns-in_err-restore-clause-refused c = λ h.
     let f : AggregateFunction = c.function-item.result in
     let i : ℕ = c.loop-function.function-index in
     let j : ℕ = c.loop-function.j in
-    let all : List AnyValue = drop 3 c.args.values.now in
+    let all : List AnyValue = c.args.values.now in
     let rest : List AnyValue = drop j c.loop-function.values in
     let left = left_over fs i f c.loop-function-test.true c.function-item.is in
     let inv = subst (λ (l : List AggregateFunction). AreRestored fs all c.loop-function.results.items l i j rest) left c.loop-function.invariant in

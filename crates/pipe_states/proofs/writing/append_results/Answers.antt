@@ -1,9 +1,9 @@
-use Rattle.std.proofs.Common.{rules, arith, ◌≡◌, ◌∙◌, ◌+◌, ◌≤◌, ◌++◌, ◌∷◌, List, [], ℕ, drop, refl, ap, sym, subst}
+use Rattle.std.proofs.Common.{rules, arith, ◌≡◌, ◌∙◌, ◌+◌, ◌++◌, List, [], ℕ, drop, refl, ap, sym, subst}
 use Rattle.std.proofs.lemmas.List.{append-nil, drop_all, take_rest}
 use Rattle.pipe_columns.specs.declared.any_value.AnyValue.{AnyValue}
 use Rattle.pipe_columns.specs.Key.{code}
 use Rattle.pipe_running.specs.declared.function.AggregateFunction.{AggregateFunction}
-use Rattle.pipe_states.specs.Forms.{all_saved, all_saved_types, saved_of, saved_types_of, width}
+use Rattle.pipe_states.specs.Forms.{all_saved, all_saved_types, saved_of, saved_types_of}
 use Rattle.pipe_states.proofs.Appending.{left_over}
 use Rattle.pipe_states.proofs.Saved.{appended_more, AreAppended, front_results}
 use Rattle.pipe_states.proofs.writing.append_results.Goals as goal

@@ -1,4 +1,4 @@
-use Rattle.std.proofs.Common.{rules, ◌≡◌, ◌++◌, List, ℕ, length, map, refl, sym, subst}
+use Rattle.std.proofs.Common.{rules, ◌≡◌, ◌++◌, List, length, map, refl, sym, subst}
 use Rattle.std.specs.Prelude.{All}
 use Rattle.std.specs.Int.{bytes_high_first}
 use Rattle.pipe_aggs.specs.QueryTrees.{query_tree}

@@ -1,10 +1,9 @@
-use Rattle.std.proofs.Common.{rules, arith, ◌≡◌, ◌∙◌, ◌<◌, ◌≤◌, ◌+◌, ◌==◌, true, false, zero, suc, ◌++◌, ◌∷◌, ℕ, [], List, length, All, sym, ap, subst}
+use Rattle.std.proofs.Common.{rules, arith, ◌≡◌, ◌∙◌, ◌≤◌, ◌==◌, true, false, zero, suc, ◌++◌, ◌∷◌, ℕ, [], List, length, sym, ap, subst}
 use Rattle.std.specs.List.{range_with_len}
 use Rattle.std.proofs.lemmas.List.{length-map}
 use Rattle.pipe_aggs.specs.QueryTrees.{query_tree}
 use Rattle.pipe_model.specs.Query.{QueryTree}
 use Rattle.pipe_states.specs.Together.{AreKept}
-use Rattle.pipe_summary.specs.Summed.{all_keys}
 use Rattle.pipe_summary.proofs.SummedFacts.{all-kept, range-push}
 use Rattle.pipe_summary.proofs.answer.all_keys.Goals as goal
 

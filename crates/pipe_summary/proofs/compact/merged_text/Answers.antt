@@ -1,10 +1,8 @@
-use Rattle.std.proofs.Common.{rules, ◌≡◌, ◌∙◌, ◌<◌, ◌^◌, List, All, sym, ap, subst, arith}
 use Rattle.std.proofs.lemmas.List.Elements.{All-weaker}
 use Rattle.pipe_aggs.specs.QueryTrees.{query_tree}
 use Rattle.pipe_model.specs.Query.{QueryTree}
 use Rattle.pipe_states.specs.Fair.{IsStateOf}
 use Rattle.pipe_states.specs.Files.{IsFairStateOf}
-use Rattle.pipe_states.specs.States.{StateSeen}
 use Rattle.pipe_summary.proofs.TurnFacts.{follow-on}
 use Rattle.pipe_summary.proofs.compact.merged_text.Goals as goal
 

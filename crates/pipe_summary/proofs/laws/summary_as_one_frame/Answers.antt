@@ -1,4 +1,4 @@
-use Rattle.std.proofs.Common.{◌∷◌, ◌≤◌, suc, length, arith}
+use Rattle.std.proofs.Common.{◌∷◌, arith}
 use Rattle.pipe_summary.proofs.laws.summary_as_one_frame.Goals as goal
 use Rattle.pipe_summary.proofs.SumFacts.{sums-merged, sums-none}
 

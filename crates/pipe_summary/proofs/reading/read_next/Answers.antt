@@ -1,13 +1,11 @@
-use Rattle.std.proofs.Common.{rules, ◌≡◌, ◌∙◌, ◌<◌, ◌∷◌, ◌++◌, ℕ, [], List, length, Err, sym, ap, subst}
+use Rattle.std.proofs.Common.{◌≡◌, List, subst}
 use Rattle.pipe_aggs.specs.QueryTrees.{query_tree}
 use Rattle.pipe_aggs.specs.declared.query.Query.{Query}
-use Rattle.pipe_model.specs.Query.{QueryTree}
 use Rattle.pipe_spill.specs.Store.{IsFrameAt}
 use Rattle.pipe_states.specs.Files.{IsFairStateOf}
 use Rattle.pipe_states.specs.States.{StateSeen}
 use Rattle.pipe_states.specs.StateText.{state_text}
 use Rattle.pipe_summary.specs.Held.{IsDamagedNext}
-use Rattle.pipe_summary.specs.InTurn.{AreInTurn}
 use Rattle.pipe_summary.proofs.ReadFacts.{next-late, number-is}
 use Rattle.pipe_summary.proofs.reading.read_next.Goals as goal
 

@@ -11,7 +11,8 @@ use Rattle.tool_answer.specs.Inside.{RanSeen}
 use Rattle.tool_answer.specs.Faults.{fault_line, IsCaused}
 use Rattle.tool_answer.specs.Inside.{EndsMade, EndsRefused, IsLeft}
 use Rattle.tool_answer.specs.Headline.{HasNoRun, HasRun, HasStopped}
-use Rattle.tool_answer.specs.Status.{FrameDamaged, is_answer, is_read_end, Reports, StoreFailed}
+use Rattle.tool_shell.specs.Reports.{Reports}
+use Rattle.tool_answer.specs.Status.{FrameDamaged, is_answer, is_read_end, StoreFailed}
 use Rattle.tool_answer.specs.declared.fault.ToolFault.TheVariants as fault
 use Rattle.tool_answer.proofs.RunFacts.{some-at}
 use Rattle.tool_answer.proofs.ToolFacts.{done-refusal, done-unread, left-any, left-paths, told-complete, told-damaged, told-due, told-not-done, told-otherwise, told-ran, told-refusal, told-store, told-unfailed, told-unread, written-answered, written-due, written-run}

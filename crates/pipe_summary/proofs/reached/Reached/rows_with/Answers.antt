@@ -1,4 +1,4 @@
-use Rattle.std.proofs.Common.{rules, ◌≡◌, ◌∙◌, ◌+◌, ◌<◌, ◌^◌, ◌∷◌, ◌++◌, ℕ, [], List, Option, Some, None, IfSome, sym, ap, subst, arith}
+use Rattle.std.proofs.Common.{◌≡◌, ◌∙◌, ◌+◌, ◌<◌, ◌^◌, ◌∷◌, ◌++◌, ℕ, [], List, Option, Some, None, IfSome, sym, ap, subst, arith}
 use Rattle.std.specs.List.{sum_by}
 use Rattle.std.specs.Option.{SomeIff}
 use Rattle.pipe_states.specs.declared.state_row.StateRow.{StateRow}
@@ -33,7 +33,7 @@ returns-then-first-self-clause-none c =
     let late : s.first ≡ end_of states → s.first ≡ s.end =
     λ e.
     elim c.then-first-self.branch [
-      then-first-self-via-then-first-self w ↦ absurd (w.if-first-self.true (begins ∙ e ∙ sym at))
+      | then-first-self-via-then-first-self w ↦ absurd (w.if-first-self.true (begins ∙ e ∙ sym at))
       | then-first-self-via-else-first-self+then-first-end w ↦ sym begins ∙ w.if-first-end.true ∙ w.end.ensures.end
     ] in
     subst (λ (v : ReachedSeen). Next s v → ⊥) c.self.view_is (not-next q states s late)

@@ -1,7 +1,6 @@
-use Rattle.std.proofs.Common.{rules, ◌≡◌, ◌∙◌, ◌≤◌, [], List, length, sym, ap, subst, arith}
+use Rattle.std.proofs.Common.{◌≡◌, length, arith}
 use Rattle.pipe_aggs.specs.QueryTrees.{query_tree}
-use Rattle.pipe_columns.specs.declared.data_chunk.DataChunk.{DataChunk}
-use Rattle.pipe_summary.proofs.HoldFacts.{added-none, added-some, none-can}
+use Rattle.pipe_summary.proofs.HoldFacts.{added-some, none-can}
 use Rattle.pipe_summary.proofs.summary.Summary.add.Goals as goal
 
 pub returns-then-is_empty-clause-holds : goal.returns-then-is_empty-clause-holds

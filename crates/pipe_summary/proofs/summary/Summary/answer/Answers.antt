@@ -1,8 +1,7 @@
-use Rattle.std.proofs.Common.{rules, ◌≡◌, ◌∙◌, ◌≤◌, ℕ, List, Option, IfSome, length, sym, ap, subst, arith}
+use Rattle.std.proofs.Common.{◌≡◌, ◌∙◌, ap}
 use Rattle.pipe_aggs.specs.QueryTrees.{query_tree}
 use Rattle.pipe_aggs.specs.declared.query.Query.{Query}
 use Rattle.pipe_model.specs.Query.{QueryTree}
-use Rattle.pipe_states.specs.States.{StateSeen}
 use Rattle.pipe_summary.proofs.HoldFacts.{stands-answer, summed-told}
 use Rattle.pipe_summary.proofs.summary.Summary.answer.Goals as goal
 

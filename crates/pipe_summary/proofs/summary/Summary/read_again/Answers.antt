@@ -1,7 +1,4 @@
-use Rattle.std.proofs.Common.{rules, ◌≡◌, ◌∙◌, ℕ, List, Option, None, IfSome, length, sym, ap, subst, arith}
-use Rattle.pipe_aggs.specs.QueryTrees.{query_tree}
-use Rattle.pipe_aggs.specs.declared.query.Query.{Query}
-use Rattle.pipe_model.specs.Query.{QueryTree}
+use Rattle.std.proofs.Common.{rules, ◌≡◌, ◌∙◌, List, None, IfSome, sym, ap, subst}
 use Rattle.pipe_states.specs.States.{StateSeen}
 use Rattle.pipe_summary.proofs.ReadFacts.{again, again-sound}
 use Rattle.pipe_summary.proofs.summary.Summary.read_again.Goals as goal

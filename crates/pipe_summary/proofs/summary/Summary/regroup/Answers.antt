@@ -1,8 +1,7 @@
-use Rattle.std.proofs.Common.{rules, ◌≡◌, ◌∙◌, ℕ, List, Option, None, IfSome, length, sym, ap, subst, arith}
+use Rattle.std.proofs.Common.{rules, ◌≡◌, ◌∙◌, None, IfSome, ap, subst}
 use Rattle.pipe_aggs.specs.QueryTrees.{query_tree}
 use Rattle.pipe_aggs.specs.declared.query.Query.{Query}
 use Rattle.pipe_model.specs.Query.{QueryTree}
-use Rattle.pipe_states.specs.States.{StateSeen}
 use Rattle.pipe_states.specs.Regrouped.{regrouped}
 use Rattle.pipe_summary.specs.Summed.{all_keys}
 use Rattle.pipe_summary.proofs.HoldFacts.{regrouped-told}

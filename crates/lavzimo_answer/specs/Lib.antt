@@ -1,0 +1,9 @@
+pub mod Asking
+pub mod Names
+pub mod Lines
+pub mod Faults
+pub mod Headline
+pub mod Status
+pub mod Ended
+pub mod Reading
+pub mod Inside

@@ -1,0 +1,2 @@
+pub mod StoreFacts
+pub mod RunFacts

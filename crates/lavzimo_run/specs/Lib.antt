@@ -1,0 +1,4 @@
+pub mod Jobs
+pub mod Stores
+pub mod Running
+pub mod Begun

@@ -1,0 +1,5 @@
+pub mod ColumnFacts
+pub mod NoneFacts
+pub mod GroupMoves
+pub mod AnswerRows
+pub mod PartitionLaws

@@ -1,0 +1,124 @@
+//! Chunks that are added one by one, none, and such that don't fit; an answer under a slice.
+
+ghost use Rattle.std.specs.Prelude.{◌≡◌, IfOk};
+
+use crate::asked::{chunk_of, is_of_three, one_row, shows, sum_and_count, two_rows};
+use crate::steps::{open, store_of};
+use pipe_aggs::{CheckedQuery, Query};
+use pipe_columns::{DataChunk, Schema};
+use pipe_spill::MemoryStore;
+use pipe_summary::{AddError, Adding, Summary};
+use std::alloc::Global;
+use std::test::Fail;
+
+/// An empty summary.
+fn empty<'a>(alloc: Global, query: &'a CheckedQuery<'a>) -> Result<Summary<'a, MemoryStore>, Fail>
+    ensures { IfOk result (λ s. s.query ≡ query.now) }
+{
+    match open(alloc, query, store_of(alloc, 99)?) {
+        Ok(summary) => Ok(summary),
+        Err(_) => Err("Summary::open wants memory".into()),
+    }
+}
+
+/// An addition with a chunk more.
+fn fed<'a>(adding: Adding<'a>, chunk: DataChunk, schema: &Schema) -> Result<Adding<'a>, Fail>
+    requires { adding.query.schema ≡ schema.now }
+    ensures query { IfOk result (λ a. a.query ≡ adding.entry.query) }
+    ensures rows { IfOk result (λ a. a.rows ≡ adding.entry.rows) }
+    ensures first { IfOk result (λ a. a.first ≡ adding.entry.first) }
+{
+    let fits = chunk.frame.fits(schema);
+    let chunks = [chunk];
+    if !fits || !adding.has_room_for(&chunks) {
+        return Err("no room".into());
+    }
+    match adding.feed_all(&chunks) {
+        Ok(adding) => Ok(adding),
+        Err(_) => Err("Adding::feed_all wants memory".into()),
+    }
+}
+
+/// Adds two chunks at once, fed one by one.
+fn feed_two<'a>(
+    alloc: Global,
+    summary: &mut Summary<'a, MemoryStore>,
+    schema: &Schema,
+) -> Result<(), Fail>
+    requires { summary.old.query.schema ≡ schema.now }
+{
+    let adding = summary.begin()?;
+    let adding = fed(adding, two_rows(alloc)?, schema)?;
+    let adding = fed(adding, one_row(alloc)?, schema)?;
+    Ok(summary.finish(adding)?)
+}
+
+/// Whether chunks that are fed one by one are one frame, and none is none.
+fn grows_by_feeding(alloc: Global, query: &CheckedQuery<'_>) -> Result<bool, Fail> {
+    let schema = &query.query().schema;
+    let mut summary = empty(alloc, query)?;
+    feed_two(alloc, &mut summary, schema)?;
+    let none = summary.begin()?;
+    summary.finish(none)?;
+    summary.add(&[])?;
+    let right = is_of_three(&summary.answer()?);
+    Ok(right && summary.into_store().frames().len() == 1)
+}
+
+/// Whether a chunk of other columns is told, and nothing is added.
+fn tells_misfit(alloc: Global, query: &CheckedQuery<'_>) -> Result<bool, Fail> {
+    let mut summary = empty(alloc, query)?;
+    let chunks = [two_rows(alloc)?, chunk_of(alloc, &[1], "w", &[7])?];
+    let told = summary.add(&chunks) == Err(AddError::Schema { chunk: 1 });
+    let none = shows(&summary.answer()?, [&[], &[], &[]]);
+    Ok(told && none && summary.into_store().frames().is_empty())
+}
+
+/// Whether a summary shows the second group alone.
+fn shows_second_group(alloc: Global, query: &CheckedQuery<'_>) -> Result<bool, Fail> {
+    let mut summary = empty(alloc, query)?;
+    summary.add(&[two_rows(alloc)?, one_row(alloc)?])?;
+    Ok(shows(&summary.answer()?, [&[2], &[6], &[1]]))
+}
+
+#[derive(Clone, Copy)]
+enum Asks {
+    Feeding,
+    Misfit,
+    SecondGroup,
+}
+
+/// Fails where what is asked of a query isn't so.
+fn hold(alloc: Global, query: &Query, asks: Asks) -> Result<(), Fail> {
+    let Ok(checked) = query.check(alloc) else {
+        return Err("Query::check wants memory".into());
+    };
+    let so = match asks {
+        Asks::Feeding => grows_by_feeding(alloc, &checked)?,
+        Asks::Misfit => tells_misfit(alloc, &checked)?,
+        Asks::SecondGroup => shows_second_group(alloc, &checked)?,
+    };
+    if so {
+        Ok(())
+    } else {
+        Err("it isn't so".into())
+    }
+}
+
+#[test]
+fn chunks_are_fed_one_by_one(rt: HostRuntime) -> Result<(), Fail> {
+    let query = sum_and_count(rt.alloc(), None)?;
+    hold(rt.alloc(), &query, Asks::Feeding)
+}
+
+#[test]
+fn a_chunk_of_other_columns(rt: HostRuntime) -> Result<(), Fail> {
+    let query = sum_and_count(rt.alloc(), None)?;
+    hold(rt.alloc(), &query, Asks::Misfit)
+}
+
+#[test]
+fn an_answer_under_a_slice(rt: HostRuntime) -> Result<(), Fail> {
+    let query = sum_and_count(rt.alloc(), Some((1, 1)))?;
+    hold(rt.alloc(), &query, Asks::SecondGroup)
+}
