@@ -1,6 +1,6 @@
 //! The answer of a summary.
 
-ghost use Rattle.std.specs.Prelude.{◌≡◌, ℕ, [], Err, IfOk, IfSome, IsErrOf, List, None, OnOk};
+ghost use Rattle.std.specs.Prelude.{◌≡◌, ◌<◌, ℕ, [], Err, IfOk, IfSome, IsErrOf, List, None, OnOk};
 ghost use Rattle.pipe_aggs.specs.QueryTrees.{query_tree};
 ghost use Rattle.pipe_columns.specs.Causes.{HasCause};
 ghost use Rattle.pipe_columns.specs.declared.data_chunk.DataChunk.{DataChunk};
@@ -63,6 +63,7 @@ fn add_all<'a, S: SpillStore>(
         (S.held store.new) reached.new.states) }
     ensures damaged { (n : ℕ) → result ≡ Err (read_error.Damaged n) → IfSome (S.told store.old)
         (λ frames. IsFirstDamaged (query_tree reached.old.query) frames n) }
+    ensures within { (n : ℕ) → result ≡ Err (read_error.Damaged n) → n < S.held store.old }
     ensures told { S.told store.new ≡ S.told store.old }
     ensures held { S.held store.new ≡ S.held store.old }
     ensures sure { S.sure store.new ≡ S.sure store.old }
@@ -100,6 +101,8 @@ impl<'a, S: SpillStore + Drop> Summary<'a, S> {
             → S.faults self.new.store ≡ S.faults self.old.store }
         ensures damaged { (n : ℕ) → result ≡ Err (read_error.Damaged n)
             → S.told self.old.store ≡ None }
+        ensures within { (n : ℕ) → result ≡ Err (read_error.Damaged n)
+            → n < S.held self.old.store }
     {
         let query = self.reached.query();
         let keep = all_keys(self.alloc, query)?;
@@ -138,9 +141,11 @@ impl<'a, S: SpillStore + Drop> Summary<'a, S> {
         ensures calm { (IsErrOf result read_error.Store → ⊥)
             → S.faults self.new.store ≡ S.faults self.old.store }
 
-        // A store that tells its frames gives back none that is damaged.
+        // A store that tells its frames gives back none that is damaged; one that is told is held.
         ensures damaged { (n : ℕ) → result ≡ Err (read_error.Damaged n)
             → S.told self.old.store ≡ None }
+        ensures within { (n : ℕ) → result ≡ Err (read_error.Damaged n)
+            → n < S.held self.old.store }
     {
         self.recall();
         let frame = self.regroup()?;

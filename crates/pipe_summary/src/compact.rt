@@ -1,6 +1,6 @@
 //! A summary as one frame.
 
-ghost use Rattle.std.specs.Prelude.{◌≡◌, ◌≢◌, ◌≤◌, ℕ, [], Err, IfOk, IfSome, IsErrOf, List, None, OnErr, OnOk, length};
+ghost use Rattle.std.specs.Prelude.{◌≡◌, ◌≢◌, ◌<◌, ◌≤◌, ℕ, [], Err, IfOk, IfSome, IsErrOf, List, None, OnErr, OnOk, length};
 ghost use Rattle.pipe_aggs.specs.QueryTrees.{query_tree};
 ghost use Rattle.pipe_columns.specs.Causes.{HasCause};
 ghost use Rattle.pipe_columns.specs.declared.data_chunk.DataChunk.{DataChunk};
@@ -37,6 +37,7 @@ fn read_files<S: SpillStore>(
         (S.held store.new) reached.new.states) }
     ensures damaged { (n : ℕ) → result ≡ Err (read_error.Damaged n) → IfSome (S.told store.old)
         (λ frames. IsFirstDamaged (query_tree reached.old.query) frames n) }
+    ensures within { (n : ℕ) → result ≡ Err (read_error.Damaged n) → n < S.held store.old }
     ensures told { S.told store.new ≡ S.told store.old }
     ensures held { S.held store.new ≡ S.held store.old }
     ensures sure { S.sure store.new ≡ S.sure store.old }
@@ -114,6 +115,8 @@ impl<'a, S: SpillStore + Drop> Summary<'a, S> {
             → S.faults self.new.store ≡ S.faults self.old.store }
         ensures damaged { (n : ℕ) → result ≡ Err (read_error.Damaged n)
             → S.told self.old.store ≡ None }
+        ensures within { (n : ℕ) → result ≡ Err (read_error.Damaged n)
+            → n < S.held self.old.store }
     {
         let mut reached = Reached::none(self.reached.query());
         match read_files(self.alloc, &mut reached, &mut self.store) {
@@ -162,8 +165,9 @@ impl<'a, S: SpillStore + Drop> Summary<'a, S> {
         ensures calm { (IsErrOf result fault.Store → ⊥)
             → S.faults self.new.store ≡ S.faults self.old.store }
 
-        // A store that tells its frames gives back none that is damaged.
+        // A store that tells its frames gives back none that is damaged; one that is told is held.
         ensures damaged { (n : ℕ) → result ≡ Err (fault.Damaged n) → S.told self.old.store ≡ None }
+        ensures within { (n : ℕ) → result ≡ Err (fault.Damaged n) → n < S.held self.old.store }
     {
         self.recall();
         let files = match self.read_again() {

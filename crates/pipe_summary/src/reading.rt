@@ -98,6 +98,7 @@ pub(crate) fn read_all<S: SpillStore>(
         (S.held store.new) reached.new.states) }
     ensures damaged { (n : ℕ) → result ≡ Err (read_error.Damaged n) → IfSome (S.told store.old)
         (λ frames. IsFirstDamaged (query_tree reached.old.query) frames n) }
+    ensures within { (n : ℕ) → result ≡ Err (read_error.Damaged n) → n < S.held store.old }
     ensures told { S.told store.new ≡ S.told store.old }
     ensures held { S.held store.new ≡ S.held store.old }
     ensures sure { S.sure store.new ≡ S.sure store.old }

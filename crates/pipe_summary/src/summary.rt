@@ -1,6 +1,6 @@
 //! A summary over a store of frames.
 
-ghost use Rattle.std.specs.Prelude.{◌≡◌, ℕ, IfErr, IfOk, IfSome, List, false};
+ghost use Rattle.std.specs.Prelude.{◌≡◌, ◌<◌, ℕ, IfErr, IfOk, IfSome, List, false};
 ghost use Rattle.pipe_aggs.specs.QueryTrees.{query_tree};
 ghost use Rattle.pipe_columns.specs.Causes.{HasCause};
 ghost use Rattle.pipe_columns.specs.declared.data_chunk.DataChunk.{DataChunk};
@@ -72,6 +72,8 @@ impl<'a, S: SpillStore + Drop> Summary<'a, S> {
         // is given back, with its frames.
         ensures damaged { IfErr result (λ e. (n : ℕ) → e.0 ≡ read_error.Damaged n
             → IfSome (S.told store) (λ frames. IsFirstDamaged (query_tree query.now) frames n)) }
+        ensures within { IfErr result (λ e. (n : ℕ) → e.0 ≡ read_error.Damaged n
+            → n < S.held store) }
         ensures cause { IfErr result (λ e. HasCause (S.faults store) (S.faults e.1)
             (e.0 ≡ read_error.Store)) }
         ensures calm_refusal { IfErr result (λ e. (e.0 ≡ read_error.Store → ⊥)

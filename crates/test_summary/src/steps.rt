@@ -1,6 +1,6 @@
 //! The calls of a summary, each made again where it was refused. Refusals by a store are counted.
 
-ghost use Rattle.std.specs.Prelude.{◌≡◌, OnOk};
+ghost use Rattle.std.specs.Prelude.{◌≡◌, IfOk};
 
 use pipe_aggs::CheckedQuery;
 use pipe_columns::{DataChunk, DataFrame};
@@ -26,7 +26,9 @@ pub(crate) fn open<'a>(
     alloc: Global,
     query: &'a CheckedQuery<'a>,
     store: MemoryStore,
-) -> Result<Summary<'a, MemoryStore>, (OpenError, MemoryStore)> {
+) -> Result<Summary<'a, MemoryStore>, (OpenError, MemoryStore)>
+    ensures { IfOk result (λ s. s.query ≡ query.now) }
+{
     if query.query().maintain_order {
         return Err((OpenError::Memory, store));
     }

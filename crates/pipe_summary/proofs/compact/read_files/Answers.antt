@@ -1,4 +1,4 @@
-use Rattle.std.proofs.Common.{rules, ◌≡◌, ◌∙◌, ◌∷◌, ◌++◌, [], List, sym, ap, subst, arith}
+use Rattle.std.proofs.Common.{rules, ◌≡◌, ◌<◌, ◌∙◌, ◌∷◌, ◌++◌, [], List, sym, ap, subst, arith}
 use Rattle.pipe_aggs.specs.QueryTrees.{query_tree}
 use Rattle.pipe_aggs.specs.declared.query.Query.{Query}
 use Rattle.pipe_model.specs.Query.{QueryTree}
@@ -48,3 +48,12 @@ returns-clause-holds g c =
     let stop : c.loop-number.number ≡ g.S.SpillStore.held c.loop-number.store = let first = c.held-number-end.ensures in omega (arith, i.held, first, c.loop-number-test.false, c.loop-number.auto.number-end) in
     read-all q (g.S.SpillStore.told c.args.store.now) (g.S.SpillStore.told c.loop-number.store) (g.S.SpillStore.held c.loop-number.store) c.loop-number.number c.loop-number.reached.states
     i.in_turn i.front i.told (g.S.SpillStore.tells_all c.loop-number.store) i.count stop
+
+pub returns-in_err-file-clause-within : goal.returns-in_err-file-clause-within
+returns-in_err-file-clause-within g c =
+    let i = c.loop-number.invariant in
+    λ n e.
+    let d : IsDamagedNext (query_tree c.loop-number.reached.query) (g.S.SpillStore.told c.loop-number.store) c.loop-number.reached.states n = c.read_next.ensures.damaged n (search rules) in
+    let number : n ≡ c.loop-number.number = d.number ∙ sym i.count in
+    let first = c.held-number-end.ensures in
+    omega (arith, number, first, c.loop-number-test.true)

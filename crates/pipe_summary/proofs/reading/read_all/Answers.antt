@@ -1,4 +1,4 @@
-use Rattle.std.proofs.Common.{rules, ◌∙◌, subst}
+use Rattle.std.proofs.Common.{rules, ◌≡◌, ◌∙◌, sym, subst, arith}
 use Rattle.pipe_aggs.specs.QueryTrees.{query_tree}
 use Rattle.pipe_aggs.specs.declared.query.Query.{Query}
 use Rattle.pipe_model.specs.Query.{QueryTree}
@@ -39,3 +39,12 @@ returns-in_err-read_next-clause-damaged g c =
     λ n e.
     read-damaged q told (g.S.SpillStore.told c.loop-number.store) c.loop-number.reached.states n i.in_turn i.front i.told
     (subst (λ (v : Query). IsDamagedNext (query_tree v) (g.S.SpillStore.told c.loop-number.store) c.loop-number.reached.states n) i.query (c.read_next.ensures.damaged n (search rules)))
+
+pub returns-in_err-read_next-clause-within : goal.returns-in_err-read_next-clause-within
+returns-in_err-read_next-clause-within g c =
+    let i = c.loop-number.invariant in
+    λ n e.
+    let d : IsDamagedNext (query_tree c.loop-number.reached.query) (g.S.SpillStore.told c.loop-number.store) c.loop-number.reached.states n = c.read_next.ensures.damaged n (search rules) in
+    let number : n ≡ c.loop-number.number = d.number ∙ sym i.count in
+    let first = c.held-number-end.ensures in
+    omega (arith, number, first, c.loop-number-test.true)
