@@ -80,7 +80,7 @@ fn logs_are_read(rt: HostRuntime) -> Result<(), Fail> {
     let log = b"\0\0\0\0\0\0\0\x02ab\0\0\0\0\0\0\0\x01c\0\0\0\0\0\0\0\x03de";
     let parts = read_log(rt.alloc(), log)?;
     let frames = parts.frames.as_slice();
-    if parts.length == 19 && frames.len() == 2 && frames[1].as_slice() == b"c" {
+    if parts.length == 19 && frames.len() == 2 && frames[1].as_slice() == b"c".as_slice() {
         Ok(())
     } else {
         Err("other frames".into())
