@@ -25,7 +25,7 @@ use Rattle.summary_answer.specs.Opened.{is_known, opened, Opened, unopened}
 use Rattle.summary_answer.specs.Status.{is_failure}
 use Rattle.summary_answer.specs.declared.fault.SummaryFault.{SummaryFault}
 use Rattle.summary_answer.specs.declared.fault.SummaryFault.TheVariants as fault
-use Rattle.summary_answer.proofs.TextLists.{none-damaged, one_list}
+use Rattle.pipe_summary.proofs.TextLists.{none-damaged, one_list}
 
 -- a status is another, or that of a failure
 abbrev pub IsOrFails : ℕ → ℕ → Type 0

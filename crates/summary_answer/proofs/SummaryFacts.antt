@@ -40,9 +40,9 @@ module _ {S : Type 0} (told : S → Option (List (List ℕ))) (held : S → ℕ)
   done-exact f a (Some files) old new (Ok s) None done back has known is = absurd done
   done-exact f a (Some files) old new (Ok s) (Some t) done back has known is =
       known-exact (told s) known done is where
-    known-exact : (tells : Option (List (List ℕ))) → IsTrue (is_known (opened tells (held s))) → IsDone a (Some files) tells (held s) (told t) old new → IsCaused f a (opened tells (held s)) (Some files) → ComesFor f DONE
-    known-exact None known done is = absurd (false≢true known)
-    known-exact (Some frames) known done is = λ calm. absurd (false≢true (sym calm ∙ owed-none f a files frames (held s) (told t) done.text done.owed is))
+        known-exact : (tells : Option (List (List ℕ))) → IsTrue (is_known (opened tells (held s))) → IsDone a (Some files) tells (held s) (told t) old new → IsCaused f a (opened tells (held s)) (Some files) → ComesFor f DONE
+        known-exact None known done is = absurd (false≢true known)
+        known-exact (Some frames) known done is = λ calm. absurd (false≢true (sym calm ∙ owed-none f a files frames (held s) (told t) done.text done.owed is))
 
 after : (m n status : ℕ) → IsOrFails n m → (status ≡ n) ⊎ (status ≡ NO_MEMORY) → (status ≡ m) ⊎ (is_failure status ≡ true)
 after m n status same (inr is) = rw is (inr refl)

@@ -8,8 +8,8 @@ ghost use Rattle.tool_shell.specs.Reports.{Reports};
 use crate::fault::{SummaryFault, status_of};
 use pipe_csv::CsvError;
 use pipe_io::Output;
-use summary_words::Refusal;
 use std::alloc::{AllocError, Global};
+use summary_words::Refusal;
 use tool_query::no_query_name;
 use tool_shell::{NO_MEMORY, put_line};
 

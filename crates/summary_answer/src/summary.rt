@@ -78,8 +78,9 @@ fn run<S: SpillStore + Drop, I: InputFiles, O: Output, H: Threads + Sync>(
 {
     match opened {
         Ok(store) => {
-            let (ended, store) =
-                answer_store(rt, alloc, threads, hash_keys, words, store, input, output);
+            let (ended, store) = answer_store(
+                rt, alloc, threads, hash_keys, words, store, input, output,
+            );
             (ended, Some(store))
         }
         Err(error) => (Some(fault_unopened(alloc, words, error)), None),

@@ -48,7 +48,8 @@ fn write_new<R: Files<File = File>>(rt: &R, alloc: Global, query: &CheckedQuery<
         return false;
     }
     match Summary::open(alloc, query, log) {
-        Ok(mut summary) => summary.compact(&mut new).is_ok() && fs::rename(rt, NEW_LOG, LOG).is_ok(),
+        Ok(mut summary) => summary.compact(&mut new).is_ok()
+            && fs::rename(rt, NEW_LOG, LOG).is_ok(),
         Err(_) => false,
     }
 }

@@ -9,7 +9,8 @@ use summary_answer::run_summary;
 use summary_log::KeptFile;
 
 /// The sum s and the count c of v by k.
-const QUERY: &str = r#"{"schema":[["k","Int64"],["v","Int64"]],"keys":["k"],"aggs":[{"alias":[{"sum":"v"},"s"]},{"alias":[{"count":"v"},"c"]}]}"#;
+const QUERY: &str =
+    r#"{"schema":[["k","Int64"],["v","Int64"]],"keys":["k"],"aggs":[{"alias":[{"sum":"v"},"s"]},{"alias":[{"count":"v"},"c"]}]}"#;
 
 /// The file that the log lies in.
 pub(crate) const LOG: &str = "summary.log";

@@ -17,7 +17,11 @@ fn open_log<R: Files<File = File>>(rt: &R, alloc: Global) -> Result<KeptFile, St
 }
 
 /// Puts a frame into the log in the file.
-fn put_frame<R: Files<File = File>>(rt: &R, alloc: Global, frame: &[u8]) -> Result<u64, StoreError> {
+fn put_frame<R: Files<File = File>>(
+    rt: &R,
+    alloc: Global,
+    frame: &[u8],
+) -> Result<u64, StoreError> {
     let mut store = open_log(rt, alloc)?;
     if store.held() > 8 {
         return Err(StoreError::Failed);

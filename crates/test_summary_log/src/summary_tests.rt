@@ -21,7 +21,17 @@ fn both_added<R: Files<File = File>, H: Threads + Sync>(
 #[test]
 fn two_additions(rt: HostRuntime) -> Result<(), Fail> {
     let added = both_added(&rt, &rt, rt.alloc())?;
-    if added && ends(&rt, &rt, rt.alloc(), "show", &[], 0, b"k,s,c\n1,12,2\n2,6,1\n")? {
+    if added
+        && ends(
+            &rt,
+            &rt,
+            rt.alloc(),
+            "show",
+            &[],
+            0,
+            b"k,s,c\n1,12,2\n2,6,1\n",
+        )?
+    {
         Ok(())
     } else {
         Err("another end".into())
@@ -41,7 +51,17 @@ fn cut_by_one<R: Files<File = File> + Alloc<A = Global>>(rt: &R) -> Result<(), F
 fn a_cut_addition(rt: HostRuntime) -> Result<(), Fail> {
     let added = both_added(&rt, &rt, rt.alloc())?;
     cut_by_one(&rt)?;
-    if added && ends(&rt, &rt, rt.alloc(), "show", &[], 0, b"k,s,c\n1,5,1\n2,6,1\n")? {
+    if added
+        && ends(
+            &rt,
+            &rt,
+            rt.alloc(),
+            "show",
+            &[],
+            0,
+            b"k,s,c\n1,5,1\n2,6,1\n",
+        )?
+    {
         Ok(())
     } else {
         Err("another end".into())

@@ -71,3 +71,6 @@ returns-in_err-file-clause-within g c =
     let number : n ≡ c.loop-number.number = d.number ∙ sym i.count in
     let first = c.held-number-end.ensures in
     omega (arith, number, first, c.loop-number-test.true)
+
+pub returns-in_err-file-clause-calm : goal.returns-in_err-file-clause-calm
+returns-in_err-file-clause-calm g c = λ h. c.read_next.ensures.calm (λ e. h (search (rules, e))) ∙ c.loop-number.invariant.faults
