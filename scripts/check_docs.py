@@ -23,7 +23,7 @@ PROMISES = "docs/PROMISES.md"
 MOST_WORDS = 900
 # The crates whose statuses the tables of a page have, in their order.
 LAVZIMO = "lavzimo_answer"
-STATUSES = {"README.md": [LAVZIMO], "docs/FORMATS.md": ["tool_answer", "rollup_answer", LAVZIMO]}
+STATUSES = {"README.md": [LAVZIMO], "docs/FORMATS.md": ["tool_answer", "rollup_answer", "summary_answer", LAVZIMO]}
 
 Definition = namedtuple("Definition", "name crate path line words alone")
 

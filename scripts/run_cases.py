@@ -17,7 +17,7 @@ from concurrent.futures import ThreadPoolExecutor
 
 ROOT = os.path.dirname(os.path.dirname(os.path.abspath(__file__)))
 CASES = os.path.join(ROOT, "cases")
-NAMES = ["group_tool", "rollup_tool", "lavzimo"]
+NAMES = ["group_tool", "rollup_tool", "lavzimo", "summary_tool"]
 BUILT = [os.path.join(ROOT, "crates", name, "out", name + ending) for name in NAMES for ending in ("", ".by-rattle")]
 CHOSEN = os.path.join(ROOT, "bench/chosen_keys.py")
 PARTS = {"program", "args", "options", "stdin", "chosen", "seconds", "stdout", "stderr", "status", "files", "made", "fed", "left", "unread"}
@@ -93,8 +93,8 @@ def feed(path, text, count):
 
 
 def make(case, folder):
-    """Lays a case's files into the folder of a run, and answers who feed its named pipes and what is to be closed."""
-    feeders, closed = {}, []
+    """Lays a case's files into the folder of a run, and answers who feed its named pipes, and which files get a mode; of how many bytes those are that are made, which aren't among what is left."""
+    feeders, modes = {}, []
     if os.path.isdir(os.path.join(case, "files")):
         shutil.copytree(os.path.join(case, "files"), folder, dirs_exist_ok=True)
     for line in lines(os.path.join(case, "made")):
@@ -109,10 +109,18 @@ def make(case, folder):
             feeders[path] = threading.Thread(target=feed, args=(path, read(os.path.join(case, "fed", name)), int(count)))
         elif kind == "closed":
             os.close(os.open(path, os.O_CREAT, 0o600))
-            closed.append(path)
+            modes.append((path, 0, 0))
+        elif kind == "fixed":
+            modes.append((path, 0o444, None))
+        elif kind == "sparse":
+            count, name = name.split(" ", 1)
+            path = os.path.join(folder, name)
+            with open(path, "wb") as file:
+                file.truncate(int(count))
+            modes.append((path, 0o600, int(count)))
         else:
             raise SystemExit(f"{case}: made has the line {line.decode()!r}")
-    return feeders, closed
+    return feeders, modes
 
 
 def give_to_nobody(folder):
@@ -144,13 +152,13 @@ def ended(words, folder, given, seconds, unread):
 
 def end_in(case, folder, words, given):
     """What a run in a folder ends with, and the files that lie there then."""
-    feeders, closed = make(case, folder)
+    feeders, modes = make(case, folder)
     prefix = []
     if os.geteuid() == 0:
         give_to_nobody(folder)
         prefix = AS_NOBODY
-    for path in closed:
-        os.chmod(path, 0)
+    for path, mode, _ in modes:
+        os.chmod(path, mode)
     for feeder in feeders.values():
         feeder.start()
     seconds, unread = int(read(os.path.join(case, "seconds")) or SECONDS), os.path.exists(os.path.join(case, "unread"))
@@ -159,8 +167,9 @@ def end_in(case, folder, words, given):
         while feeder.is_alive():
             os.close(os.open(path, os.O_RDONLY | os.O_NONBLOCK))
             feeder.join(0.01)
-    for path in closed:
-        os.remove(path)
+    for path, _, count in modes:
+        if count is not None and os.path.getsize(path) == count:
+            os.remove(path)
     return (*end, files_below(folder))
 
 

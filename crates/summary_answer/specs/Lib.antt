@@ -1,0 +1,5 @@
+pub mod Opened
+pub mod Faults
+pub mod Headline
+pub mod Inside
+pub mod Status

@@ -1,0 +1,5 @@
+pub mod Log
+pub mod Ends
+pub mod LogFile
+pub mod Finding
+pub mod KeptFile
