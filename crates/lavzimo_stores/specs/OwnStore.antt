@@ -1,5 +1,5 @@
 -- What is known of a store of a run: that of one in memory, or that of one in a file, which tells nothing.
-use Rattle.std.specs.Prelude.{◌≡◌, ℕ, Bool, false, List, Option, None, IsTrue, refl}
+use Rattle.std.specs.Prelude.{◌≡◌, ℕ, Bool, false, List, Option, None, Some, IsTrue, refl}
 use Rattle.pipe_spill.specs.MemoryStore as memory
 use Rattle.pipe_spill.specs.FileStore as file
 use Rattle.pipe_spill.specs.Store.{HasHeld}

@@ -1,6 +1,6 @@
 //! Who makes the stores of the program.
 
-ghost use Rattle.std.specs.Prelude.{◌≡◌, ◌+◌, [], IfOk, IfSome, IsTrue, None, OnErr, OnOk, Some};
+ghost use Rattle.std.specs.Prelude.{◌≡◌, ◌+◌, [], IfOk, IsTrue, None, OnErr, OnOk, Some};
 ghost use Rattle.lavzimo_stores.specs.OwnStore.{is_own_sure, own_faults, own_held, own_path, own_told};
 
 use crate::maker::SpillMaker;
@@ -58,7 +58,6 @@ impl<'a, R: Files<File = File>> OwnStores<'a, R> {
     fn in_folder(&self, dir: &Text) -> Result<OwnStore<&'a R>, AllocError>
         ensures held { IfOk result (λ s. own_held s ≡ 0) }
         ensures faults { IfOk result (λ s. own_faults s ≡ 0) }
-        ensures silent { IfOk result (λ s. own_told s ≡ None) }
     {
         let file = UnnamedFile::new(self.rt, self.alloc, self.process, self.salt);
         let store = FileStore::new(file, self.alloc, dir, self.made)?;
@@ -76,7 +75,6 @@ impl<'a, R: Files<File = File> + Sync> SpillMaker for OwnStores<'a, R> {
         ensures faults { IfOk result (λ s. own_faults s ≡ 0) }
         ensures tells { dir.entry ≡ None → IfOk result (λ s. own_told s ≡ Some []) }
         ensures sure { dir.entry ≡ None → IfOk result (λ s. IsTrue (is_own_sure s)) }
-        ensures silent { IfSome dir.entry (λ _. IfOk result (λ s. own_told s ≡ None)) }
         ensures nameless { IfOk result (λ s. own_path s ≡ None) }
         ensures made { OnOk result (self.new ≡ self.old + 1) }
         ensures unmade { OnErr result (self.new ≡ self.old) }
