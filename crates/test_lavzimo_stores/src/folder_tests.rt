@@ -29,21 +29,41 @@ fn a_store_in_memory_keeps_frames(rt: HostRuntime) -> Result<(), Fail> {
     Ok(())
 }
 
-/// Whether stores of two makers in one folder keep their own frames, and none has a file there: the
-/// folder can be removed while they are used.
-fn keep_their_own(rt: HostRuntime, dir: &str, salts: (u64, u64)) -> Result<bool, Fail> {
-    let dir = Text::new(rt.alloc(), dir)?;
-    let mut first = OwnStores::new(&rt, rt.alloc(), 7, salts.0, None);
-    let mut second = OwnStores::new(&rt, rt.alloc(), 7, salts.1, None);
-    let mut store = first.make(Some(&dir))?;
-    let mut other = second.make(Some(&dir))?;
-    let mut third = second.make(Some(&dir))?;
-    let kept = answers(rt.alloc(), &mut store, BOTH)?
-        && answers(rt.alloc(), &mut other, BOTH)?
-        && answers(rt.alloc(), &mut third, BOTH)?;
-    fs::remove_dir(&rt, dir.as_str())?;
+/// Whether two stores in one folder keep their own frames, and neither has a file there: the folder can
+/// be removed while they are used.
+fn keep_their_own<S: SpillStore, T: SpillStore>(
+    rt: HostRuntime,
+    dir: &str,
+    store: &mut S,
+    other: &mut T,
+) -> Result<bool, Fail> {
     let alloc = rt.alloc();
-    Ok(kept && gives(alloc, &mut store, 1, b"second")? && gives(alloc, &mut third, 0, b"one")?)
+    if !answers(alloc, store, BOTH)? || !answers(alloc, other, BOTH)? {
+        return Ok(false);
+    }
+    fs::remove_dir(&rt, dir)?;
+    Ok(gives(alloc, store, 1, b"second")? && gives(alloc, other, 0, b"one")?)
+}
+
+/// Whether a store and one of a maker of its own do so.
+fn is_beside<S: SpillStore>(
+    rt: HostRuntime,
+    dir: &Text,
+    store: &mut S,
+    salt: u64,
+) -> Result<bool, Fail> {
+    let mut maker = OwnStores::new(&rt, rt.alloc(), 7, salt, None);
+    let mut other = maker.make(Some(dir))?;
+    keep_their_own(rt, dir.as_str(), store, &mut other)
+}
+
+/// Whether stores of two makers in a folder do so.
+fn share(rt: HostRuntime, dir: &str, salts: (u64, u64)) -> Result<bool, Fail> {
+    fs::create_dir(&rt, dir)?;
+    let dir = Text::new(rt.alloc(), dir)?;
+    let mut maker = OwnStores::new(&rt, rt.alloc(), 7, salts.0, None);
+    let mut store = maker.make(Some(&dir))?;
+    is_beside(rt, &dir, &mut store, salts.1)
 }
 
 /// Whether a store gives a frame.
@@ -63,10 +83,7 @@ fn gives<S: SpillStore>(
 
 #[test]
 fn runs_share_a_folder(rt: HostRuntime) -> Result<(), Fail> {
-    fs::create_dir(&rt, "shared")?;
-    assert!(rt; keep_their_own(rt, "shared", (1, 2))?);
-    fs::create_dir(&rt, "shared")?;
-    assert!(rt; keep_their_own(rt, "shared", (3, 3))?);
+    assert!(rt; share(rt, "shared", (1, 2))? && share(rt, "shared", (3, 3))?);
     Ok(())
 }
 

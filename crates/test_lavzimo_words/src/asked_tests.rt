@@ -1,6 +1,6 @@
 //! What words ask.
 
-use crate::words::{asked, columns, read};
+use crate::words::{asked, columns, question, read};
 use lavzimo_words::{Asked, AskedColumn, Columns, Order, Question, Reading, Role};
 use pipe_columns::{DataType, Text};
 use pipe_words::Format;
@@ -102,7 +102,7 @@ fn settings_of_a_run(rt: HostRuntime) -> Result<(), Fail> {
 
 #[test]
 fn a_query_of_a_file(rt: HostRuntime) -> Result<(), Fail> {
-    match asked(rt.alloc(), "--query q.json a.csv")?.question {
+    match question(rt.alloc(), "--query q.json a.csv")? {
         Question::File(name) => assert!(rt; name.as_str() == "q.json"),
         Question::Columns(_) => return Err("columns are asked for".into()),
     }

@@ -28,9 +28,24 @@ pub(crate) fn asked(alloc: Global, line: &str) -> Result<Asked, Fail> {
     }
 }
 
+/// The question that the words of a line ask.
+pub(crate) fn question(alloc: Global, line: &str) -> Result<Question, Fail> {
+    let Asked {
+        question,
+        format: _,
+        workers: _,
+        partitions: _,
+        spill_dir,
+        files,
+    } = asked(alloc, line)?;
+    drop(spill_dir);
+    drop(files);
+    Ok(question)
+}
+
 /// The columns that the words of a line ask for.
 pub(crate) fn columns(alloc: Global, line: &str) -> Result<Columns, Fail> {
-    match asked(alloc, line)?.question {
+    match question(alloc, line)? {
         Question::Columns(columns) => Ok(columns),
         Question::File(_) => Err("a file is asked".into()),
     }
