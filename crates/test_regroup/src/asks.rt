@@ -1,6 +1,6 @@
 //! What is asked of the query.
 
-use crate::memory_tests::{are_merged, are_regrouped};
+use crate::memory_tests::{are_at_once, are_merged, are_regrouped};
 use crate::regrouped_tests::{gives_none, gives_worked, tells_overlap};
 use pipe_aggs::{CheckedQuery, Query};
 use std::alloc::Global;
@@ -16,6 +16,8 @@ pub(crate) enum Asks {
     Turned,
     /// The same, one state added after the other.
     Added,
+    /// The same at once, again where memory was wanting.
+    AtOnce,
     /// Two states of one position.
     Overlap,
     /// No states.
@@ -29,6 +31,7 @@ fn is_so(alloc: Global, query: &CheckedQuery<'_>, asks: Asks) -> Result<bool, Fa
         Asks::Regrouped => gives_worked(alloc, query, false),
         Asks::Turned => gives_worked(alloc, query, true),
         Asks::Added => are_regrouped(alloc, query),
+        Asks::AtOnce => are_at_once(alloc, query),
         Asks::Overlap => tells_overlap(alloc, query),
         Asks::None => gives_none(alloc, query),
     }

@@ -8,7 +8,7 @@ ghost use Rattle.pipe_states.specs.Together.{FollowOn};
 use crate::asked::{four_aggregates, one_row, three_rows};
 use crate::asks::{Asks, hold};
 use crate::merged_tests::is_of_both;
-use crate::regrouped_tests::is_worked;
+use crate::regrouped_tests::{by_first_key, is_worked};
 use crate::states::state_of;
 use pipe_aggs::CheckedQuery;
 use pipe_columns::DataFrame;
@@ -74,6 +74,31 @@ pub(crate) fn are_regrouped<'a>(alloc: Global, query: &'a CheckedQuery<'a>) -> R
     }
 }
 
+/// Whether states give the known frame at once. Where memory is wanting, they are regrouped again.
+fn is_at_once<'a>(
+    alloc: Global,
+    query: &'a CheckedQuery<'a>,
+    files: &[StateFile],
+) -> Result<bool, Fail>
+    requires { All (IsStateOf (query_tree query.now)) files.now }
+{
+    match by_first_key(alloc, query, files) {
+        Ok(frame) => Ok(is_worked(&frame)),
+        Err(RegroupError::Memory) => {
+            let frame = by_first_key(alloc, query, files)?;
+            Ok(is_worked(&frame))
+        }
+        Err(_) => Ok(false),
+    }
+}
+
+/// Whether the states of two chunks are regrouped at once.
+pub(crate) fn are_at_once<'a>(alloc: Global, query: &'a CheckedQuery<'a>) -> Result<bool, Fail> {
+    let before = state_of(alloc, query, 0, three_rows(alloc)?)?;
+    let behind = state_of(alloc, query, 1, one_row(alloc)?)?;
+    is_at_once(alloc, query, &[behind, before])
+}
+
 #[test]
 fn merged_again(rt: HostRuntime) -> Result<(), Fail> {
     let query = four_aggregates(rt.alloc())?;
@@ -84,4 +109,10 @@ fn merged_again(rt: HostRuntime) -> Result<(), Fail> {
 fn added_again(rt: HostRuntime) -> Result<(), Fail> {
     let query = four_aggregates(rt.alloc())?;
     hold(rt.alloc(), &query, Asks::Added)
+}
+
+#[test]
+fn regrouped_again(rt: HostRuntime) -> Result<(), Fail> {
+    let query = four_aggregates(rt.alloc())?;
+    hold(rt.alloc(), &query, Asks::AtOnce)
 }

@@ -15,7 +15,7 @@ use std::alloc::Global;
 use std::test::Fail;
 
 /// The frame of states by the first key, or why there is none.
-fn by_first_key<'a>(
+pub(crate) fn by_first_key<'a>(
     alloc: Global,
     query: &'a CheckedQuery<'a>,
     files: &[StateFile],
