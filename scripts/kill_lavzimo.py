@@ -17,7 +17,8 @@ import time
 SHIPPED = "~/.local/bin/lavzimo"
 RUNS = 50
 PAIRS = 5
-WORDS = ["--by", "k", "--count", "--sum", "n", "--order", "-sum_n", "--limit", "1000"]
+# So few partitions that much more waits in each than a worker keeps before it spills.
+WORDS = ["--by", "k", "--count", "--sum", "n", "--order", "-sum_n", "--limit", "1000", "--partitions", "2"]
 
 
 def made_rows(path, rows, step):
