@@ -1,5 +1,5 @@
 -- The answer over a text by the columns that a query names alone.
-use Rattle.std.proofs.Common.{◌≡◌, ◌∙◌, ◌+◌, ◌^◌, ◌&&◌, ℕ, nat_lt, Bool, true, if◌then◌else◌, List, [], ◌∷◌, length, Option, Some, None, Result, Ok, Err, IfOk, IfErr, IsErrOf, All, refl, sym, ap}
+use Rattle.std.proofs.Common.{◌≡◌, ◌∙◌, ◌+◌, ◌^◌, ◌&&◌, ℕ, nat_lt, Bool, true, if◌then◌else◌, List, [], ◌∷◌, length, Option, Some, None, Result, Ok, Err, IfOk, IfErr, IsErrOf, All, refl, sym, ap, subst, arith}
 use Rattle.std.specs.List.{fold}
 use Rattle.std.proofs.lemmas.List.{length-map}
 use Rattle.narrow_columns.specs.Wanted.{narrowed_chunk, narrowed_chunks}
@@ -33,6 +33,10 @@ told-error csv_error.Input stop x sound is = sound refl
 told-error csv_error.TooLarge stop x sound is = ap (λ (s : Option Stop). unless_ended s x) is
 told-error csv_error.Memory stop x sound is = tt
 
+-- a count that stays at nought never rose
+never-rose : Rose 0 0 → ⊥
+never-rose h = omega (arith, h)
+
 -- ---- chunks of wanted columns
 
 -- they have as many rows, behind others
@@ -55,9 +59,11 @@ module _ (q n : Query) (ws : List Bool) (text : List ℕ) (r : ReaderState)
   end-left = ap end_of (left (text_file text)) ∙ end-same ws (text_chunks text (query_tree q))
 
   -- why there is no answer over it is why there is none over the text
-  pub text-told : (answered : Result FrameData CsvError) → (IsErrOf answered csv_error.Input → ⊥) → IfErr answered (λ e. TellsLeft e (Some (text_file text)) r) → IfErr answered (λ e. IsErrorOf e (text_answer text (query_tree q)))
-  text-told (Ok f) sound h = tt
-  text-told (Err e) sound h = told-error e (end_of (text_chunks text (query_tree q))) (answer (text_chunks text (query_tree q)).chunks (query_tree q) 1) sound (rw (← end-left) h)
+  pub text-told : (answered : Result FrameData CsvError) → (IsErrOf answered csv_error.Input → Rose 0 0) → IfErr answered (λ e. TellsLeft e (Some (text_file text)) r) → IfErr answered (λ e. IsErrorOf e (text_answer text (query_tree q)))
+  text-told (Ok f) failed h = tt
+  text-told (Err e) failed h =
+      let end : Option Stop = end_of (text_chunks text (query_tree q)) in
+      told-error e end (answer (text_chunks text (query_tree q)).chunks (query_tree q) 1) (λ is. never-rose (failed (ap Err is))) (subst (Tells e) end-left h)
 
   -- and the answer over it is that over the text
   pub text-answered : (answered : Result FrameData CsvError) → IfOk answered (IsAnswerOf (query_tree n) (Some (text_file text)) r) → IfOk answered (λ f. text_answer text (query_tree q) ≡ Ok f)

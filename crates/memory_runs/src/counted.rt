@@ -36,8 +36,8 @@ impl Counted {
     pub(crate) fn with(self, chunk: &DataChunk) -> Counted
         requires { HasRoom self chunk.now }
         ensures { result ≡ record {
-            chunks = self.chunks + 1;
-            rows = self.rows + chunk.now.frame.height;
+          chunks = self.chunks + 1;
+          rows = self.rows + chunk.now.frame.height;
         } }
     {
         Counted {
