@@ -120,12 +120,22 @@ class Calls(unittest.TestCase):
             import pandas
         except ImportError:
             self.skipTest("pandas isn't installed")
-        frame = lavzimo.to_pandas(b"k,t,s\n1,NA,\n2,,6\n")
-        self.assertEqual(list(frame.columns), ["k", "t", "s"])
+        frame = lavzimo.to_pandas(b"k,t,s,b\n007,NA,,true\n2,,6,\n", texts=["k"])
+        self.assertEqual([str(kind) for kind in frame.dtypes], ["string", "string", "Int64", "boolean"])
+        self.assertEqual(list(frame["k"]), ["007", "2"])
         self.assertEqual(frame["t"][0], "NA")
-        self.assertIs(frame["t"][1], pandas.NA)
-        self.assertIs(frame["s"][0], pandas.NA)
+        self.assertTrue(frame["b"][0])
         self.assertEqual(frame["s"][1], 6)
+        for name, row in (("t", 1), ("s", 0), ("b", 1)):
+            self.assertIs(frame[name][row], pandas.NA)
+
+    def test_large_sums_stay_texts(self) -> None:
+        try:
+            import pandas  # noqa: F401
+        except ImportError:
+            self.skipTest("pandas isn't installed")
+        frame = lavzimo.to_pandas(b"k,s\n1,170141183460469231731687303715884105727\n")
+        self.assertEqual(list(frame["s"]), ["170141183460469231731687303715884105727"])
 
 
 if __name__ == "__main__":
