@@ -1,0 +1,7 @@
+//! Tests of answers over texts in memory.
+#![tactic(auto)]
+
+mod asked;
+mod group_tests;
+mod input_tests;
+mod room_tests;
