@@ -12,9 +12,6 @@ use summary_log::KeptFile;
 const QUERY: &str =
     r#"{"schema":[["k","Int64"],["v","Int64"]],"keys":["k"],"aggs":[{"alias":[{"sum":"v"},"s"]},{"alias":[{"count":"v"},"c"]}]}"#;
 
-/// The file that the log lies in.
-pub(crate) const LOG: &str = "summary.log";
-
 /// The files.
 const FILES: [(&str, &[u8]); 2] = [("a.csv", b"k,v\n1,5\n2,6\n"), ("b.csv", b"k,v\n1,7\n")];
 
@@ -38,18 +35,19 @@ fn words_of(alloc: Global, mode: &str, files: &[&str]) -> Result<Vec<Text>, Allo
     Ok(words)
 }
 
-/// Whether a command ends with a status and exactly these bytes.
+/// Whether a command over a log ends with a status and exactly these bytes.
 pub(crate) fn ends<R: Files<File = File>, H: Threads + Sync>(
     rt: &R,
     threads: &H,
     alloc: Global,
+    log: &str,
     mode: &str,
     files: &[&str],
     status: u8,
     written: &[u8],
 ) -> Result<bool, AllocError> {
     let words = words_of(alloc, mode, files)?;
-    let path = Text::new(alloc, LOG)?;
+    let path = Text::new(alloc, log)?;
     let mut input = input_of(alloc)?;
     let mut output = MemoryOutput::new(alloc, Vec::new(alloc));
     let mut messages = MemoryOutput::new(alloc, Vec::new(alloc));

@@ -1,12 +1,14 @@
 //! A log in a file, as a store.
 
-use crate::asked::LOG;
 use pipe_columns::Text;
 use pipe_spill::{SpillStore, StoreError};
 use std::alloc::Global;
 use std::fs::{self, File, Files};
 use std::test::Fail;
 use summary_log::{KeptFile, read_log};
+
+/// The file that the log lies in.
+const LOG: &str = "frames.log";
 
 /// The log in the file, open.
 fn open_log<R: Files<File = File>>(rt: &R, alloc: Global) -> Result<KeptFile, StoreError> {
