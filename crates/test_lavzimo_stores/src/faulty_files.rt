@@ -94,10 +94,10 @@ impl Files for FaultyFiles {
     }
 }
 
-/// Whether a store over such files answers these lines.
-fn faulty_answers(rt: HostRuntime, fault: Fault, want: &str) -> Result<bool, Fail> {
+/// Whether a store over such files of a folder answers these lines.
+fn faulty_answers(rt: HostRuntime, dir: &str, fault: Fault, want: &str) -> Result<bool, Fail> {
     let files = FaultyFiles { rt, fault };
-    let dir = Text::new(rt.alloc(), "faulty")?;
+    let dir = Text::new(rt.alloc(), dir)?;
     let mut maker = OwnStores::new(&files, rt.alloc(), 7, 9, None);
     let mut store = maker.make(Some(&dir))?;
     Ok(answers(rt.alloc(), &mut store, want)?)
@@ -117,7 +117,7 @@ const FAULTS: [(Fault, &str); 3] = [
 fn each_call_fails(rt: HostRuntime) -> Result<(), Fail> {
     fs::create_dir(&rt, "faulty")?;
     for (fault, want) in &FAULTS {
-        assert!(rt; faulty_answers(rt, *fault, *want)?, "{want}");
+        assert!(rt; faulty_answers(rt, "faulty", *fault, *want)?, "{want}");
     }
     Ok(())
 }
@@ -125,9 +125,9 @@ fn each_call_fails(rt: HostRuntime) -> Result<(), Fail> {
 /// A file whose name couldn't be removed is all that may stay.
 #[test]
 fn what_a_refused_removal_leaves(rt: HostRuntime) -> Result<(), Fail> {
-    fs::create_dir(&rt, "faulty")?;
-    assert!(rt; faulty_answers(rt, Fault::Remove, NONE)?);
-    fs::remove_file(&rt, "faulty/partition-0.spill-7-9")?;
-    fs::remove_dir(&rt, "faulty")?;
+    fs::create_dir(&rt, "unremoved")?;
+    assert!(rt; faulty_answers(rt, "unremoved", Fault::Remove, NONE)?);
+    fs::remove_file(&rt, "unremoved/partition-0.spill-7-9")?;
+    fs::remove_dir(&rt, "unremoved")?;
     Ok(())
 }
