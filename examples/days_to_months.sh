@@ -1,7 +1,7 @@
 #!/usr/bin/env bash
 # Daily files, DAY.csv, of which each is read once and kept as a state; and what those of a month come to by some keys.
 # usage: examples/days_to_months.sh QUERY KEYS STATES MONTH FILE..
-set -eu
+set -euo pipefail
 query=$1 keys=$2 states=$3 month=$4
 shift 4
 mkdir -p "$states"

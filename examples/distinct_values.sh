@@ -1,7 +1,7 @@
 #!/usr/bin/env bash
 # The distinct values of a column, the most frequent first, and how many there are.
 # usage: examples/distinct_values.sh COLUMN FILE..
-set -eu
+set -euo pipefail
 column=$1
 shift
 lavzimo --by "$column" --count --order -count "$@"

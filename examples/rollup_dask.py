@@ -12,7 +12,7 @@ import sys
 
 from distributed import Client
 
-TOOL = os.environ.get("ROLLUP_TOOL", os.path.expanduser("~/.local/bin/rollup_tool"))
+TOOL = os.environ.get("ROLLUP_TOOL", "rollup_tool")
 
 
 def save(first, file, tool, query):

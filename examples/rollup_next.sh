@@ -7,4 +7,4 @@ set -euo pipefail
 query=$1
 first=$(od -A n -j 4 -N 4 -t u4 --endian=big "$2" | tr -d ' ')
 shift 2
-"${ROLLUP_TOOL:-$HOME/.local/bin/rollup_tool}" save "$query" "$first" "$@"
+"${ROLLUP_TOOL:-rollup_tool}" save "$query" "$first" "$@"

@@ -7,7 +7,7 @@
 # Options for parallel stand in the variable PARALLEL; its option --sshloginfile names machines that share all these files.
 set -euo pipefail
 
-export tool=${ROLLUP_TOOL:-$HOME/.local/bin/rollup_tool} query=$1 folder=$3
+export tool=${ROLLUP_TOOL:-rollup_tool} query=$1 folder=$3
 keys=$2
 shift 3
 mkdir -p "$folder"

@@ -6,5 +6,5 @@ set -euo pipefail
 i=$SLURM_ARRAY_TASK_ID
 files=(logs/*.csv)
 mkdir -p states
-"${ROLLUP_TOOL:-$HOME/.local/bin/rollup_tool}" save "$(cat query.json)" "$((i * 100000))" "${files[i]}" > "$i.part"
+"${ROLLUP_TOOL:-rollup_tool}" save "$(cat query.json)" "$((i * 100000))" "${files[i]}" > "$i.part"
 mv "$i.part" "states/$i.state"

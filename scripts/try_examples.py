@@ -22,7 +22,7 @@ ROOT = os.path.dirname(os.path.dirname(os.path.abspath(__file__)))
 EXAMPLES = os.path.join(ROOT, "examples")
 PAGES = ["README.md", "docs/FORMATS.md"]
 RECIPES = "docs/RECIPES.md"
-NAMES = ["group_tool", "lavzimo", "rollup_tool"]
+NAMES = ["group_tool", "lavzimo", "rollup_tool", "summary_tool"]
 SHIPPED = "~/.local/bin/"
 BUILDS = re.compile(r"scripts/build\.sh( \S+)* && ")
 

@@ -4,6 +4,9 @@ QUERY_REFUSED = 3
 INPUT_REFUSED = 4
 TOO_LARGE = 7
 NO_MEMORY = 10
+NOT_A_STATE = 12
+OVERLAP = 13
+KEYS_REFUSED = 14
 
 
 class LavzimoError(Exception):
@@ -19,14 +22,25 @@ class LavzimoError(Exception):
 
 
 class QueryError(LavzimoError):
-    """The query is none, or has a fault."""
+    """The query is none, or has a fault, or the names of its keys are none."""
 
 
 class InputError(LavzimoError):
-    """The text doesn't fit the schema, or is too large."""
+    """The text doesn't fit the schema, or something is too large."""
 
 
-KINDS = {QUERY_REFUSED: QueryError, INPUT_REFUSED: InputError, TOO_LARGE: InputError}
+class StateError(LavzimoError):
+    """A state is none of the query, or shares a position with one before it."""
+
+
+KINDS = {
+    QUERY_REFUSED: QueryError,
+    INPUT_REFUSED: InputError,
+    TOO_LARGE: InputError,
+    NOT_A_STATE: StateError,
+    OVERLAP: StateError,
+    KEYS_REFUSED: QueryError,
+}
 
 
 def error_of(status: int, line: bytes) -> "LavzimoError | MemoryError":

@@ -7,6 +7,7 @@ use pipe_csv::CsvError;
 use pipe_io::MOST_FILE_BYTES;
 use std::alloc::{AllocError, Global};
 use std::fs::{self, File, Files};
+use std::io::{Read, Seek, SeekFrom};
 use std::str;
 
 /// Looks at the files of a runtime.
@@ -22,15 +23,26 @@ impl<'a, R> RealLooks<'a, R> {
     }
 }
 
-/// The most bytes of a value that is told.
+/// From how many bytes on no more of a text is told.
 const MOST_TOLD: usize = 80;
 
-/// A text that a line may have in it: short, and without control characters.
-fn shown(bytes: &[u8]) -> Option<&str> {
-    if bytes.len() > MOST_TOLD || bytes.iter().any(|byte| *byte < 32 || *byte == 127) {
-        return None;
+/// How many bytes are looked at for the first that is no end of a line.
+const MOST_ENDS: usize = 4096;
+
+/// Puts a value to a line as it may stand there: cut, and without control characters.
+fn push_told(text: &mut String, value: &str) -> Result<(), AllocError> {
+    let most = text.len().saturating_add(MOST_TOLD);
+    for letter in value.chars() {
+        if text.len() >= most {
+            return text.push_str("..");
+        }
+        match letter {
+            '\t' => text.push_str("\\t")?,
+            letter if letter < ' ' || letter == '\u{7f}' => text.push('?')?,
+            letter => text.push(letter)?,
+        }
     }
-    str::from_utf8(bytes).ok()
+    Ok(())
 }
 
 /// A look of two texts.
@@ -49,7 +61,7 @@ fn columns_of(alloc: Global, header: &ByteRecord) -> Result<String, AllocError> 
             text.push_str(", ")?;
         }
         later = true;
-        text.push_str(shown(field).unwrap_or(".."))?;
+        push_told(&mut text, str::from_utf8(field).unwrap_or(".."))?;
     }
     Ok(text)
 }
@@ -69,17 +81,27 @@ fn place_of(header: &ByteRecord, column: &str) -> Option<usize> {
 }
 
 /// On which line a record begins, and what a field of it is.
-fn field_look(alloc: Global, row: &ByteRecord, place: usize) -> Result<Look, AllocError> {
-    let line = match row.position() {
-        Some(position) => position.line(),
-        None => return look_of(alloc, "", ""),
-    };
-    let value = row.get(place).unwrap_or(b"");
-    let more = match shown(value) {
-        Some(value) => format!(in alloc; " (line {line}: {value})")?,
-        None => format!(in alloc; " (line {line})")?,
-    };
+fn field_look(
+    alloc: Global,
+    line: u64,
+    record: &ByteRecord,
+    place: usize,
+) -> Result<Look, AllocError> {
+    let mut more = format!(in alloc; " (line {line}")?;
+    if let Ok(value) = str::from_utf8(record.get(place).unwrap_or(b"")) {
+        more.push_str(": ")?;
+        push_told(&mut more, value)?;
+    }
+    more.push(')')?;
     look_of(alloc, "", more.as_str())
+}
+
+/// How many lines end in the bytes before the first that is no end of a line, if there is one.
+fn lines_ended(bytes: &[u8]) -> Option<usize> {
+    let end = bytes
+        .iter()
+        .position(|byte| *byte != b'\r' && *byte != b'\n')?;
+    Some(bytes[..end].iter().filter(|byte| **byte == b'\n').count())
 }
 
 /// The record of a number, where the first one, the header, has 0.
@@ -110,6 +132,17 @@ impl<'a, R: Files<File = File>> RealLooks<'a, R> {
         )
     }
 
+    /// On which line of a file a record begins. Its position may be before ends of lines.
+    fn line_of(&self, name: &str, record: &ByteRecord) -> Option<u64> {
+        let position = record.position()?;
+        let mut file = fs::open(self.rt, name).ok()?;
+        file.seek(SeekFrom::Start(position.byte())).ok()?;
+        let mut room = [0u8; MOST_ENDS];
+        let read = file.read(&mut room).ok()?;
+        let ended = lines_ended(room.get(..read)?)?;
+        position.line().checked_add(ended as u64)
+    }
+
     /// A look at a field of a row, or in row 0 at a column that isn't there once.
     fn field(&self, name: &str, row: usize, column: &str) -> Option<Look> {
         let mut reader = self.reader_of(name)?;
@@ -119,7 +152,10 @@ impl<'a, R: Files<File = File>> RealLooks<'a, R> {
         };
         let place = place_of(&header, column)?;
         let record = record_at(self.alloc, &mut reader, before)?;
-        field_look(self.alloc, &record, place).ok()
+        match self.line_of(name, &record) {
+            Some(line) => field_look(self.alloc, line, &record, place).ok(),
+            None => look_of(self.alloc, "", "").ok(),
+        }
     }
 
     /// Whether there is something of a name that can't be read.

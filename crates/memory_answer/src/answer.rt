@@ -7,7 +7,7 @@ ghost use Rattle.memory_answer.specs.Answers.{frame_told, group_told, IsFaultOf}
 ghost use Rattle.memory_runs.specs.TextRuns.{text_answer};
 
 use crate::fault::{Fault, read_fault};
-use crate::frame_text::frame_text;
+use crate::frame_text::text_of_frame;
 use crate::query_bytes::query_of_bytes;
 use memory_runs::group_text;
 use pipe_aggs::Query;
@@ -26,7 +26,7 @@ fn answer_text(alloc: Global, query: Query, text: &[u8], format: Format) -> Resu
         Ok(frame) => frame,
         Err(error) => return Err(read_fault(error)),
     };
-    match frame_text(alloc, &frame, format) {
+    match text_of_frame(alloc, &frame, format) {
         Ok(text) => Ok(text),
         Err(AllocError) => Err(Fault::Memory),
     }

@@ -29,7 +29,7 @@ fn write_frame(
 }
 
 /// The text of a frame.
-pub(crate) fn frame_text(
+pub fn text_of_frame(
     alloc: Global,
     frame: &DataFrame,
     format: Format,

@@ -13,5 +13,6 @@ mod worked;
 
 pub use answer::group;
 pub use fault::{Fault, status_of};
+pub use frame_text::text_of_frame;
 pub use line::fault_line;
-pub use put::{ROOM_SHORT, group_into};
+pub use put::{ROOM_SHORT, group_into, put_bytes};

@@ -28,7 +28,7 @@ fn format_of(number: u8) -> Option<Format>
 }
 
 /// Puts bytes of a status into room, and tells their number.
-fn put(bytes: &[u8], status: u8, room: &mut [u8], need: &mut usize) -> u8
+pub fn put_bytes(bytes: &[u8], status: u8, room: &mut [u8], need: &mut usize) -> u8
     ensures { IsPut status bytes.now room.old room.new need.new result }
 {
     *need = bytes.len();
@@ -45,8 +45,8 @@ fn put_fault(alloc: Global, fault: &Fault, room: &mut [u8], need: &mut usize) ->
         ⊎ IsPut NO_MEMORY memory_line room.old room.new need.new result }
 {
     match fault_line(alloc, fault) {
-        Ok(line) => put(line.as_bytes(), status_of(fault), room, need),
-        Err(AllocError) => put(b"out of memory\n", NO_MEMORY, room, need),
+        Ok(line) => put_bytes(line.as_bytes(), status_of(fault), room, need),
+        Err(AllocError) => put_bytes(b"out of memory\n", NO_MEMORY, room, need),
     }
 }
 
@@ -75,7 +75,7 @@ pub fn group_into(
         room.old room.new need.new result }
 {
     match group_in(alloc, query, text, format) {
-        Ok(text) => put(&text, DONE, room, need),
+        Ok(text) => put_bytes(&text, DONE, room, need),
         Err(fault) => put_fault(alloc, &fault, room, need),
     }
 }

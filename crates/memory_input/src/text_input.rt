@@ -1,13 +1,14 @@
 //! One file, whose bytes the caller has in memory.
 
 ghost use Rattle.std.specs.Prelude.{◌≡◌, [], None};
+ghost use Rattle.memory_input.specs.HeldText.{held_files, held_rest, is_begun, no_faults, one_file, tried_of};
 
 use pipe_columns::Text;
 use pipe_io::{InputError, InputFiles, TriedNames};
 use std::marker::Model;
 
 /// One file of a name, whose bytes are lent. Nothing of it fails, and it takes no memory. Contracts see
-/// the name, the bytes, what is left of them once the file is begun, and the names that were tried.
+/// it, what is left of it once it is begun, and the names that were tried.
 #[derive(Drop)]
 pub struct TextInput<'a> {
     name: &'a Text,
@@ -18,13 +19,12 @@ pub struct TextInput<'a> {
 
 impl<'a> Model for TextInput<'a> {
     ghost use Rattle.std.specs.Prelude.{option_map};
-    ghost use Rattle.memory_input.specs.HeldText.{HeldText};
+    ghost use Rattle.memory_input.specs.HeldText.{HeldText, one_file};
 
     ghost Value = { HeldText };
 
     ghost view = { λ s. record {
-      name = s.name.now;
-      text = s.text.now;
+      files = one_file s.name.now s.text.now;
       left = option_map (λ r. r.now) s.left;
       tried = s.tried;
     } };
@@ -33,7 +33,8 @@ impl<'a> Model for TextInput<'a> {
 impl<'a> TextInput<'a> {
     /// A file that isn't begun.
     pub fn new(name: &'a Text, text: &'a [u8]) -> TextInput<'a>
-        ensures { result ≡ record { name = name.now; text = text.now; left = None; tried = [] } }
+        ensures { result
+            ≡ record { files = one_file name.now text.now; left = None; tried = [] } }
     {
         TextInput {
             name,
@@ -44,10 +45,8 @@ impl<'a> TextInput<'a> {
     }
 }
 
-ghost use Rattle.memory_input.specs.HeldText.{held_file, held_rest, is_begun, no_faults, tried_of};
-
 impl InputFiles for TextInput<'_> {
-    ghost told = { held_file };
+    ghost told = { held_files };
 
     ghost left = { held_rest };
 

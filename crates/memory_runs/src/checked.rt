@@ -7,10 +7,7 @@ use pipe_aggs::{CheckError, CheckedQuery, Query};
 use std::alloc::{AllocError, Global};
 
 /// A query without fault, checked.
-pub(crate) fn checked_of<'a>(
-    alloc: Global,
-    query: &'a Query,
-) -> Result<CheckedQuery<'a>, AllocError>
+pub fn checked_of<'a>(alloc: Global, query: &'a Query) -> Result<CheckedQuery<'a>, AllocError>
     requires { first_fault query.now ≡ None }
     ensures { IfOk result (λ c. c ≡ query.now) }
 {

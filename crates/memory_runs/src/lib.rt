@@ -8,5 +8,6 @@ mod groups;
 mod next_fitting;
 mod reader;
 
+pub use checked::checked_of;
 pub use groups::group_text;
-pub use reader::CHUNK_ROWS;
+pub use reader::{CHUNK_ROWS, name_of_text, reader_of};

@@ -15,14 +15,14 @@ use std::alloc::{AllocError, Global};
 pub const CHUNK_ROWS: usize = 50_000;
 
 /// The name of the file that a text in memory is.
-pub(crate) fn name_of_text(alloc: Global) -> Result<Text, AllocError>
+pub fn name_of_text(alloc: Global) -> Result<Text, AllocError>
     ensures { IfOk result (λ t. t ≡ text_name) }
 {
     Text::new(alloc, "text")
 }
 
 /// What reads the wanted columns of a text, which has a schema.
-pub(crate) fn reader_of(
+pub fn reader_of(
     alloc: Global,
     schema: Schema,
     wanted: Vec<bool>,

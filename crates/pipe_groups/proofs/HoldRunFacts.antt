@@ -1,5 +1,5 @@
 -- Groups hold rows that one of them takes at once.
-use Rattle.std.proofs.Common.{◌≡◌, ◌∙◌, ℕ, zero, suc, ◌+◌, ◌<◌, Bool, true, false, cond, if◌then◌else◌, is_some, List, [], ◌∷◌, ◌++◌, length, set, Option, Some, None, refl, sym, ap, subst, arith}
+use Rattle.std.proofs.Common.{◌≡◌, ◌∙◌, ℕ, ◌<◌, Bool, true, false, if◌then◌else◌, is_some, List, [], ◌∷◌, ◌++◌, length, set, Option, Some, None, refl, sym, ap, subst}
 use Rattle.std.specs.List.{All, IsDistinct}
 use Rattle.std.specs.Str.{bytes_eq}
 use Rattle.std.proofs.lemmas.List.{append-nil, map-append}
@@ -8,7 +8,7 @@ use Rattle.std.proofs.lemmas.Slice.Eq.{bytes_eq-Decides}
 use Rattle.pipe_columns.specs.declared.any_value.AnyValue.{AnyValue}
 use Rattle.pipe_columns.specs.declared.place.Place.{Place}
 use Rattle.pipe_running.specs.declared.function.AggregateFunction.{AggregateFunction}
-use Rattle.pipe_running.specs.GroupStates.{fresh_states, GroupStands, TakesFrom}
+use Rattle.pipe_running.specs.GroupStates.{GroupStands, TakesFrom}
 use Rattle.pipe_running.specs.Runs.{placed}
 use Rattle.pipe_running.proofs.GroupRunFacts.{group-run}
 use Rattle.pipe_running.proofs.GroupStateFacts.{group-fresh}

@@ -39,3 +39,6 @@ pub mod KeepNoneFacts
 pub mod FewInputs
 pub mod TurnFacts
 pub mod ByPlaceAnswer
+pub mod ManyFacts
+pub mod RoomFacts
+pub mod EachFacts

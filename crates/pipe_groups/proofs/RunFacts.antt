@@ -1,5 +1,5 @@
 -- Running aggregates that are fed rows which follow one another.
-use Rattle.std.proofs.Common.{◌≡◌, ◌∙◌, ℕ, zero, suc, ◌+◌, ◌-◌, ◌<◌, ◌≤◌, ◌^◌, ◌&&◌, ◌||◌, not, Bool, true, false, List, [], ◌∷◌, ◌++◌, map, length, take, drop, get_or, set, Option, Some, None, refl, sym, ap, subst, arith}
+use Rattle.std.proofs.Common.{◌≡◌, ◌∙◌, ℕ, zero, suc, ◌+◌, ◌-◌, ◌<◌, ◌≤◌, ◌^◌, not, Bool, true, false, List, [], ◌∷◌, ◌++◌, map, length, take, drop, get_or, set, Option, Some, None, refl, sym, ap, subst, arith}
 use Rattle.std.specs.Cmp.Derive as derive
 use Rattle.std.specs.List.{All, list_all}
 use Rattle.std.proofs.lemmas.Bool.{and_parts}
@@ -17,7 +17,7 @@ use Rattle.pipe_inputs.specs.RowRuns.{run_inputs, run_values}
 use Rattle.pipe_inputs.proofs.RunFacts.{run-next}
 use Rattle.pipe_running.specs.declared.function.AggregateFunction.{AggregateFunction}
 use Rattle.pipe_running.specs.declared.function.AggregateFunction.TheVariants as function
-use Rattle.pipe_running.specs.GroupStates.{least_with_run, run_from, StatesSeen, TakesFrom}
+use Rattle.pipe_running.specs.GroupStates.{least_with_run, run_from, TakesFrom}
 use Rattle.pipe_running.specs.Held.{is_text}
 use Rattle.pipe_running.specs.Lent.{keeps_text, text_of_run}
 use Rattle.pipe_running.specs.Pick.{nearer}
@@ -140,11 +140,6 @@ run-states-next chunk row inputs now j d new whole lt fed is =
     let here : run_from chunk row j inputs (drop j now) ≡ new ∷ rest = rw (drop_more now j d lt, is) refl in
     rw (take_more_set now j new lt, drop-set-lt (j + 1) now j new (let l : j < j + 1 = omega arith in l))
     (append_assoc (take j now) (new ∷ []) rest ∙ ap (λ (l : States). take j now ++ l) (sym here) ∙ fed)
-
--- as many are fed as there are
-pub length-run : (chunk row j : ℕ) (inputs : List (List AnyValue)) (ss : States) → length (run_from chunk row j inputs ss) ≡ length ss
-length-run chunk row j inputs [] = refl
-length-run chunk row j inputs (s ∷ ss) = ap suc (length-run chunk row (j + 1) inputs ss)
 
 -- each takes its inputs
 pub run-takes-at : (ss : States) (inputs : List (List AnyValue)) (j : ℕ) (d : AggregateFunction) → j < length ss → All (λ row. TakesFrom 0 ss row) inputs

@@ -1,6 +1,6 @@
 -- The running aggregates of a group, fed one by one.
 use Rattle.std.proofs.Common.{◌≡◌, ◌∙◌, ℕ, zero, suc, ◌+◌, ◌<◌, ◌≤◌, true, List, [], ◌∷◌, ◌++◌, length, take, drop, get_or, set, refl, sym, ap, arith, subst}
-use Rattle.std.proofs.lemmas.List.{append_assoc, drop-drop, drop-set-lt, drop_more, get_or-drop, length-drop, take_more_set}
+use Rattle.std.proofs.lemmas.List.{append_assoc, drop-drop, drop-set-lt, drop_more, get_or-drop, take_more_set}
 use Rattle.std.proofs.lemmas.Option.{unwrap_or-slice_get}
 use Rattle.pipe_columns.specs.declared.any_value.AnyValue.{AnyValue}
 use Rattle.pipe_columns.specs.declared.any_value.AnyValue.TheVariants as av
@@ -42,10 +42,6 @@ module _ {X : Type 0} (old now : List X) (j : ℕ) (left : drop j now ≡ drop j
       let here : j + 0 ≡ j = omega arith in
       let P : ℕ → Type 0 = λ k. get_or now k d ≡ get_or old k d in
       subst P here (sym (get_or-drop j now 0 d) ∙ ap (λ (l : List X). get_or l 0 d) left ∙ get_or-drop j old 0 d)
-
-  -- and is as long there
-  pub within-old : j < length now → j < length old
-  within-old lt = omega (arith, lt, ap (λ (l : List X). length l) left, length-drop j now, length-drop j old)
 
   -- and behind it
   pub drop-next : drop (j + 1) now ≡ drop (j + 1) old

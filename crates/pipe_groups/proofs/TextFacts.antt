@@ -1,8 +1,6 @@
 -- The texts of a row that are copied, one by one.
 use Rattle.std.proofs.Common.{◌≡◌, ◌∙◌, ℕ, zero, suc, ◌+◌, ◌-◌, ◌<◌, Bool, true, false, if◌then◌else◌, List, [], ◌∷◌, ◌++◌, length, length-append, take, drop, get_or, set, refl, ap, arith, subst}
-use Rattle.std.specs.List.{list_any}
 use Rattle.std.proofs.lemmas.List.{append-nil, drop-set-lt, drop_more, take_at}
-use Rattle.std.proofs.lemmas.List.Folds.{list_any_at}
 use Rattle.pipe_columns.specs.declared.any_value.AnyValue.{AnyValue}
 use Rattle.pipe_columns.specs.declared.place.Place.{Place}
 use Rattle.pipe_columns.specs.Frame.{value_at}
@@ -82,10 +80,3 @@ pub keeps-none : (p : Place) (v : AnyValue) (s : AggregateFunction) → keeps_va
 keeps-none p v (function.First a) e = cc
 keeps-none p v (function.Last a) e = cc
 keeps-none p v s e = refl
-
--- nor does any of those of which none does
-pub plain-at : (ss : States) (j : ℕ) (d : AggregateFunction) → j < length ss → list_any keeps_value ss ≡ false → keeps_value (get_or ss j d) ≡ false
-plain-at ss j d lt none = by (keeps_value (get_or ss j d)) refl where
-  by : (b : Bool) → keeps_value (get_or ss j d) ≡ b → keeps_value (get_or ss j d) ≡ false
-  by false e = e
-  by true e = let some : list_any keeps_value ss ≡ true = list_any_at keeps_value ss j d lt e in cc

@@ -1,12 +1,11 @@
 -- Of the proofs alone: columns that are filled row by row.
-use Rattle.std.specs.Prelude.{◌≡◌, ◌+◌, ◌*◌, ◌≤◌, ℕ, zero, suc, false, List, [], ◌∷◌, ◌++◌, map, fold, take, drop, vec_len, vec_capacity}
+use Rattle.std.specs.Prelude.{◌≡◌, ◌+◌, ◌≤◌, ℕ, zero, suc, false, List, [], ◌∷◌, ◌++◌, map, fold, drop, vec_len, vec_capacity}
 use Rattle.std.specs.List.{All, AllZip}
 use Rattle.pipe_columns.specs.declared.any_value.AnyValue.{AnyValue}
 use Rattle.pipe_columns.specs.declared.data_type.DataType.{DataType}
 use Rattle.pipe_columns.specs.declared.schema.Field.{Field}
 use Rattle.pipe_columns.specs.Frame.{ColumnData, columns_from}
 use Rattle.pipe_columns.specs.Key.{code}
-use Rattle.pipe_running.specs.declared.function.AggregateFunction.{AggregateFunction}
 use Rattle.pipe_spill.specs.KeyTypes.{IsTuple}
 use Rattle.pipe_groups.specs.declared.unfinished.Unfinished.{Unfinished}
 
@@ -55,10 +54,6 @@ HaveRoom n cs = All (λ c. vec_len c.values + n ≤ vec_capacity c.values) cs
 pub record HaveRoomFrom (n k : ℕ) (cs : List Unfinished) : Type 0 where
   pub all : HaveRoom n cs
   pub more : HaveRoom (n + 1) (drop k cs)
-
--- the running aggregates of the group at an index, where each group has n
-abbrev pub states_at : ℕ → ℕ → List AggregateFunction → List AggregateFunction
-states_at n i states = take n (drop (i * n) states)
 
 -- columns have one more row: the tuple whose code is a key
 pub record HaveKey (before : List ColumnData) (key : List ℕ) (after : List ColumnData)

@@ -1,14 +1,14 @@
 -- Rows of a chunk that follow one another, fed to a group at once.
-use Rattle.std.specs.Prelude.{◌≡◌, ◌+◌, ◌&&◌, ◌||◌, ℕ, Bool, true, false, not, List, [], ◌∷◌, map}
+use Rattle.std.specs.Prelude.{◌≡◌, ◌+◌, ◌&&◌, ◌||◌, ℕ, Bool, true, not, List, [], ◌∷◌, map}
 use Rattle.std.specs.List.{list_all}
 use Rattle.pipe_columns.specs.declared.any_value.AnyValue.{AnyValue}
 use Rattle.pipe_columns.specs.declared.data_type.DataType.{DataType}
 use Rattle.pipe_columns.specs.DataType.{is_string}
 use Rattle.pipe_columns.specs.Frame.{value_at}
 use Rattle.pipe_running.specs.declared.function.AggregateFunction.{AggregateFunction}
-use Rattle.pipe_running.specs.declared.function.AggregateFunction.TheVariants as function
 use Rattle.pipe_running.specs.GroupStates.{least_with_run, run_from}
 use Rattle.pipe_running.specs.Held.{is_text}
+pub use Rattle.pipe_kinds.specs.Keeping.{keeps_value}
 use Rattle.pipe_groups.specs.Groups.{Group}
 
 -- a group with rows more: the number of their chunk, that of the first one, and their inputs
@@ -18,12 +18,6 @@ with_run chunk row inputs g = record {
   first = least_with_run chunk row inputs g.first;
   states = run_from chunk row 0 inputs g.states;
 }
-
--- whether a running aggregate keeps a value itself: a first or last does
-abbrev pub keeps_value : AggregateFunction → Bool
-keeps_value (function.First a) = true
-keeps_value (function.Last a) = true
-keeps_value f = false
 
 -- whether it keeps none of some values as a text
 abbrev pub keeps_none_of : AggregateFunction → List AnyValue → Bool

@@ -1,5 +1,5 @@
 -- What a table keeps of rows: groups.
-use Rattle.std.specs.Prelude.{◌≡◌, ◌+◌, ◌*◌, ◌≤◌, ◌<◌, ◌^◌, ℕ, Bool, false, true, List, [], ◌∷◌, ◌++◌, map, filter, length, slice_index_or, Option, Some, None, is_some, unwrap_or, if◌then◌else◌, sum_by}
+use Rattle.std.specs.Prelude.{◌≡◌, ◌*◌, ◌≤◌, ℕ, Bool, false, List, [], ◌∷◌, ◌++◌, map, filter, length, slice_index_or, Option, Some, None, is_some, unwrap_or, if◌then◌else◌, sum_by}
 use Rattle.std.specs.List.{All, list_any}
 use Rattle.std.specs.Str.{bytes_eq}
 use Rattle.pipe_columns.specs.declared.any_value.AnyValue.{AnyValue}
@@ -8,7 +8,7 @@ use Rattle.pipe_columns.specs.Place.{place_cmp}
 use Rattle.pipe_running.specs.declared.function.AggregateFunction.{AggregateFunction}
 use Rattle.pipe_running.specs.GroupStates.{fed_from, fresh_states, joined_states}
 use Rattle.pipe_running.specs.Pick.{nearer, nearest}
-use Rattle.pipe_running.specs.States.{alike, seen}
+pub use Rattle.pipe_kinds.specs.ManyStates.{AreJoinable}
 use Rattle.pipe_groups.specs.Shape.{Shape}
 
 -- the code of a key, the least place of its rows, none where it has none, and its running aggregates
@@ -50,15 +50,6 @@ with_group other g = record {
   first = nearest place_cmp other.first g.first;
   states = joined_states g.states other.states;
 }
-
--- running aggregates may be joined one to one: they are of one kind, and have counted fewer than 2^32
--- values together
-abbrev pub AreJoinable : List AggregateFunction → List AggregateFunction → Type 0
-AreJoinable [] [] = Unit {0}
-AreJoinable [] (t ∷ ts) = ⊥
-AreJoinable (s ∷ ss) [] = ⊥
-AreJoinable (s ∷ ss) (t ∷ ts) =
-    (alike s t ≡ true) × (seen s + seen t < 2 ^ 32) × AreJoinable ss ts
 
 -- whether a group holds a row
 abbrev pub has_rows : Group → Bool

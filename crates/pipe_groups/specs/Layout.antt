@@ -1,34 +1,55 @@
 -- Of the proofs alone: how groups lie in memory.
-use Rattle.std.specs.Prelude.{◌≡◌, ◌+◌, ◌*◌, ◌-◌, ◌≤◌, ℕ, List, [], ◌∷◌, ◌++◌, None, length, take, drop, if◌then◌else◌, is_some, sum_by, vec_capacity}
-use Rattle.std.specs.List.{All}
+use Rattle.std.specs.Prelude.{◌≡◌, ◌+◌, ◌*◌, ◌-◌, ◌≤◌, ℕ, zero, suc, List, [], ◌∷◌, None, length, take, drop, if◌then◌else◌, is_some, slice_index_or, vec_capacity}
 use Rattle.pipe_running.specs.declared.function.AggregateFunction.{AggregateFunction}
+use Rattle.pipe_running.specs.GroupStates.{fresh_states}
 use Rattle.pipe_groups.specs.declared.groups.Entry.{Entry}
 use Rattle.pipe_groups.specs.declared.groups.Groups.TheInside.{Inside}
 use Rattle.pipe_groups.specs.Groups.{count_held, Group, RowlessAreFresh, Seen}
 use Rattle.pipe_groups.specs.Shape.{IsShape, Shape}
 
--- the key bytes of an entry
-abbrev pub key_at : List ℕ → Entry → List ℕ
-key_at bytes e = take e.len (drop e.start bytes)
+-- the bytes from one position on, up to another
+abbrev pub key_between : List ℕ → ℕ → ℕ → List ℕ
+key_between bytes start end = take (end - start) (drop start bytes)
 
 -- what stands for an entry past the last
 abbrev pub no_entry : Entry
-no_entry = record { start = 0; len = 0; first = None }
+no_entry = record { end = 0; first = None }
 
--- running aggregates, with those from a position on replaced by others
-abbrev pub spliced : ℕ → List AggregateFunction → List AggregateFunction → List AggregateFunction
-spliced at new states = take at states ++ (new ++ drop (at + length new) states)
+-- where the key of the entry at an index begins: where that of the one before ends, and the first one
+-- at a position
+abbrev pub start_from : ℕ → List Entry → ℕ → ℕ
+start_from start es zero = start
+start_from start es (suc i) = (slice_index_or es i no_entry).end
 
--- the groups of entries: each takes n states in turn
-abbrev pub groups_at : ℕ → List ℕ → List AggregateFunction → List Entry → List Group
-groups_at n bytes states [] = []
-groups_at n bytes states (e ∷ es) =
-    record { key = key_at bytes e; first = e.first; states = take n states }
-    ∷ groups_at n bytes (drop n states) es
+-- the groups of entries of which the first key begins at a position: each has the states that stand
+-- where it stands
+abbrev pub groups_at : ℕ → List ℕ → List (List AggregateFunction) → List Entry → List Group
+groups_at start bytes states [] = []
+groups_at start bytes [] (e ∷ es) =
+    record { key = key_between bytes start e.end; first = e.first; states = [] }
+    ∷ groups_at e.end bytes [] es
+groups_at start bytes (ss ∷ states) (e ∷ es) =
+    record { key = key_between bytes start e.end; first = e.first; states = ss }
+    ∷ groups_at e.end bytes states es
 
--- how many bytes the key of an entry has, where it holds a row
-abbrev pub held_len : Entry → ℕ
-held_len e = if is_some e.first then e.len else 0
+-- no key ends before it begins
+abbrev pub AscendFrom : ℕ → List Entry → Type 0
+AscendFrom start [] = Unit {0}
+AscendFrom start (e ∷ es) = (start ≤ e.end) × AscendFrom e.end es
+
+-- where the last key ends
+abbrev pub last_end : ℕ → List Entry → ℕ
+last_end start [] = start
+last_end start (e ∷ es) = last_end e.end es
+
+-- how many bytes the keys of entries with rows have
+abbrev pub held_from : ℕ → List Entry → ℕ
+held_from start [] = 0
+held_from start (e ∷ es) = (if is_some e.first then e.end - start else 0) + held_from e.end es
+
+-- the lesser of two numbers
+abbrev pub lesser : ℕ → ℕ → ℕ
+lesser a b = a - (a - b)
 
 -- what the groups are of
 abbrev pub shape_in : Inside → Shape
@@ -41,7 +62,7 @@ shape_in a = record {
 
 -- the groups that lie there
 abbrev pub groups_in : Inside → List Group
-groups_in a = groups_at (length a.prototypes.items) a.bytes.items a.states.items a.entries.items
+groups_in a = groups_at 0 a.bytes.items a.states.groups a.entries.items
 
 -- groups as contracts see them
 abbrev pub view_of : Inside → Seen
@@ -49,18 +70,19 @@ view_of a = record {
   shape = shape_in a;
   groups = groups_in a;
   room = record {
-    groups = vec_capacity a.entries - length a.entries.items;
-    states = vec_capacity a.states - length a.states.items;
+    groups = lesser (vec_capacity a.entries - length a.entries.items) a.states.room;
+    states = a.states.room * length a.prototypes.items;
     bytes = vec_capacity a.bytes - length a.bytes.items;
   };
 }
 
--- keys lie within the buffer and fill it, each entry has its running aggregates, which are fresh where
--- it has no row, and the entries with rows are counted
+-- keys lie one behind another and fill the buffer, each entry has its running aggregates, which are of the
+-- prototypes' kinds and fresh where it has no row, and the entries with rows are counted
 pub record IsLaidOut (a : Inside) : Type 0 where
   pub shape : IsShape (shape_in a)
-  pub within : All (λ e. e.start + e.len ≤ length a.bytes.items) a.entries.items
-  pub filled : sum_by (λ e. e.len) a.entries.items ≡ length a.bytes.items
-  pub sized : length a.states.items ≡ length a.entries.items * length a.prototypes.items
+  pub ascend : AscendFrom 0 a.entries.items
+  pub filled : last_end 0 a.entries.items ≡ length a.bytes.items
+  pub like : a.states.fresh ≡ fresh_states a.prototypes.items
+  pub sized : length a.states.groups ≡ length a.entries.items
   pub fresh : RowlessAreFresh a.prototypes.items (groups_in a)
   pub counted : a.held ≡ count_held (groups_in a)

@@ -1,18 +1,17 @@
 //! Rows that are fed to groups.
 
-ghost use Rattle.std.specs.Prelude.{◌≡◌, ◌+◌, ◌-◌, ◌*◌, ◌≤◌, ◌<◌, ◌^◌, [], IsOk, OnErr, OnOk, Some, drop, if◌then◌else◌, is_some, length, slice_index_or, slice_set, take, vec_capacity};
+ghost use Rattle.std.specs.Prelude.{◌≡◌, ◌+◌, ◌-◌, ◌≤◌, ◌<◌, ◌^◌, [], IsOk, OnErr, OnOk, Some, if◌then◌else◌, is_some, length, slice_index_or, slice_set, vec_capacity};
 ghost use Rattle.pipe_columns.specs.Place.{place_cmp};
 ghost use Rattle.pipe_inputs.specs.ChunkRows.{row_at};
-ghost use Rattle.pipe_running.specs.GroupStates.{fed_from, StatesSeen, TakesFrom};
+ghost use Rattle.pipe_running.specs.GroupStates.{StatesSeen, TakesFrom};
 ghost use Rattle.pipe_running.specs.Pick.{nearer};
 ghost use Rattle.pipe_groups.specs.Groups.{group_of, HasGroups, KeepsRoom, group_with_row};
-ghost use Rattle.pipe_groups.specs.Layout.{no_entry, spliced};
+ghost use Rattle.pipe_groups.specs.Layout.{no_entry};
 ghost use Rattle.pipe_groups.specs.Texts.{kept_texts};
 
 use crate::groups::{Entry, Groups};
-use crate::lent_states::lend_at;
+use crate::lent_states::lend_row;
 use crate::states::feed_states;
-use pipe_aggs::AggregateFunction;
 use pipe_columns::Place;
 use pipe_inputs::ChunkRows;
 use pipe_spill::Values;
@@ -44,18 +43,6 @@ pub(crate) fn put_place(entries: &mut Vec<Entry>, held: &mut usize, index: usize
     }
 }
 
-/// Feeds the running aggregates from a position on the inputs of a row.
-fn feed_at(states: &mut Vec<AggregateFunction>, at: usize, n: usize, place: Place, values: Values)
-    requires within { at + n ≤ length states.old.items }
-    requires few { StatesSeen (2 ^ 32 - 2) (take n (drop at states.old.items)) }
-    requires taken { TakesFrom 0 (take n (drop at states.old.items)) values }
-    ensures states { states.new.items ≡ spliced at
-        (fed_from place 0 values (take n (drop at states.old.items))) states.old.items }
-    ensures capacity { vec_capacity states.new ≡ vec_capacity states.old }
-{
-    feed_states(&mut states[at..at + n], place, values);
-}
-
 impl Groups {
     /// Feeds a group a row: its place, and its inputs, which are moved. It takes no memory.
     pub fn feed(&mut self, index: usize, place: Place, values: Values)
@@ -66,8 +53,7 @@ impl Groups {
             (group_with_row place values (group_of self.old.groups index))) }
         ensures room { KeepsRoom self.old self.new }
     {
-        let n = self.prototypes.len();
-        feed_at(&mut self.states, index * n, n, place, values);
+        feed_states(&mut self.states, index, place, values);
         put_place(&mut self.entries, &mut self.held, index, place);
     }
 
@@ -94,17 +80,8 @@ impl Groups {
         ensures plain { kept_texts (row_at rows.now row).place 0 (row_at rows.now row).inputs
             (group_of self.old.groups index).states ≡ [] → IsOk result }
     {
-        let n = self.prototypes.len();
         let place = rows.place(row);
-        lend_at(
-            &mut self.states,
-            index * n,
-            n,
-            &mut self.copies,
-            rows,
-            row,
-            place,
-        )?;
+        lend_row(&mut self.states, index, &mut self.copies, rows, row, place)?;
         put_place(&mut self.entries, &mut self.held, index, place);
         Ok(())
     }

@@ -1,23 +1,24 @@
 //! Rows of a chunk that follow one another, fed to a group at once.
 
-ghost use Rattle.std.specs.Prelude.{◌≡◌, ◌+◌, ◌-◌, ◌≤◌, ◌<◌, ◌^◌, ◌&&◌, All, drop, length, slice_index_or, slice_set, take, true, vec_capacity};
+ghost use Rattle.std.specs.Prelude.{◌≡◌, ◌+◌, ◌-◌, ◌≤◌, ◌<◌, ◌^◌, ◌&&◌, All, length, slice_index_or, slice_set, true};
 ghost use Rattle.std.specs.List.{list_all};
 ghost use Rattle.pipe_columns.specs.declared.data_type.DataType.TheVariants as dt;
 ghost use Rattle.pipe_columns.specs.DataType.{is_string};
 ghost use Rattle.pipe_inputs.specs.ChunkRows.{row_at};
 ghost use Rattle.pipe_inputs.specs.RowRuns.{run_inputs, run_values};
+ghost use Rattle.pipe_kinds.specs.ManyStates.{state_of, states_in, with_state_of, with_states};
 ghost use Rattle.pipe_running.specs.GroupStates.{run_from, StatesSeen, TakesFrom};
 ghost use Rattle.pipe_running.specs.Runs.{after_run};
 ghost use Rattle.pipe_running.specs.States.{after_value, seen, takes};
 ghost use Rattle.pipe_groups.specs.GroupRuns.{keep_no_text, keeps_none_of, keeps_value, KeepNoneFrom, with_run};
 ghost use Rattle.pipe_groups.specs.Groups.{group_of, HasGroups, KeepsRoom};
-ghost use Rattle.pipe_groups.specs.Layout.{spliced};
 
 use crate::feed::put_place;
 use crate::groups::Groups;
 use pipe_aggs::AggregateFunction;
 use pipe_columns::{DataType, Place};
 use pipe_inputs::ChunkRows;
+use pipe_kinds::States;
 
 /// Whether a running aggregate keeps a value itself.
 fn keeps_value(state: &AggregateFunction) -> bool
@@ -54,54 +55,67 @@ fn keep_no_text(prototypes: &[AggregateFunction], types: &[DataType]) -> bool
 
 /// Feeds a running aggregate an input of rows that follow one another, one by one.
 fn feed_each(
-    state: &mut AggregateFunction,
+    states: &mut States,
+    index: usize,
+    j: usize,
     rows: &ChunkRows<'_>,
     chunk: u32,
     row: usize,
     len: usize,
-    j: usize,
 )
     requires there { row + len ≤ length rows.now }
     requires placed { row + len ≤ 2 ^ 32 }
-    requires plain { keeps_none_of state.old (run_values rows.now row len j) ≡ true }
-    requires taken { list_all (λ v. takes state.old v) (run_values rows.now row len j) ≡ true }
-    requires few { seen state.old + len < 2 ^ 32 }
-    ensures { state.new
-        ≡ after_run after_value chunk row (run_values rows.now row len j) state.old }
+    requires within { index < length states.old.groups }
+    requires column { j < length states.old.fresh }
+    requires state { j < length (states_in states.old index) }
+    requires plain { keeps_none_of (state_of states.old index j) (run_values rows.now row len j)
+        ≡ true }
+    requires taken { list_all (λ v. takes (state_of states.old index j) v)
+        (run_values rows.now row len j) ≡ true }
+    requires few { seen (state_of states.old index j) + len < 2 ^ 32 }
+    ensures { states.new ≡ with_state_of index j (after_run after_value chunk row
+        (run_values rows.now row len j) (state_of states.old index j)) states.old }
 {
-    for index in row..row + len {
-        let row = index as u32;
-        state.pre_agg_lent(Place { chunk, row }, rows.input(index, j));
+    for at in row..row + len {
+        let row = at as u32;
+        states.feed_lent(index, j, Place { chunk, row }, rows.input(at, j));
     }
 }
 
 /// Feeds a running aggregate an input of rows that follow one another.
 fn feed_input(
-    state: &mut AggregateFunction,
+    states: &mut States,
+    index: usize,
+    j: usize,
     rows: &ChunkRows<'_>,
     chunk: u32,
     row: usize,
     len: usize,
-    j: usize,
 )
     requires there { row + len ≤ length rows.now }
     requires placed { row + len ≤ 2 ^ 32 }
     requires first { row < 2 ^ 32 }
-    requires plain { keeps_none_of state.old (run_values rows.now row len j) ≡ true }
-    requires taken { list_all (λ v. takes state.old v) (run_values rows.now row len j) ≡ true }
-    requires few { seen state.old + len < 2 ^ 32 }
-    ensures { state.new
-        ≡ after_run after_value chunk row (run_values rows.now row len j) state.old }
+    requires within { index < length states.old.groups }
+    requires column { j < length states.old.fresh }
+    requires state { j < length (states_in states.old index) }
+    requires plain { keeps_none_of (state_of states.old index j) (run_values rows.now row len j)
+        ≡ true }
+    requires taken { list_all (λ v. takes (state_of states.old index j) v)
+        (run_values rows.now row len j) ≡ true }
+    requires few { seen (state_of states.old index j) + len < 2 ^ 32 }
+    ensures { states.new ≡ with_state_of index j (after_run after_value chunk row
+        (run_values rows.now row len j) (state_of states.old index j)) states.old }
 {
     match rows.input_run(row, len, j) {
-        Some(values) => state.pre_agg_ordered_lent(chunk, row as u32, values),
-        None => feed_each(state, rows, chunk, row, len, j),
+        Some(values) => states.feed_run(index, j, chunk, row as u32, values),
+        None => feed_each(states, index, j, rows, chunk, row, len),
     }
 }
 
-/// Feeds each its input of rows that follow one another.
+/// Feeds each running aggregate of a group its input of rows that follow one another.
 fn run_states(
-    states: &mut [AggregateFunction],
+    states: &mut States,
+    index: usize,
     rows: &ChunkRows<'_>,
     chunk: u32,
     row: usize,
@@ -111,42 +125,17 @@ fn run_states(
     requires placed { row + len ≤ 2 ^ 32 }
     requires first { row < 2 ^ 32 }
     requires short { len < 2 ^ 32 }
-    requires plain { KeepNoneFrom 0 states.old (run_inputs rows.now row len) }
-    requires taken { All (λ inputs. TakesFrom 0 states.old inputs) (run_inputs rows.now row len) }
-    requires few { StatesSeen (2 ^ 32 - 1 - len) states.old }
-    ensures { states.new ≡ run_from chunk row 0 (run_inputs rows.now row len) states.old }
+    requires within { index < length states.old.groups }
+    requires plain { KeepNoneFrom 0 (states_in states.old index) (run_inputs rows.now row len) }
+    requires taken { All (λ inputs. TakesFrom 0 (states_in states.old index) inputs)
+        (run_inputs rows.now row len) }
+    requires few { StatesSeen (2 ^ 32 - 1 - len) (states_in states.old index) }
+    ensures { states.new ≡ with_states index (run_from chunk row 0 (run_inputs rows.now row len)
+        (states_in states.old index)) states.old }
 {
-    for j in 0..states.len() {
-        let state = &mut states[j];
-        feed_input(state, rows, chunk, row, len, j);
+    for j in 0..states.width() {
+        feed_input(states, index, j, rows, chunk, row, len);
     }
-}
-
-/// Feeds n running aggregates from a position on the inputs of rows that follow one another.
-fn run_at(
-    states: &mut Vec<AggregateFunction>,
-    at: usize,
-    n: usize,
-    rows: &ChunkRows<'_>,
-    chunk: u32,
-    row: usize,
-    len: usize,
-)
-    requires within { at + n ≤ length states.old.items }
-    requires there { row + len ≤ length rows.now }
-    requires placed { row + len ≤ 2 ^ 32 }
-    requires first { row < 2 ^ 32 }
-    requires short { len < 2 ^ 32 }
-    requires plain { KeepNoneFrom 0 (take n (drop at states.old.items))
-        (run_inputs rows.now row len) }
-    requires taken { All (λ inputs. TakesFrom 0 (take n (drop at states.old.items)) inputs)
-        (run_inputs rows.now row len) }
-    requires few { StatesSeen (2 ^ 32 - 1 - len) (take n (drop at states.old.items)) }
-    ensures states { states.new.items ≡ spliced at (run_from chunk row 0
-        (run_inputs rows.now row len) (take n (drop at states.old.items))) states.old.items }
-    ensures capacity { vec_capacity states.new ≡ vec_capacity states.old }
-{
-    run_states(&mut states[at..at + n], rows, chunk, row, len);
 }
 
 impl Groups {
@@ -175,10 +164,9 @@ impl Groups {
             (group_of self.old.groups index))) }
         ensures room { KeepsRoom self.old self.new }
     {
-        let n = self.prototypes.len();
         let chunk = rows.chunk();
         let place = rows.place(row);
-        run_at(&mut self.states, index * n, n, rows, chunk, row, len);
+        run_states(&mut self.states, index, rows, chunk, row, len);
         put_place(&mut self.entries, &mut self.held, index, place);
     }
 }

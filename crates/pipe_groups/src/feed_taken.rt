@@ -1,15 +1,15 @@
 //! Rows whose inputs are taken out of a list, fed to groups.
 
-ghost use Rattle.std.specs.Prelude.{◌≡◌, ◌+◌, ◌-◌, ◌≤◌, ◌<◌, ◌^◌, drop, length, slice_set, take, vec_capacity};
+ghost use Rattle.std.specs.Prelude.{◌≡◌, ◌+◌, ◌-◌, ◌<◌, ◌^◌, drop, length, slice_set};
 ghost use Rattle.pipe_columns.specs.Frame.{value_at};
+ghost use Rattle.pipe_kinds.specs.ManyStates.{states_in, with_states};
 ghost use Rattle.pipe_running.specs.GroupStates.{fed_from, StatesSeen, TakesFrom};
 ghost use Rattle.pipe_groups.specs.Groups.{group_of, HasGroups, KeepsRoom, group_with_row};
-ghost use Rattle.pipe_groups.specs.Layout.{spliced};
 
 use crate::feed::put_place;
 use crate::groups::Groups;
-use pipe_aggs::{AggregateFn, AggregateFunction};
 use pipe_columns::{AnyValue, Place};
+use pipe_kinds::States;
 use std::mem;
 
 /// Takes the value at a position out, null past the last.
@@ -26,36 +26,18 @@ fn take_value(values: &mut [AnyValue], j: usize) -> AnyValue
 }
 
 /// Feeds each its input of a row, which is taken out of a list.
-fn take_states(states: &mut [AggregateFunction], place: Place, values: &mut [AnyValue])
-    requires few { StatesSeen (2 ^ 32 - 2) states.old }
-    requires taken { TakesFrom 0 states.old values.old }
-    ensures states { states.new ≡ fed_from place 0 values.old states.old }
+fn take_states(states: &mut States, index: usize, place: Place, values: &mut [AnyValue])
+    requires within { index < length states.old.groups }
+    requires few { StatesSeen (2 ^ 32 - 2) (states_in states.old index) }
+    requires taken { TakesFrom 0 (states_in states.old index) values.old }
+    ensures states { states.new ≡ with_states index
+        (fed_from place 0 values.old (states_in states.old index)) states.old }
     ensures fits { length values.new ≡ length values.old }
 {
-    for j in 0..states.len() {
+    for j in 0..states.width() {
         let value = take_value(values, j);
-        let state = &mut states[j];
-        state.pre_agg(place, value);
+        states.feed(index, j, place, value);
     }
-}
-
-/// Feeds the running aggregates from a position on the inputs of a row.
-fn take_at(
-    states: &mut Vec<AggregateFunction>,
-    at: usize,
-    n: usize,
-    place: Place,
-    values: &mut [AnyValue],
-)
-    requires within { at + n ≤ length states.old.items }
-    requires few { StatesSeen (2 ^ 32 - 2) (take n (drop at states.old.items)) }
-    requires taken { TakesFrom 0 (take n (drop at states.old.items)) values.old }
-    ensures states { states.new.items ≡ spliced at
-        (fed_from place 0 values.old (take n (drop at states.old.items))) states.old.items }
-    ensures capacity { vec_capacity states.new ≡ vec_capacity states.old }
-    ensures fits { length values.new ≡ length values.old }
-{
-    take_states(&mut states[at..at + n], place, values);
 }
 
 impl Groups {
@@ -70,8 +52,7 @@ impl Groups {
         ensures room { KeepsRoom self.old self.new }
         ensures fits { length values.new ≡ length values.old }
     {
-        let n = self.prototypes.len();
-        take_at(&mut self.states, index * n, n, place, values);
+        take_states(&mut self.states, index, place, values);
         put_place(&mut self.entries, &mut self.held, index, place);
     }
 }

@@ -1,59 +1,52 @@
 //! What running aggregates give, put into columns.
 
-ghost use Rattle.std.specs.Prelude.{◌≡◌, ◌+◌, ◌*◌, ◌<◌, ◌≤◌, [], ℕ, All, drop, IfOk, length, map, nat_eq, take};
+ghost use Rattle.std.specs.Prelude.{◌≡◌, ◌+◌, ◌<◌, [], ℕ, All, drop, false, IfOk, length, map, nat_eq};
 ghost use Rattle.std.specs.List.{IsDistinct};
+ghost use Rattle.pipe_kinds.specs.ManyStates.{states_in};
 ghost use Rattle.pipe_running.specs.GroupStates.{given_all};
 ghost use Rattle.pipe_columns.specs.Frame.{columns_from};
 ghost use Rattle.pipe_groups.specs.Given.{CanGive};
 ghost use Rattle.pipe_groups.specs.Groups.{group_of, HasGroups};
-ghost use Rattle.pipe_groups.specs.Columns.{columns_of_unfinished, HaveRoom, states_at, with_rows, with_values};
+ghost use Rattle.pipe_groups.specs.Columns.{columns_of_unfinished, HaveRoom, with_rows, with_values};
 
 use crate::groups::Groups;
 use crate::unfinished::{Unfinished, give_at, opened};
-use pipe_aggs::{AggregateFn, AggregateFunction};
+use pipe_kinds::States;
 use std::alloc::AllocError;
 
 /// Puts what the running aggregates of one group give below the values of the columns.
-fn give_group(
-    states: &mut [AggregateFunction],
-    start: usize,
-    width: usize,
-    columns: &mut [Unfinished],
-)
-    requires within { start + width ≤ length states.old }
-    requires fits { length (given_all (take width (drop start states.old)))
-        ≡ length columns.old }
+fn give_group(states: &mut States, index: usize, columns: &mut [Unfinished])
+    requires within { index < length states.old.groups }
+    requires fits { length (given_all (states_in states.old index)) ≡ length columns.old }
     requires room { HaveRoom 1 columns.old }
     ensures columns { columns_of_unfinished columns.new
-        ≡ with_values (given_all (take width (drop start states.old))) (columns_of_unfinished columns.old) }
+        ≡ with_values (given_all (states_in states.old index)) (columns_of_unfinished columns.old) }
     ensures room { (n : ℕ) → HaveRoom (n + 1) columns.old → HaveRoom n columns.new }
-    ensures before { take start states.new ≡ take start states.old }
-    ensures behind { drop (start + width) states.new ≡ drop (start + width) states.old }
+    ensures others { (k : ℕ) → nat_eq index k ≡ false
+        → states_in states.new k ≡ states_in states.old k }
+    ensures count { length states.new.groups ≡ length states.old.groups }
+    ensures like { states.new.fresh ≡ states.old.fresh }
 {
     let mut at = 0;
-    for j in 0..width {
-        at = give_at(columns, at, states[start + j].finalize());
+    for j in 0..states.width() {
+        at = give_at(columns, at, states.finalize(index, j));
     }
 }
 
 /// Puts what the running aggregates of groups give below the values of the columns, a row for each
 /// group.
-fn give_groups(
-    states: &mut [AggregateFunction],
-    width: usize,
-    taken: &[usize],
-    columns: &mut [Unfinished],
-)
-    requires within { All (λ i. i * width + width ≤ length states.old) taken.now }
+fn give_groups(states: &mut States, taken: &[usize], columns: &mut [Unfinished])
+    requires within { All (λ i. i < length states.old.groups) taken.now }
     requires once { IsDistinct nat_eq taken.now }
-    requires fits { All (λ i. length (given_all (states_at width i states.old))
-        ≡ length columns.old) taken.now }
+    requires fits { All (λ i. length (given_all (states_in states.old i)) ≡ length columns.old)
+        taken.now }
     requires room { HaveRoom (length taken.now) columns.old }
-    ensures { columns_of_unfinished columns.new ≡ with_rows
-        (map (λ i. given_all (states_at width i states.old)) taken.now) (columns_of_unfinished columns.old) }
+    ensures columns { columns_of_unfinished columns.new ≡ with_rows
+        (map (λ i. given_all (states_in states.old i)) taken.now) (columns_of_unfinished columns.old) }
+    ensures like { states.new.fresh ≡ states.old.fresh }
 {
     for index in taken {
-        give_group(states, *index * width, width, columns);
+        give_group(states, *index, columns);
     }
 }
 
@@ -83,11 +76,11 @@ impl Groups {
             (columns_of_unfinished columns.old.items) }
         ensures emptied { HasGroups self.old self.new [] }
     {
-        give_groups(&mut self.states, self.prototypes.len(), taken, columns);
+        give_groups(&mut self.states, taken, columns);
         let alloc = *self.entries.allocator();
         self.bytes = Vec::new(alloc);
         self.entries = Vec::new(alloc);
-        self.states = Vec::new(alloc);
+        self.states.release();
         self.held = 0;
     }
 }

@@ -1,28 +1,30 @@
 //! Groups in one buffer.
 
-ghost use Rattle.std.specs.Prelude.{◌≡◌, ◌+◌, ◌<◌, ◌≤◌, ◌^◌, [], IfOk, length, sum_by};
+ghost use Rattle.std.specs.Prelude.{◌≡◌, ◌<◌, ◌≤◌, [], IfOk, length};
 ghost use Rattle.pipe_aggs.specs.QueryTrees.{query_tree};
+ghost use Rattle.pipe_running.specs.GroupStates.{fresh_states};
 ghost use Rattle.pipe_groups.specs.Groups.{count_held, group_of, held_bytes, RowlessAreFresh};
-ghost use Rattle.pipe_groups.specs.Layout.{held_len, key_at};
+ghost use Rattle.pipe_groups.specs.Layout.{AscendFrom, held_from, key_between, start_from};
 ghost use Rattle.pipe_groups.specs.Shape.{IsShape, shape_of};
 
 use crate::copies::{copied_fields, copied_types, fresh_copies};
 use pipe_aggs::{AggregateFunction, CheckedQuery};
 use pipe_columns::{AnyValue, DataType, Place, Schema};
+use pipe_kinds::States;
 use std::alloc::{AllocError, Global};
 use std::marker::Model;
 
-/// Where a group's key lies, and the least place of its rows.
+/// Where a group's key ends, and the least place of its rows. It begins where that of the group before
+/// ends.
 #[derive(Clone, Copy, Debug)]
 pub(crate) struct Entry {
-    pub(crate) start: usize,
-    pub(crate) len: usize,
+    pub(crate) end: usize,
     pub(crate) first: Option<Place>,
 }
 
 /// Groups in the order in which their keys came. All keys lie in one vector of bytes, and the running
-/// aggregates of all groups in another, those of group i from i * n on, where a group has n. Contracts
-/// see the groups, what they are of, and the room for more.
+/// aggregates of all groups by kind, one vector an aggregate. Contracts see the groups, what they are
+/// of, and the room for more.
 #[derive(Drop)]
 pub struct Groups {
     pub(crate) key_types: Vec<DataType>,
@@ -31,7 +33,7 @@ pub struct Groups {
     pub(crate) fields: Schema,
     pub(crate) bytes: Vec<u8>,
     pub(crate) entries: Vec<Entry>,
-    pub(crate) states: Vec<AggregateFunction>,
+    pub(crate) states: States,
     pub(crate) held: usize,
     /// Texts of a row that is lent, while it is fed.
     pub(crate) copies: Vec<AnyValue>,
@@ -48,25 +50,40 @@ impl Model for Groups {
     ghost invariant = { IsLaidOut };
 }
 
-/// The key of an entry.
+/// Where the key of the entry at an index begins.
 #[inline(always)]
-pub(crate) fn key_of(bytes: &[u8], entry: Entry) -> &[u8]
-    requires { entry.start + entry.len ≤ length bytes.now }
-    ensures { result.now ≡ key_at bytes.now entry }
+pub(crate) fn start_of(entries: &[Entry], index: usize) -> usize
+    requires { index < length entries.now }
+    ensures { result ≡ start_from 0 entries.now index }
 {
-    &bytes[entry.start..entry.start + entry.len]
+    if index == 0 {
+        return 0;
+    }
+    entries[index - 1].end
+}
+
+/// The key of an entry at an index.
+#[inline(always)]
+fn key_of(bytes: &[u8], start: usize, end: usize) -> &[u8]
+    requires starts { start ≤ end }
+    requires ends { end ≤ length bytes.now }
+    ensures { result.now ≡ key_between bytes.now start end }
+{
+    &bytes[start..end]
 }
 
 /// How many bytes the held keys of entries have.
 fn held_bytes_of(entries: &[Entry]) -> usize
-    requires { sum_by (λ e. e.len) entries.now < 2 ^ 64 }
-    ensures { result ≡ sum_by held_len entries.now }
+    requires { AscendFrom 0 entries.now }
+    ensures { result ≡ held_from 0 entries.now }
 {
     let mut bytes = 0;
+    let mut start = 0;
     for entry in entries {
         if entry.first.is_some() {
-            bytes += entry.len;
+            bytes += entry.end - start;
         }
+        start = entry.end;
     }
     bytes
 }
@@ -79,13 +96,16 @@ impl Groups {
         input_types: Vec<DataType>,
         prototypes: Vec<AggregateFunction>,
         fields: Schema,
+        states: States,
     ) -> Groups
-        requires { IsShape (record {
+        requires shape { IsShape (record {
           key_types = key_types.items;
           input_types = input_types.items;
           prototypes = prototypes.items;
           fields = fields;
         }) }
+        requires like { states.fresh ≡ fresh_states prototypes.items }
+        requires none { states.groups ≡ [] }
         ensures shape { result.shape ≡ record {
           key_types = key_types.items;
           input_types = input_types.items;
@@ -101,7 +121,7 @@ impl Groups {
             fields,
             bytes: Vec::new(alloc),
             entries: Vec::new(alloc),
-            states: Vec::new(alloc),
+            states,
             held: 0,
             copies: Vec::new(alloc),
         }
@@ -117,7 +137,8 @@ impl Groups {
         let input_types = copied_types(alloc, query.input_types())?;
         let prototypes = fresh_copies(alloc, query.prototypes())?;
         let fields = copied_fields(alloc, query.output_schema().fields())?;
-        Ok(Groups::of_shape(alloc, key_types, input_types, prototypes, fields))
+        let states = States::new(alloc, &prototypes)?;
+        Ok(Groups::of_shape(alloc, key_types, input_types, prototypes, fields, states))
     }
 
     /// No groups, of what these are.
@@ -130,7 +151,8 @@ impl Groups {
         let input_types = copied_types(alloc, &self.input_types)?;
         let prototypes = fresh_copies(alloc, &self.prototypes)?;
         let fields = copied_fields(alloc, self.fields.fields())?;
-        Ok(Groups::of_shape(alloc, key_types, input_types, prototypes, fields))
+        let states = States::new(alloc, &prototypes)?;
+        Ok(Groups::of_shape(alloc, key_types, input_types, prototypes, fields, states))
     }
 
     /// How many groups there are, with or without rows.
@@ -154,7 +176,8 @@ impl Groups {
         requires { index < length self.now.groups }
         ensures { result.now ≡ (group_of self.now.groups index).key }
     {
-        key_of(&self.bytes, self.entries[index])
+        let start = start_of(&self.entries, index);
+        key_of(&self.bytes, start, self.entries[index].end)
     }
 
     /// The least place of a group's rows.

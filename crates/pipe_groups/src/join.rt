@@ -1,14 +1,11 @@
 //! Groups that are taken into others.
 
-ghost use Rattle.std.specs.Prelude.{◌≡◌, ◌+◌, ◌*◌, ◌≤◌, ◌<◌, None, Some, drop, is_some, length, slice_index_or, slice_set, take, true, vec_capacity};
-ghost use Rattle.pipe_running.specs.GroupStates.{fresh_states, joined_states};
+ghost use Rattle.std.specs.Prelude.{◌≡◌, ◌+◌, ◌<◌, None, Some, is_some, length, slice_index_or, slice_set, true, vec_capacity};
 ghost use Rattle.pipe_groups.specs.Groups.{AreJoinable, group_of, has_rows, HasGroups, KeepsRoom, new_group, with_group};
-ghost use Rattle.pipe_groups.specs.Layout.{no_entry, spliced};
+ghost use Rattle.pipe_groups.specs.Layout.{no_entry};
 
 use crate::feed::put_place;
 use crate::groups::{Entry, Groups};
-use crate::states::join_states;
-use pipe_aggs::AggregateFunction;
 use pipe_columns::Place;
 
 /// Takes the place of an entry with rows out, which is then not counted.
@@ -28,35 +25,6 @@ fn take_place(entries: &mut Vec<Entry>, held: &mut usize, index: usize) -> Place
     place
 }
 
-/// Takes n running aggregates from one position on over into those from another.
-fn join_at(
-    states: &mut Vec<AggregateFunction>,
-    at: usize,
-    others: &mut Vec<AggregateFunction>,
-    from: usize,
-    n: usize,
-    prototypes: &[AggregateFunction],
-)
-    requires size { n ≡ length prototypes.now }
-    requires within { at + n ≤ length states.old.items }
-    requires others_within { from + n ≤ length others.old.items }
-    requires joinable { AreJoinable (take n (drop at states.old.items))
-        (take n (drop from others.old.items)) }
-    ensures states { states.new.items ≡ spliced at (joined_states
-        (take n (drop at states.old.items)) (take n (drop from others.old.items)))
-        states.old.items }
-    ensures others { others.new.items
-        ≡ spliced from (fresh_states prototypes.now) others.old.items }
-    ensures capacity { vec_capacity states.new ≡ vec_capacity states.old }
-    ensures others_capacity { vec_capacity others.new ≡ vec_capacity others.old }
-{
-    join_states(
-        &mut states[at..at + n],
-        &mut others[from..from + n],
-        prototypes,
-    );
-}
-
 impl Groups {
     /// Takes the rows of a group of others into the group at an index. The other group is then one
     /// without rows, of the same key. It takes no memory.
@@ -74,15 +42,7 @@ impl Groups {
         ensures room { KeepsRoom self.old self.new }
         ensures others_room { KeepsRoom other.old other.new }
     {
-        let n = self.prototypes.len();
-        join_at(
-            &mut self.states,
-            index * n,
-            &mut other.states,
-            from * n,
-            n,
-            &self.prototypes,
-        );
+        self.states.join(index, &mut other.states, from);
         let place = take_place(&mut other.entries, &mut other.held, from);
         put_place(&mut self.entries, &mut self.held, index, place);
     }

@@ -1,69 +1,44 @@
 //! Rows that are lent to the running aggregates of one group: only a text that is kept is copied.
 
-ghost use Rattle.std.specs.Prelude.{◌≡◌, ◌+◌, ◌-◌, ◌<◌, ◌≤◌, ◌^◌, ◌∷◌, ◌++◌, [], IsOk, OnErr, OnOk, drop, false, if◌then◌else◌, length, slice_index_or, take, true, vec_capacity};
-ghost use Rattle.std.specs.List.{list_any};
+ghost use Rattle.std.specs.Prelude.{◌≡◌, ◌+◌, ◌-◌, ◌<◌, ◌^◌, ◌∷◌, ◌++◌, [], ℕ, IsOk, OnErr, OnOk, false, if◌then◌else◌, length, slice_index_or, take, true};
 ghost use Rattle.pipe_columns.specs.declared.any_value.AnyValue.{AnyValue};
-ghost use Rattle.pipe_columns.specs.declared.place.Place.{Place};
 ghost use Rattle.pipe_columns.specs.Frame.{value_at};
 ghost use Rattle.pipe_inputs.specs.ChunkRows.{row_at};
+ghost use Rattle.pipe_kinds.specs.Keeping.{keeps_value};
+ghost use Rattle.pipe_kinds.specs.ManyStates.{state_of, states_in, with_state_of, with_states};
 ghost use Rattle.pipe_running.specs.GroupStates.{fed_from, StatesSeen, TakesFrom};
 ghost use Rattle.pipe_running.specs.Lent.{keeps_text};
 ghost use Rattle.pipe_running.specs.States.{after_value, seen, takes};
-ghost use Rattle.pipe_groups.specs.GroupRuns.{keeps_value};
-ghost use Rattle.pipe_groups.specs.Layout.{spliced};
 ghost use Rattle.pipe_groups.specs.Texts.{kept_texts};
 
-use pipe_aggs::{AggregateFn, AggregateFunction};
 use pipe_columns::{AnyValue, Place};
 use pipe_inputs::ChunkRows;
+use pipe_kinds::States;
 use std::alloc::AllocError;
 
-/// Whether a running aggregate may keep a text: a first or a last alone does.
-#[inline(always)]
-fn may_keep(state: &AggregateFunction) -> bool
-    ensures { result ≡ keeps_value state.now }
-{
-    match state {
-        AggregateFunction::First(_) | AggregateFunction::Last(_) => true,
-        _ => false,
-    }
-}
-
-/// Whether one of running aggregates may keep a text.
-#[inline(always)]
-fn one_may_keep(states: &[AggregateFunction]) -> bool
-    ensures { result ≡ list_any keeps_value states.now }
-{
-    for state in states {
-        if may_keep(state) {
-            return true;
-        }
-    }
-    false
-}
-
-/// Copies the input at a position, if it is a text that is kept.
+/// Copies the input of a running aggregate, if it is a text that is kept.
 fn copy_text(
     copies: &mut Vec<AnyValue>,
-    state: &AggregateFunction,
+    states: &States,
+    index: usize,
+    j: usize,
     rows: &ChunkRows<'_>,
     row: usize,
-    j: usize,
     place: Place,
 ) -> Result<(), AllocError>
     requires there { row < length rows.now }
+    requires within { index < length states.now.groups }
+    requires one { j < length states.now.fresh }
     ensures ok { OnOk result (let v = value_at (row_at rows.now row).inputs j in
-        copies.new.items
-        ≡ copies.old.items ++ (if keeps_text place v state.now then v ∷ [] else [])) }
-    ensures plain { keeps_text place (value_at (row_at rows.now row).inputs j) state.now ≡ false
-        → IsOk result }
+        copies.new.items ≡ copies.old.items
+        ++ (if keeps_text place v (state_of states.now index j) then v ∷ [] else [])) }
+    ensures plain { keeps_text place (value_at (row_at rows.now row).inputs j)
+        (state_of states.now index j) ≡ false → IsOk result }
 {
-    if may_keep(state) {
-        let value = rows.input(row, j);
-        if state.keeps_text(place, value) {
-            let copy = value.try_clone(*copies.allocator())?;
-            copies.push(copy)?;
-        }
+    let value = rows.input(row, j);
+    if states.keeps_text(index, j, place, value) {
+        let copy = value.try_clone(*copies.allocator())?;
+        copies.push(copy)?;
     }
     Ok(())
 }
@@ -71,143 +46,148 @@ fn copy_text(
 /// Copies the texts of a row that are kept, the last one first.
 fn copy_texts(
     copies: &mut Vec<AnyValue>,
-    states: &[AggregateFunction],
+    states: &States,
+    index: usize,
     rows: &ChunkRows<'_>,
     row: usize,
     place: Place,
 ) -> Result<(), AllocError>
     requires there { row < length rows.now }
+    requires within { index < length states.now.groups }
     ensures ok { OnOk result (copies.new.items
-        ≡ kept_texts place 0 (row_at rows.now row).inputs states.now) }
-    ensures plain { kept_texts place 0 (row_at rows.now row).inputs states.now ≡ []
-        → IsOk result }
+        ≡ kept_texts place 0 (row_at rows.now row).inputs (states_in states.now index)) }
+    ensures plain { kept_texts place 0 (row_at rows.now row).inputs (states_in states.now index)
+        ≡ [] → IsOk result }
 {
     copies.clear();
-    let mut j = states.len();
+    let mut j = states.width();
     while 0 < j {
         j -= 1;
-        copy_text(copies, &states[j], rows, row, j, place)?;
+        copy_text(copies, states, index, j, rows, row, place)?;
     }
     Ok(())
 }
 
 /// Feeds a value that is lent, or its copy, which is the last one, if it is a text that is kept.
-#[inline(always)]
 fn lend_value(
-    state: &mut AggregateFunction,
+    states: &mut States,
+    index: usize,
+    j: usize,
     copies: &mut Vec<AnyValue>,
     place: Place,
     value: &AnyValue,
 )
-    requires taken { takes state.old value.now ≡ true }
-    requires few { seen state.old + 1 < 2 ^ 32 }
-    requires copied { keeps_text place value.now state.old ≡ true → 0 < length copies.old.items }
-    requires copy { keeps_text place value.now state.old ≡ true → (d : AnyValue)
+    requires within { index < length states.old.groups }
+    requires one { j < length states.old.fresh }
+    requires taken { takes (state_of states.old index j) value.now ≡ true }
+    requires few { seen (state_of states.old index j) + 1 < 2 ^ 32 }
+    requires copied { keeps_text place value.now (state_of states.old index j) ≡ true
+        → 0 < length copies.old.items }
+    requires copy { keeps_text place value.now (state_of states.old index j) ≡ true
+        → (d : AnyValue)
         → slice_index_or copies.old.items (length copies.old.items - 1) d ≡ value.now }
-    ensures state { state.new ≡ after_value place value.now state.old }
-    ensures copies { copies.new.items ≡ (if keeps_text place value.now state.old
+    ensures states { states.new ≡ with_state_of index j
+        (after_value place value.now (state_of states.old index j)) states.old }
+    ensures copies { copies.new.items
+        ≡ (if keeps_text place value.now (state_of states.old index j)
         then take (length copies.old.items - 1) copies.old.items else copies.old.items) }
 {
-    if state.keeps_text(place, value) {
-        state.pre_agg(place, copies.pop().unwrap());
+    if states.keeps_text(index, j, place, value) {
+        states.feed(index, j, place, copies.pop().unwrap());
     } else {
-        state.pre_agg_lent(place, value);
+        states.feed_lent(index, j, place, value);
     }
 }
 
 /// Feeds each its input of a row, of which the texts that are kept are copied.
-fn lend_states(
-    states: &mut [AggregateFunction],
+fn lend_copies(
+    states: &mut States,
+    index: usize,
     copies: &mut Vec<AnyValue>,
     rows: &ChunkRows<'_>,
     row: usize,
     place: Place,
 )
     requires there { row < length rows.now }
-    requires few { StatesSeen (2 ^ 32 - 2) states.old }
-    requires taken { TakesFrom 0 states.old (row_at rows.now row).inputs }
+    requires within { index < length states.old.groups }
+    requires few { StatesSeen (2 ^ 32 - 2) (states_in states.old index) }
+    requires taken { TakesFrom 0 (states_in states.old index) (row_at rows.now row).inputs }
     requires copied { copies.old.items
-        ≡ kept_texts place 0 (row_at rows.now row).inputs states.old }
-    ensures { states.new ≡ fed_from place 0 (row_at rows.now row).inputs states.old }
+        ≡ kept_texts place 0 (row_at rows.now row).inputs (states_in states.old index) }
+    ensures { states.new ≡ with_states index (fed_from place 0 (row_at rows.now row).inputs
+        (states_in states.old index)) states.old }
 {
-    for j in 0..states.len() {
+    for j in 0..states.width() {
         let value = rows.input(row, j);
-        let state = &mut states[j];
-        lend_value(state, copies, place, value);
+        lend_value(states, index, j, copies, place, value);
     }
 }
 
-/// Feeds each its input of a row, where none of them keeps a text.
+/// Feeds each its input of a row, where none of them keeps a value.
 #[inline(always)]
-fn lend_plain(states: &mut [AggregateFunction], rows: &ChunkRows<'_>, row: usize, place: Place)
+fn lend_plain(states: &mut States, index: usize, rows: &ChunkRows<'_>, row: usize, place: Place)
     requires there { row < length rows.now }
-    requires plain { list_any keeps_value states.old ≡ false }
-    requires few { StatesSeen (2 ^ 32 - 2) states.old }
-    requires taken { TakesFrom 0 states.old (row_at rows.now row).inputs }
-    ensures { states.new ≡ fed_from place 0 (row_at rows.now row).inputs states.old }
+    requires within { index < length states.old.groups }
+    requires plain { (j : ℕ) → keeps_value (state_of states.old index j) ≡ false }
+    requires few { StatesSeen (2 ^ 32 - 2) (states_in states.old index) }
+    requires taken { TakesFrom 0 (states_in states.old index) (row_at rows.now row).inputs }
+    ensures { states.new ≡ with_states index (fed_from place 0 (row_at rows.now row).inputs
+        (states_in states.old index)) states.old }
 {
-    for j in 0..states.len() {
+    for j in 0..states.width() {
         let value = rows.input(row, j);
-        let state = &mut states[j];
-        state.pre_agg_lent(place, value);
+        states.feed_lent(index, j, place, value);
     }
 }
 
-/// Feeds n running aggregates from a position on the inputs of a row, of which the texts that are kept
-/// are copied first, or changes none.
+/// Feeds each its input of a row, of which the texts that are kept are copied first, or changes none.
 #[inline(never)]
 fn lend_copied(
-    states: &mut Vec<AggregateFunction>,
-    at: usize,
-    n: usize,
+    states: &mut States,
+    index: usize,
     copies: &mut Vec<AnyValue>,
     rows: &ChunkRows<'_>,
     row: usize,
     place: Place,
 ) -> Result<(), AllocError>
     requires there { row < length rows.now }
-    requires within { at + n ≤ length states.old.items }
-    requires few { StatesSeen (2 ^ 32 - 2) (take n (drop at states.old.items)) }
-    requires taken { TakesFrom 0 (take n (drop at states.old.items))
-        (row_at rows.now row).inputs }
-    ensures ok { OnOk result (states.new.items ≡ spliced at (fed_from place 0
-        (row_at rows.now row).inputs (take n (drop at states.old.items))) states.old.items) }
-    ensures err { OnErr result (states.new.items ≡ states.old.items) }
-    ensures capacity { vec_capacity states.new ≡ vec_capacity states.old }
-    ensures plain { kept_texts place 0 (row_at rows.now row).inputs
-        (take n (drop at states.old.items)) ≡ [] → IsOk result }
+    requires within { index < length states.old.groups }
+    requires few { StatesSeen (2 ^ 32 - 2) (states_in states.old index) }
+    requires taken { TakesFrom 0 (states_in states.old index) (row_at rows.now row).inputs }
+    ensures ok { OnOk result (states.new ≡ with_states index (fed_from place 0
+        (row_at rows.now row).inputs (states_in states.old index)) states.old) }
+    ensures err { OnErr result (states.new ≡ states.old) }
+    ensures plain { kept_texts place 0 (row_at rows.now row).inputs (states_in states.old index)
+        ≡ [] → IsOk result }
 {
-    copy_texts(copies, &states[at..at + n], rows, row, place)?;
-    lend_states(&mut states[at..at + n], copies, rows, row, place);
+    copy_texts(copies, states, index, rows, row, place)?;
+    lend_copies(states, index, copies, rows, row, place);
     Ok(())
 }
 
-/// Feeds n running aggregates from a position on the inputs of a row, or changes none.
+/// Feeds each running aggregate of a group its input of a row, or changes none.
 #[inline(always)]
-pub(crate) fn lend_at(
-    states: &mut Vec<AggregateFunction>,
-    at: usize,
-    n: usize,
+pub(crate) fn lend_row(
+    states: &mut States,
+    index: usize,
     copies: &mut Vec<AnyValue>,
     rows: &ChunkRows<'_>,
     row: usize,
     place: Place,
 ) -> Result<(), AllocError>
     requires there { row < length rows.now }
-    requires within { at + n ≤ length states.old.items }
-    requires few { StatesSeen (2 ^ 32 - 2) (take n (drop at states.old.items)) }
-    requires taken { TakesFrom 0 (take n (drop at states.old.items))
-        (row_at rows.now row).inputs }
-    ensures ok { OnOk result (states.new.items ≡ spliced at (fed_from place 0
-        (row_at rows.now row).inputs (take n (drop at states.old.items))) states.old.items) }
-    ensures err { OnErr result (states.new.items ≡ states.old.items) }
-    ensures capacity { vec_capacity states.new ≡ vec_capacity states.old }
-    ensures plain { kept_texts place 0 (row_at rows.now row).inputs
-        (take n (drop at states.old.items)) ≡ [] → IsOk result }
+    requires within { index < length states.old.groups }
+    requires few { StatesSeen (2 ^ 32 - 2) (states_in states.old index) }
+    requires taken { TakesFrom 0 (states_in states.old index) (row_at rows.now row).inputs }
+    ensures ok { OnOk result (states.new ≡ with_states index (fed_from place 0
+        (row_at rows.now row).inputs (states_in states.old index)) states.old) }
+    ensures err { OnErr result (states.new ≡ states.old) }
+    ensures plain { kept_texts place 0 (row_at rows.now row).inputs (states_in states.old index)
+        ≡ [] → IsOk result }
 {
-    if one_may_keep(&states[at..at + n]) {
-        return lend_copied(states, at, n, copies, rows, row, place);
+    if states.keeps_values() {
+        return lend_copied(states, index, copies, rows, row, place);
     }
-    lend_plain(&mut states[at..at + n], rows, row, place);
+    lend_plain(states, index, rows, row, place);
     Ok(())
 }

@@ -1,85 +1,61 @@
 //! Room for more groups, and groups that come and go.
 
-ghost use Rattle.std.specs.Prelude.{◌≡◌, ◌+◌, ◌*◌, ◌≤◌, ◌<◌, ◌∷◌, ◌++◌, [], ℕ, IfOk, IsOk, None, OnErr, OnOk, length, vec_capacity, vec_len};
-ghost use Rattle.pipe_running.specs.GroupStates.{fresh_states};
+ghost use Rattle.std.specs.Prelude.{◌≡◌, ◌+◌, ◌≤◌, ◌<◌, ◌∷◌, ◌++◌, [], ℕ, IfOk, IsOk, None, OnErr, OnOk, length, vec_capacity, vec_len};
+ghost use Rattle.pipe_kinds.specs.ManyStates.{with_fresh};
 ghost use Rattle.pipe_groups.specs.Groups.{Covers, HasGroups, KeepsRoom, new_group};
 
 use crate::groups::{Entry, Groups};
-use pipe_aggs::AggregateFunction;
+use pipe_kinds::States;
 use std::alloc::AllocError;
 
-/// Makes memory for so many more entries of n running aggregates each, with so many bytes in all.
+/// Makes memory for so many more entries with their running aggregates, with so many bytes in all.
 fn reserve_all(
     bytes: &mut Vec<u8>,
     entries: &mut Vec<Entry>,
-    states: &mut Vec<AggregateFunction>,
-    n: usize,
+    states: &mut States,
     groups: usize,
     key_bytes: usize,
 ) -> Result<(), AllocError>
     ensures bytes { bytes.new.items ≡ bytes.old.items }
     ensures entries { entries.new.items ≡ entries.old.items }
-    ensures states { states.new.items ≡ states.old.items }
+    ensures states { states.new.groups ≡ states.old.groups }
+    ensures like { states.new.fresh ≡ states.old.fresh }
     ensures keeps_bytes { vec_capacity bytes.old ≤ vec_capacity bytes.new }
     ensures keeps_entries { vec_capacity entries.old ≤ vec_capacity entries.new }
-    ensures keeps_states { vec_capacity states.old ≤ vec_capacity states.new }
+    ensures keeps_states { states.old.room ≤ states.new.room }
     ensures for_bytes { OnOk result (vec_len bytes.new + key_bytes ≤ vec_capacity bytes.new) }
     ensures for_entries { OnOk result (vec_len entries.new + groups ≤ vec_capacity entries.new) }
-    ensures for_states { OnOk result
-        (vec_len states.new + groups * n ≤ vec_capacity states.new) }
+    ensures for_states { OnOk result (groups ≤ states.new.room) }
     ensures succeeds { vec_len bytes.old + key_bytes ≤ vec_capacity bytes.old
         → vec_len entries.old + groups ≤ vec_capacity entries.old
-        → vec_len states.old + groups * n ≤ vec_capacity states.old → IsOk result }
+        → groups ≤ states.old.room → IsOk result }
 {
-    let Some(more) = groups.checked_mul(n) else {
-        return Err(AllocError);
-    };
     bytes.reserve(key_bytes)?;
     entries.reserve(groups)?;
-    states.reserve(more)
-}
-
-/// Appends the running aggregates of no rows, where there is room.
-fn push_fresh(states: &mut Vec<AggregateFunction>, prototypes: &[AggregateFunction])
-    requires { vec_len states.old + length prototypes.now ≤ vec_capacity states.old }
-    ensures items { states.new.items ≡ states.old.items ++ fresh_states prototypes.now }
-    ensures capacity { vec_capacity states.new ≡ vec_capacity states.old }
-{
-    for prototype in prototypes {
-        states.push_reserved(prototype.split());
-    }
+    states.reserve(groups)
 }
 
 /// Appends the entry of a key without rows, where there is room.
-fn push_entry(
-    bytes: &mut Vec<u8>,
-    entries: &mut Vec<Entry>,
-    states: &mut Vec<AggregateFunction>,
-    prototypes: &[AggregateFunction],
-    key: &[u8],
-)
+fn push_entry(bytes: &mut Vec<u8>, entries: &mut Vec<Entry>, states: &mut States, key: &[u8])
     requires for_bytes { vec_len bytes.old + length key.now ≤ vec_capacity bytes.old }
     requires for_entries { vec_len entries.old < vec_capacity entries.old }
-    requires for_states { vec_len states.old + length prototypes.now ≤ vec_capacity states.old }
+    requires for_states { 0 < states.old.room }
     ensures bytes { bytes.new.items ≡ bytes.old.items ++ key.now }
     ensures entries { entries.new.items ≡ entries.old.items ++ record {
-      start = length bytes.old.items;
-      len = length key.now;
+      end = length bytes.old.items + length key.now;
       first = None;
     } ∷ [] }
-    ensures states { states.new.items ≡ states.old.items ++ fresh_states prototypes.now }
+    ensures states { states.new ≡ with_fresh states.old }
     ensures keeps_bytes { vec_capacity bytes.old ≤ vec_capacity bytes.new }
     ensures keeps_entries { vec_capacity entries.old ≤ vec_capacity entries.new }
-    ensures keeps_states { vec_capacity states.old ≤ vec_capacity states.new }
 {
+    bytes.extend_from_slice(key).unwrap();
     let entry = Entry {
-        start: bytes.len(),
-        len: key.len(),
+        end: bytes.len(),
         first: None,
     };
-    bytes.extend_from_slice(key).unwrap();
     entries.push_reserved(entry);
-    push_fresh(states, prototypes);
+    states.push_fresh();
 }
 
 impl Groups {
@@ -94,7 +70,6 @@ impl Groups {
             &mut self.bytes,
             &mut self.entries,
             &mut self.states,
-            self.prototypes.len(),
             groups,
             key_bytes,
         )
@@ -113,13 +88,7 @@ impl Groups {
     {
         self.make_room(1, key.len())?;
         let index = self.entries.len();
-        push_entry(
-            &mut self.bytes,
-            &mut self.entries,
-            &mut self.states,
-            &self.prototypes,
-            key,
-        );
+        push_entry(&mut self.bytes, &mut self.entries, &mut self.states, key);
         Ok(index)
     }
 

@@ -1,42 +1,23 @@
 //! The running aggregates of one group.
 
-ghost use Rattle.std.specs.Prelude.{◌≡◌, ◌-◌, ◌^◌, length};
-ghost use Rattle.pipe_running.specs.GroupStates.{fed_from, fresh_states, joined_states, StatesSeen, TakesFrom};
-ghost use Rattle.pipe_groups.specs.Groups.{AreJoinable};
+ghost use Rattle.std.specs.Prelude.{◌≡◌, ◌-◌, ◌<◌, ◌^◌, length};
+ghost use Rattle.pipe_kinds.specs.ManyStates.{states_in, with_states};
+ghost use Rattle.pipe_running.specs.GroupStates.{fed_from, StatesSeen, TakesFrom};
 
-use pipe_aggs::{AggregateFn, AggregateFunction};
 use pipe_columns::Place;
+use pipe_kinds::States;
 use pipe_spill::Values;
-use std::mem;
 
 /// Feeds each its input of a row.
-pub(crate) fn feed_states(states: &mut [AggregateFunction], place: Place, mut values: Values)
-    requires few { StatesSeen (2 ^ 32 - 2) states.old }
-    requires taken { TakesFrom 0 states.old values }
-    ensures { states.new ≡ fed_from place 0 values states.old }
+pub(crate) fn feed_states(states: &mut States, index: usize, place: Place, mut values: Values)
+    requires within { index < length states.old.groups }
+    requires few { StatesSeen (2 ^ 32 - 2) (states_in states.old index) }
+    requires taken { TakesFrom 0 (states_in states.old index) values }
+    ensures { states.new ≡ with_states index
+        (fed_from place 0 values (states_in states.old index)) states.old }
 {
-    for j in 0..states.len() {
+    for j in 0..states.width() {
         let value = values.take_out(j);
-        let state = &mut states[j];
-        state.pre_agg(place, value);
-    }
-}
-
-/// Takes over what others have seen, which are then as the prototypes.
-pub(crate) fn join_states(
-    states: &mut [AggregateFunction],
-    others: &mut [AggregateFunction],
-    prototypes: &[AggregateFunction],
-)
-    requires joinable { AreJoinable states.old others.old }
-    requires size { length states.old ≡ length prototypes.now }
-    requires others_size { length others.old ≡ length prototypes.now }
-    ensures states { states.new ≡ joined_states states.old others.old }
-    ensures others { others.new ≡ fresh_states prototypes.now }
-{
-    for j in 0..prototypes.len() {
-        let other = mem::replace(&mut others[j], prototypes[j].split());
-        let state = &mut states[j];
-        state.combine(other);
+        states.feed(index, j, place, value);
     }
 }

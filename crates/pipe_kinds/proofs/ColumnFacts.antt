@@ -1,5 +1,5 @@
 -- A column as contracts see it.
-use Rattle.std.proofs.Common.{◌≡◌, ◌∙◌, ℕ, List, set, refl}
+use Rattle.std.proofs.Common.{◌≡◌, ℕ, List, set, refl}
 use Rattle.pipe_running.specs.declared.function.AggregateFunction.{AggregateFunction}
 use Rattle.pipe_kinds.specs.Columns.{ColumnStates, with_state}
 

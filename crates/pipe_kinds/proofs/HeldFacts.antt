@@ -1,7 +1,7 @@
 -- Which running aggregates keep values, and what serves as well as a value to the others.
 use Rattle.std.specs.Prelude.{Vec}
 use Rattle.std.specs.declared.alloc.Global.{Global}
-use Rattle.std.proofs.Common.{◌≡◌, ℕ, zero, suc, Bool, true, false, List, [], ◌∷◌, map, refl}
+use Rattle.std.proofs.Common.{◌≡◌, ℕ, zero, suc, false, List, [], ◌∷◌, map, refl}
 use Rattle.pipe_columns.specs.declared.any_value.AnyValue.{AnyValue}
 use Rattle.pipe_columns.specs.declared.any_value.AnyValue.TheVariants as av
 use Rattle.pipe_columns.specs.declared.data_type.DataType.{DataType}
@@ -12,7 +12,7 @@ use Rattle.pipe_running.specs.Lent.{keeps_text}
 use Rattle.pipe_running.specs.States.{after_value, takes}
 use Rattle.pipe_kinds.specs.declared.kind.KindStates.{KindStates}
 use Rattle.pipe_kinds.specs.declared.kind.KindStates.TheVariants as kind
-use Rattle.pipe_kinds.specs.Columns.{no_state, state_at}
+use Rattle.pipe_kinds.specs.Columns.{state_at}
 use Rattle.pipe_kinds.specs.Keeping.{keeps_value, plain_value}
 use Rattle.pipe_kinds.specs.Kinds.{is_held, states_of}
 

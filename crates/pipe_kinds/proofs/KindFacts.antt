@@ -1,13 +1,8 @@
 -- States of one kind in a list, seen as running aggregates of any kind.
-use Rattle.std.proofs.Common.{◌≡◌, ◌∙◌, ℕ, ◌+◌, ◌<◌, Bool, List, length, map, get_or, set, sym, ap, arith}
+use Rattle.std.proofs.Common.{◌≡◌, ◌∙◌, ℕ, ◌<◌, List, length, map, get_or, set, sym, ap, arith}
 use Rattle.std.proofs.lemmas.List.{get_or-map, length-map, map-set}
-use Rattle.pipe_columns.specs.declared.any_value.AnyValue.{AnyValue}
-use Rattle.pipe_columns.specs.declared.place.Place.{Place}
 use Rattle.pipe_running.specs.declared.function.AggregateFunction.{AggregateFunction}
-use Rattle.pipe_running.specs.declared.interface.Finalized.{Finalized}
-use Rattle.pipe_running.specs.States as whole
 use Rattle.pipe_kinds.specs.Columns.{no_state, state_at}
-use Rattle.pipe_kinds.specs.KindState.{IsKind}
 
 module _ {S : Type 0} (function : S → AggregateFunction) (xs : List S) (i : ℕ) (s : S) where
   -- the state at an index of what they are is what the state there is

@@ -1,5 +1,5 @@
 -- Columns of running aggregates: each holds the states of all groups.
-use Rattle.std.specs.Prelude.{ℕ, ◌-◌, List, [], ◌∷◌, ◌++◌, slice_index_or, slice_set, Vec, vec_capacity, vec_len}
+use Rattle.std.specs.Prelude.{ℕ, ◌+◌, ◌-◌, List, [], ◌∷◌, ◌++◌, length, slice_index_or, slice_set, Vec, vec_capacity, vec_len}
 use Rattle.pipe_running.specs.Transitions.{empty_count}
 use Rattle.pipe_running.specs.declared.function.AggregateFunction.{AggregateFunction}
 use Rattle.pipe_running.specs.declared.function.AggregateFunction.TheVariants as function
@@ -28,6 +28,22 @@ pushed c = record {
   fresh = c.fresh;
   states = c.states ++ c.fresh ∷ [];
   room = c.room - 1;
+}
+
+-- a column without states, whose memory is there for others
+abbrev pub cleared : ColumnStates → ColumnStates
+cleared c = record {
+  fresh = c.fresh;
+  states = [];
+  room = c.room + length c.states;
+}
+
+-- a column without states and without memory
+abbrev pub released : ColumnStates → ColumnStates
+released c = record {
+  fresh = c.fresh;
+  states = [];
+  room = 0;
 }
 
 -- a column with the state at an index replaced

@@ -1,6 +1,6 @@
 -- The states of groups, all of one kind.
 use Rattle.std.specs.Prelude.{ℕ, Bool, true, false, List, map}
-use Rattle.pipe_native.specs.Native.{native_i8, native_i16, native_i32, native_i64, native_u8, native_u16, native_u32, native_u64}
+use Rattle.pipe_native.specs.Native.{native_i32, native_i64, native_u32, native_u64}
 use Rattle.pipe_running.specs.Transitions.{empty_count, empty_extreme, empty_first, empty_last, empty_mean, empty_sum}
 use Rattle.pipe_running.specs.declared.function.AggregateFunction.{AggregateFunction}
 use Rattle.pipe_running.specs.declared.function.AggregateFunction.TheVariants as function

@@ -3,3 +3,5 @@ pub mod Directions
 pub mod Keeping
 pub mod KindState
 pub mod Kinds
+pub mod ManyStates
+pub mod Stored

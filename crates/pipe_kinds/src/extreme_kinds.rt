@@ -4,6 +4,7 @@ ghost use Rattle.std.specs.Prelude.{refl};
 ghost use Rattle.pipe_running.specs.declared.function.AggregateFunction.TheVariants as function;
 
 use crate::kind_state::KindState;
+use crate::plain_state::PlainState;
 use pipe_running::MinMaxAgg;
 
 impl KindState for MinMaxAgg<u8> {
@@ -20,6 +21,10 @@ impl KindState for MinMaxAgg<u8> {
     } };
 }
 
+impl PlainState for MinMaxAgg<u8> {
+    ghost keeps_none = { λ s. refl };
+}
+
 impl KindState for MinMaxAgg<u16> {
     ghost as_function = { function.MinMaxU16 };
 
@@ -32,6 +37,10 @@ impl KindState for MinMaxAgg<u16> {
       fresh_is = λ s. refl;
       given_is = λ s. refl;
     } };
+}
+
+impl PlainState for MinMaxAgg<u16> {
+    ghost keeps_none = { λ s. refl };
 }
 
 impl KindState for MinMaxAgg<u32> {
@@ -48,6 +57,10 @@ impl KindState for MinMaxAgg<u32> {
     } };
 }
 
+impl PlainState for MinMaxAgg<u32> {
+    ghost keeps_none = { λ s. refl };
+}
+
 impl KindState for MinMaxAgg<u64> {
     ghost as_function = { function.MinMaxU64 };
 
@@ -60,6 +73,10 @@ impl KindState for MinMaxAgg<u64> {
       fresh_is = λ s. refl;
       given_is = λ s. refl;
     } };
+}
+
+impl PlainState for MinMaxAgg<u64> {
+    ghost keeps_none = { λ s. refl };
 }
 
 impl KindState for MinMaxAgg<i8> {
@@ -76,6 +93,10 @@ impl KindState for MinMaxAgg<i8> {
     } };
 }
 
+impl PlainState for MinMaxAgg<i8> {
+    ghost keeps_none = { λ s. refl };
+}
+
 impl KindState for MinMaxAgg<i16> {
     ghost as_function = { function.MinMaxI16 };
 
@@ -88,6 +109,10 @@ impl KindState for MinMaxAgg<i16> {
       fresh_is = λ s. refl;
       given_is = λ s. refl;
     } };
+}
+
+impl PlainState for MinMaxAgg<i16> {
+    ghost keeps_none = { λ s. refl };
 }
 
 impl KindState for MinMaxAgg<i32> {
@@ -104,6 +129,10 @@ impl KindState for MinMaxAgg<i32> {
     } };
 }
 
+impl PlainState for MinMaxAgg<i32> {
+    ghost keeps_none = { λ s. refl };
+}
+
 impl KindState for MinMaxAgg<i64> {
     ghost as_function = { function.MinMaxI64 };
 
@@ -116,4 +145,8 @@ impl KindState for MinMaxAgg<i64> {
       fresh_is = λ s. refl;
       given_is = λ s. refl;
     } };
+}
+
+impl PlainState for MinMaxAgg<i64> {
+    ghost keeps_none = { λ s. refl };
 }

@@ -1,6 +1,6 @@
 //! The states of groups, all of one kind.
 
-ghost use Rattle.std.specs.Prelude.{◌≡◌, ◌+◌, ◌<◌, ◌≤◌, ◌∷◌, ◌++◌, [], IsOk, OnOk};
+ghost use Rattle.std.specs.Prelude.{◌≡◌, ◌+◌, ◌<◌, ◌≤◌, ◌∷◌, ◌++◌, [], IsOk, OnOk, length};
 ghost use Rattle.pipe_running.specs.States.{fresh};
 ghost use Rattle.pipe_kinds.specs.Kinds.{fresh_of, room_of, states_of};
 
@@ -191,7 +191,7 @@ impl KindStates {
     pub(crate) fn clear(&mut self)
         ensures states { states_of self.new ≡ [] }
         ensures fresh { fresh_of self.new ≡ fresh_of self.old }
-        ensures room { room_of self.old ≤ room_of self.new }
+        ensures room { room_of self.new ≡ room_of self.old + length (states_of self.old) }
     {
         each_kind!(self, states => clear_states(states))
     }

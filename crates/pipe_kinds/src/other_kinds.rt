@@ -4,6 +4,7 @@ ghost use Rattle.std.specs.Prelude.{refl};
 ghost use Rattle.pipe_running.specs.declared.function.AggregateFunction.TheVariants as function;
 
 use crate::kind_state::KindState;
+use crate::plain_state::PlainState;
 use pipe_running::{AggregateFunction, NullAgg};
 
 impl KindState for NullAgg {
@@ -18,6 +19,10 @@ impl KindState for NullAgg {
       fresh_is = λ s. refl;
       given_is = λ s. refl;
     } };
+}
+
+impl PlainState for NullAgg {
+    ghost keeps_none = { λ s. refl };
 }
 
 impl KindState for AggregateFunction {

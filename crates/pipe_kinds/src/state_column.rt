@@ -1,9 +1,11 @@
 //! A column: the states of all groups for one aggregate.
 
-ghost use Rattle.std.specs.Prelude.{◌≡◌, ◌+◌, ◌<◌, ◌≤◌, ◌^◌, [], false, IsOk, OnOk, length, slice_set, true};
-ghost use Rattle.pipe_running.specs.Lent.{keeps_text};
-ghost use Rattle.pipe_running.specs.States.{after_value, fresh, given, seen, takes};
-ghost use Rattle.pipe_kinds.specs.Columns.{pushed, state_at, with_state};
+ghost use Rattle.std.specs.Prelude.{◌≡◌, ◌+◌, ◌<◌, ◌≤◌, ◌^◌, [], false, IsOk, None, OnOk, length, slice_set, true};
+ghost use Rattle.std.specs.List.{list_all};
+ghost use Rattle.pipe_running.specs.Lent.{keeps_text, text_of_run};
+ghost use Rattle.pipe_running.specs.Runs.{after_run};
+ghost use Rattle.pipe_running.specs.States.{after_value, alike, fresh, given, joined, seen, takes};
+ghost use Rattle.pipe_kinds.specs.Columns.{cleared, pushed, released, state_at, with_state};
 ghost use Rattle.pipe_kinds.specs.Keeping.{keeps_value};
 
 use crate::kind::KindStates;
@@ -65,9 +67,7 @@ impl StateColumn {
 
     /// Lets all states go. The room stays.
     pub fn clear(&mut self)
-        ensures states { self.new.states ≡ [] }
-        ensures fresh { self.new.fresh ≡ self.old.fresh }
-        ensures room { self.old.room ≤ self.new.room }
+        ensures { self.new ≡ cleared self.old }
     {
         self.kind.clear();
     }
@@ -122,5 +122,55 @@ impl StateColumn {
             ≡ with_state group (fresh (state_at self.old.states group)) self.old }
     {
         self.kind.finalize(group)
+    }
+
+    /// For how many more groups there is memory.
+    pub fn room(&self) -> usize
+        ensures { result ≡ self.now.room }
+    {
+        self.kind.room()
+    }
+
+    /// Lets all states go, and gives their memory back.
+    pub fn release(&mut self)
+        ensures { self.new ≡ released self.old }
+    {
+        self.kind.release();
+    }
+
+    /// Feeds the state of a group the values of rows that follow one another, which are lent, and
+    /// among which is no text that it would keep.
+    pub fn feed_run(&mut self, group: usize, chunk: u32, row: u32, values: &[AnyValue])
+        requires within { group < length self.old.states }
+        requires taken { list_all (λ v. takes (state_at self.old.states group) v) values.now ≡ true }
+        requires few { seen (state_at self.old.states group) + length values.now < 2 ^ 32 }
+        requires rows { row + length values.now ≤ 2 ^ 32 }
+        requires plain { text_of_run chunk row values.now (state_at self.old.states group) ≡ None }
+        ensures { self.new ≡ with_state group (after_run after_value chunk row values.now
+            (state_at self.old.states group)) self.old }
+    {
+        self.kind.feed_run(group, chunk, row, values);
+    }
+
+    /// Takes the state of a group of another column over, which is then as before any value.
+    pub fn join(&mut self, group: usize, other: &mut StateColumn, from: usize)
+        requires within { group < length self.old.states }
+        requires from { from < length other.old.states }
+        requires fresh { other.old.fresh ≡ self.old.fresh }
+        requires alike { alike (state_at self.old.states group) (state_at other.old.states from)
+            ≡ true }
+        requires few { seen (state_at self.old.states group) + seen (state_at other.old.states from)
+            < 2 ^ 32 }
+        ensures states { self.new ≡ with_state group
+            (joined (state_at self.old.states group) (state_at other.old.states from)) self.old }
+        ensures others { other.new ≡ with_state from other.old.fresh other.old }
+    {
+        self.kind.join(group, &mut other.kind, from);
+    }
+
+    /// Reads a group's state, if there is one. Nothing changes.
+    #[inline(always)]
+    pub fn look(&self, group: usize) -> usize {
+        self.kind.look(group)
     }
 }

@@ -1,13 +1,14 @@
 //! States of one kind in a vector, seen as running aggregates of any kind.
 
 ghost use Rattle.std.specs.Prelude.{◌≡◌, ◌+◌, ◌<◌, ◌≤◌, ◌^◌, ◌∷◌, ◌++◌, [], IsOk, OnOk, length, map, slice_set, true};
-ghost use Rattle.pipe_running.specs.States.{after_value, fresh, given, seen, takes};
+ghost use Rattle.pipe_running.specs.States.{after_value, alike, fresh, given, joined, seen, takes};
 ghost use Rattle.pipe_kinds.specs.Columns.{room_in, state_at};
 
 use crate::kind_state::KindState;
 use pipe_columns::{AnyValue, Place};
-use pipe_running::Finalized;
+use pipe_running::{AggregateFunction, Finalized};
 use std::alloc::AllocError;
+use std::mem;
 
 /// Makes memory for so many more.
 pub(crate) fn reserve_states<A: KindState>(
@@ -35,7 +36,8 @@ pub(crate) fn push_state<A: KindState>(states: &mut Vec<A>, state: A)
 /// Lets all go. The room stays.
 pub(crate) fn clear_states<A: KindState>(states: &mut Vec<A>)
     ensures states { map A.as_function states.new.items ≡ [] }
-    ensures room { room_in states.old ≤ room_in states.new }
+    ensures room { room_in states.new
+        ≡ room_in states.old + length (map A.as_function states.old.items) }
 {
     states.clear();
 }
@@ -66,4 +68,57 @@ pub(crate) fn give_at<A: KindState>(states: &mut Vec<A>, at: usize) -> Finalized
 {
     let state = &mut states[at];
     state.finalize()
+}
+
+/// For how many more there is memory.
+pub(crate) fn room_left<A: KindState>(states: &Vec<A>) -> usize
+    ensures { result ≡ room_in states.now }
+{
+    states.capacity() - states.len()
+}
+
+/// Lets all go, and gives their memory back.
+pub(crate) fn release_states<A: KindState>(states: &mut Vec<A>)
+    ensures states { map A.as_function states.new.items ≡ [] }
+    ensures room { room_in states.new ≡ 0 }
+{
+    let alloc = *states.allocator();
+    *states = Vec::new(alloc);
+}
+
+/// Takes the one at an index of others over into that at one, and leaves a new one in its place.
+pub(crate) fn join_at<A: KindState>(
+    states: &mut Vec<A>,
+    at: usize,
+    others: &mut Vec<A>,
+    from: usize,
+    new: A,
+)
+    requires within { at < length (map A.as_function states.old.items) }
+    requires from { from < length (map A.as_function others.old.items) }
+    requires alike { alike (state_at (map A.as_function states.old.items) at)
+        (state_at (map A.as_function others.old.items) from) ≡ true }
+    requires few { seen (state_at (map A.as_function states.old.items) at)
+        + seen (state_at (map A.as_function others.old.items) from) < 2 ^ 32 }
+    ensures states { map A.as_function states.new.items
+        ≡ slice_set (map A.as_function states.old.items) at
+        (joined (state_at (map A.as_function states.old.items) at)
+        (state_at (map A.as_function others.old.items) from)) }
+    ensures room { room_in states.new ≡ room_in states.old }
+    ensures others { map A.as_function others.new.items
+        ≡ slice_set (map A.as_function others.old.items) from (A.as_function new) }
+    ensures others_room { room_in others.new ≡ room_in others.old }
+{
+    let other = mem::replace(&mut others[from], new);
+    let state = &mut states[at];
+    state.combine(other);
+}
+
+/// Reads the running aggregate at an index, if there is one. Nothing changes.
+#[inline(always)]
+pub(crate) fn look_at(states: &[AggregateFunction], at: usize) -> usize {
+    match states.get(at) {
+        Some(AggregateFunction::Null(_)) => 1,
+        _ => 0,
+    }
 }

@@ -4,6 +4,7 @@ ghost use Rattle.std.specs.Prelude.{refl};
 ghost use Rattle.pipe_running.specs.declared.function.AggregateFunction.TheVariants as function;
 
 use crate::kind_state::KindState;
+use crate::plain_state::PlainState;
 use pipe_running::{CountAgg, MeanAgg, SumAgg};
 
 impl KindState for CountAgg<false> {
@@ -20,6 +21,10 @@ impl KindState for CountAgg<false> {
     } };
 }
 
+impl PlainState for CountAgg<false> {
+    ghost keeps_none = { λ s. refl };
+}
+
 impl KindState for CountAgg<true> {
     ghost as_function = { function.Len };
 
@@ -32,6 +37,10 @@ impl KindState for CountAgg<true> {
       fresh_is = λ s. refl;
       given_is = λ s. refl;
     } };
+}
+
+impl PlainState for CountAgg<true> {
+    ghost keeps_none = { λ s. refl };
 }
 
 impl KindState for SumAgg<u32> {
@@ -48,6 +57,10 @@ impl KindState for SumAgg<u32> {
     } };
 }
 
+impl PlainState for SumAgg<u32> {
+    ghost keeps_none = { λ s. refl };
+}
+
 impl KindState for SumAgg<u64> {
     ghost as_function = { function.SumU64 };
 
@@ -60,6 +73,10 @@ impl KindState for SumAgg<u64> {
       fresh_is = λ s. refl;
       given_is = λ s. refl;
     } };
+}
+
+impl PlainState for SumAgg<u64> {
+    ghost keeps_none = { λ s. refl };
 }
 
 impl KindState for SumAgg<i32> {
@@ -76,6 +93,10 @@ impl KindState for SumAgg<i32> {
     } };
 }
 
+impl PlainState for SumAgg<i32> {
+    ghost keeps_none = { λ s. refl };
+}
+
 impl KindState for SumAgg<i64> {
     ghost as_function = { function.SumI64 };
 
@@ -90,6 +111,10 @@ impl KindState for SumAgg<i64> {
     } };
 }
 
+impl PlainState for SumAgg<i64> {
+    ghost keeps_none = { λ s. refl };
+}
+
 impl KindState for MeanAgg<i128> {
     ghost as_function = { function.Mean };
 
@@ -102,4 +127,8 @@ impl KindState for MeanAgg<i128> {
       fresh_is = λ s. refl;
       given_is = λ s. refl;
     } };
+}
+
+impl PlainState for MeanAgg<i128> {
+    ghost keeps_none = { λ s. refl };
 }

@@ -18,8 +18,9 @@ use Rattle.pipe_states.specs.States.{StateSeen}
 use Rattle.pipe_states.specs.StateText.{state_text}
 use Rattle.pipe_states.specs.Together.{total_rows}
 use Rattle.pipe_summary.specs.Additions.{CanBeAdded, state_behind, states_with, told_with}
+use Rattle.pipe_summary.specs.Held.{IsRegrouped}
 use Rattle.pipe_summary.specs.InTurn.{AreInTurn, HoldsStates}
-use Rattle.pipe_summary.specs.Summed.{all_keys, sliced_rows, summed, told_merged}
+use Rattle.pipe_summary.specs.Summed.{all_keys, IsMerged, IsSummed, sliced_rows, summed, told_merged}
 use Rattle.pipe_summary.specs.Sums.{StandsFor, Sums, texts_of}
 use Rattle.pipe_summary.proofs.ReadFacts.{count-more}
 use Rattle.pipe_summary.proofs.SumFacts.{sums-end, sums-merged, sums-more}
@@ -125,6 +126,24 @@ module _ (q : QueryTree) where
   stands-answer None held states chunks f unordered h e s = absurd s
   stands-answer (Some frames) held states chunks f unordered h e s = e ∙ frames-answer q states chunks unordered h.in_turn (subst (λ (l : List (List ℕ)). Sums q l chunks) h.texts s)
 
+  -- the frame of all states that were read
+  pub regrouped-read : (told : Option (List (List ℕ))) (held : ℕ) (read files : List StateSeen) (keep : List ℕ) (p : QueryTree) (f : FrameData) → HoldsStates q told held read
+      → f ≡ regrouped p files keep → p ≡ q → files ≡ read → keep ≡ all_keys q → IsRegrouped q told held f
+  regrouped-read told held read files keep p f h g same these by = record {
+    states = read;
+    holds = h;
+    frame_is = g ∙ ap (λ (x : QueryTree). regrouped x files keep) same ∙ ap (λ (l : List StateSeen). regrouped q l keep) these ∙ ap (regrouped q read) by;
+  }
+
+  -- and its rows under the query's slice
+  pub summed-read : (told : Option (List (List ℕ))) (held : ℕ) (slice : Option (ℕ × ℕ)) (f g : FrameData) → IsRegrouped q told held f → slice ≡ q.slice → g ≡ sliced_rows slice f
+      → IsSummed q told held g
+  summed-read told held slice f g r same by = record {
+    states = r.states;
+    holds = r.holds;
+    frame_is = by ∙ ap (λ (s : Option (ℕ × ℕ)). sliced_rows s f) same ∙ ap (sliced_rows q.slice) r.frame_is;
+  }
+
   -- the frame of all states that were read, where they are those held
   pub regrouped-told : (told : Option (List (List ℕ))) (states read files : List StateSeen) (keep : List ℕ) (p : QueryTree) (f : FrameData) → IfSome told (λ frames. read ≡ states)
       → f ≡ regrouped p files keep → p ≡ q → files ≡ read → keep ≡ all_keys q → IfSome told (λ frames. f ≡ regrouped q states (all_keys q))
@@ -140,16 +159,32 @@ module _ (q : QueryTree) where
 
   -- ---- all frames as one
 
-  -- the frame of all states that were read, merged, where they are those held
+  -- the frame of some states, merged
+  frame-merged : (into : Option (List (List ℕ))) (states : List StateSeen) → (length states ≡ 0 → ⊥) → told_merged q into states ≡ with_frame into (state_text q (merged_states q states))
+  frame-merged into [] some = absurd (some refl)
+  frame-merged into (s ∷ states) some = refl
+
+  -- the frame of all states that were read, merged
+  pub merged-read : (told into now : Option (List (List ℕ))) (held : ℕ) (files : List StateSeen) (text : List ℕ) → HoldsStates q told held files → (length files ≡ 0 → ⊥)
+      → text ≡ state_text q (merged_states q files) → now ≡ with_frame into text → IsMerged q told held into now
+  merged-read told into now held files text h some t put = record {
+    states = files;
+    holds = h;
+    now_is = put ∙ ap (with_frame into) t ∙ sym (frame-merged into files some);
+  }
+
+  -- and none, where there was none
+  pub merged-none : (told into now : Option (List (List ℕ))) (held : ℕ) (files : List StateSeen) → HoldsStates q told held files → length files ≡ 0 → now ≡ into → IsMerged q told held into now
+  merged-none told into now held [] h none same = record { states = []; holds = h; now_is = same }
+  merged-none told into now held (s ∷ files) h none same = absurd (omega (arith, none))
+
+  -- where they are those held
   pub merged-told : (told into now : Option (List (List ℕ))) (states files : List StateSeen) (text : List ℕ) → IfSome told (λ frames. files ≡ states) → (length files ≡ 0 → ⊥)
       → text ≡ state_text q (merged_states q files) → now ≡ with_frame into text → IfSome told (λ frames. now ≡ told_merged q into states)
   merged-told None into now states files text e some t put = tt
   merged-told (Some frames) into now states files text e some t put =
-      put ∙ ap (with_frame into) (t ∙ ap (λ (l : List StateSeen). state_text q (merged_states q l)) e) ∙ sym (by states (λ n. some (ap (λ (l : List StateSeen). length l) e ∙ n)))
-    where
-      by : (states : List StateSeen) → (length states ≡ 0 → ⊥) → told_merged q into states ≡ with_frame into (state_text q (merged_states q states))
-      by [] some = absurd (some refl)
-      by (s ∷ states) some = refl
+      put ∙ ap (with_frame into) (t ∙ ap (λ (l : List StateSeen). state_text q (merged_states q l)) e)
+      ∙ sym (frame-merged into states (λ n. some (ap (λ (l : List StateSeen). length l) e ∙ n)))
 
   -- an empty store tells no frame
   empty-told : (told : Option (List (List ℕ))) → HasHeld told 0 → IfSome told (λ frames. frames ≡ [])

@@ -116,14 +116,18 @@ module _ (q : QueryTree) where
   read-all told now held number states turn f same h e stop =
       front-all now held states turn h (sym stop ∙ e) (subst (λ (t : Option (List (List ℕ))). AreFront q t states) (sym same) f)
 
--- what was read again of a store that tells its frames is what it holds
+-- states that were read again of a store are held
+pub held-again : (p r : Query) (told now : Option (List (List ℕ))) (held count : ℕ) (read : List StateSeen) → r ≡ p → now ≡ told → count ≡ held
+    → HoldsStates (query_tree r) now count read → HoldsStates (query_tree p) told held read
+held-again p r told now held count read e f n k =
+    subst (λ (v : Query). HoldsStates (query_tree v) told held read) e
+    (subst (λ (t : Option (List (List ℕ))). HoldsStates (query_tree r) t held read) f
+    (subst (λ (m : ℕ). HoldsStates (query_tree r) now m read) n k))
+
+-- where the store tells its frames, they are what it held
 pub again : (p r : Query) (told now : Option (List (List ℕ))) (held count : ℕ) (states read : List StateSeen) → HoldsStates (query_tree p) told held states → r ≡ p → now ≡ told → count ≡ held
     → HoldsStates (query_tree r) now count read → IfSome told (λ frames. read ≡ states)
-again p r told now held count states read h e f n k =
-    same-states (query_tree p) told held read states
-    (subst (λ (v : Query). HoldsStates (query_tree v) told held read) e
-    (subst (λ (t : Option (List (List ℕ))). HoldsStates (query_tree r) t held read) f
-    (subst (λ (m : ℕ). HoldsStates (query_tree r) now m read) n k))) h
+again p r told now held count states read h e f n k = same-states (query_tree p) told held read states (held-again p r told now held count read e f n k) h
 
 -- and none of its frames is damaged
 pub again-sound : (p r : Query) (told : Option (List (List ℕ))) (held : ℕ) (states : List StateSeen) (n : ℕ) → HoldsStates (query_tree p) told held states → r ≡ p

@@ -2,15 +2,17 @@
 use Rattle.std.specs.Prelude.{◌≡◌, ◌+◌, ℕ, List, length, take, slice_get, Option, Some, IfSome, false}
 use Rattle.pipe_columns.specs.declared.data_chunk.DataChunk.{DataChunk}
 use Rattle.pipe_columns.specs.declared.schema.Field.{Field}
+use Rattle.pipe_columns.specs.Frame.{FrameData}
 use Rattle.pipe_model.specs.Query.{QueryTree}
 use Rattle.pipe_model.specs.Rows.{total_height}
 use Rattle.pipe_saving.specs.Refusals.{AllFit}
 use Rattle.pipe_states.specs.Files.{IsTextOfNone}
-use Rattle.pipe_states.specs.Regrouped.{end_of}
+use Rattle.pipe_states.specs.Regrouped.{end_of, regrouped}
 use Rattle.pipe_states.specs.States.{StateSeen}
 use Rattle.pipe_states.specs.Together.{total_rows}
 use Rattle.pipe_summary.specs.Additions.{AreFewBehind}
 use Rattle.pipe_summary.specs.InTurn.{AreInTurn, HoldsStates, TellNoneBehind}
+use Rattle.pipe_summary.specs.Summed.{all_keys}
 use Rattle.pipe_summary.specs.Sums.{texts_of}
 
 -- states in turn, which end at a position and are of so many rows
@@ -51,3 +53,10 @@ pub record IsDamagedNext
 abbrev pub AreFront : QueryTree → Option (List (List ℕ)) → List StateSeen → Type 0
 AreFront q told states =
     IfSome told (λ frames. take (length states) frames ≡ texts_of q states)
+
+-- a frame is what states in turn come to by all keys, as many as frames are held
+pub record IsRegrouped
+    (q : QueryTree) (told : Option (List (List ℕ))) (held : ℕ) (frame : FrameData) : Type 0 where
+  pub states : List StateSeen
+  pub holds : HoldsStates q told held states
+  pub frame_is : frame ≡ regrouped q states (all_keys q)

@@ -7,8 +7,9 @@ ghost use Rattle.pipe_columns.specs.declared.data_chunk.DataChunk.{DataChunk};
 ghost use Rattle.pipe_model.specs.Answer.{answer};
 ghost use Rattle.pipe_states.specs.Regrouped.{regrouped};
 ghost use Rattle.pipe_states.specs.Together.{AreKept};
+ghost use Rattle.pipe_summary.specs.Held.{IsRegrouped};
 ghost use Rattle.pipe_summary.specs.InTurn.{HoldsStates, IsFirstDamaged};
-ghost use Rattle.pipe_summary.specs.Summed.{all_keys, sliced_rows, summed};
+ghost use Rattle.pipe_summary.specs.Summed.{all_keys, IsSummed, sliced_rows, summed};
 ghost use Rattle.pipe_summary.specs.Sums.{StandsFor};
 ghost use Rattle.pipe_summary.specs.declared.read_error.ReadError.TheVariants as read_error;
 
@@ -87,6 +88,8 @@ impl<'a, S: SpillStore + Drop> Summary<'a, S> {
         ensures regrouped { IfOk result (λ f. IfSome (S.told self.old.store) (λ frames.
             f ≡ regrouped (query_tree self.old.query) self.old.states
             (all_keys (query_tree self.old.query)))) }
+        ensures read { IfOk result (IsRegrouped (query_tree self.old.query)
+            (S.told self.old.store) (S.held self.old.store)) }
         ensures query { self.new.query ≡ self.old.query }
         ensures states { self.new.states ≡ self.old.states }
         ensures told { S.told self.new.store ≡ S.told self.old.store }
@@ -119,8 +122,11 @@ impl<'a, S: SpillStore + Drop> Summary<'a, S> {
     /// The answer of the query over all that was added. It holds one frame at a time beside the
     /// groups.
     pub fn answer(&mut self) -> Result<DataFrame, AnswerError>
-        // Where the store tells its frames, it is what their states come to: so it is the answer
-        // over all chunks that the summary stands for.
+        // It is what states in turn come to, as many as there are frames. Where the store tells
+        // these, the states are theirs: so it is the answer over all chunks that the summary stands
+        // for.
+        ensures read { IfOk result (IsSummed (query_tree self.old.query) (S.told self.old.store)
+            (S.held self.old.store)) }
         ensures summed { IfOk result (λ f. IfSome (S.told self.old.store)
             (λ frames. f ≡ summed (query_tree self.old.query) self.old.states)) }
         ensures answer { IfOk result (λ f. (chunks : List DataChunk)

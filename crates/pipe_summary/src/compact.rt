@@ -8,7 +8,7 @@ ghost use Rattle.pipe_spill.specs.Store.{with_frame};
 ghost use Rattle.pipe_states.specs.Regrouped.{merged_states};
 ghost use Rattle.pipe_states.specs.StateText.{state_text};
 ghost use Rattle.pipe_summary.specs.InTurn.{AreInTurn, HoldsStates, IsFirstDamaged};
-ghost use Rattle.pipe_summary.specs.Summed.{compacted, told_merged};
+ghost use Rattle.pipe_summary.specs.Summed.{compacted, IsMerged, told_merged};
 ghost use Rattle.pipe_summary.specs.Sums.{StandsFor};
 ghost use Rattle.pipe_summary.specs.declared.compact_error.CompactError.TheVariants as fault;
 ghost use Rattle.pipe_summary.specs.declared.read_error.ReadError.TheVariants as read_error;
@@ -99,6 +99,8 @@ impl<'a, S: SpillStore + Drop> Summary<'a, S> {
     fn read_again(&mut self) -> Result<Vec<StateFile>, ReadError>
         ensures files { IfOk result (λ v. IfSome (S.told self.old.store)
             (λ frames. v.items ≡ self.old.states)) }
+        ensures read { IfOk result (λ v. HoldsStates (query_tree self.old.query)
+            (S.told self.old.store) (S.held self.old.store) v.items) }
         ensures in_turn { IfOk result (λ v. AreInTurn (query_tree self.old.query) v.items) }
         ensures count { IfOk result (λ v. length v.items ≡ length self.old.states) }
         ensures query { self.new.query ≡ self.old.query }
@@ -130,8 +132,11 @@ impl<'a, S: SpillStore + Drop> Summary<'a, S> {
     pub fn compact<T: SpillStore>(&mut self, into: &mut T) -> Result<(), CompactError>
         requires { T.held into.old ≡ 0 }
 
-        // The frame is the text of the states merged, where the summary's store tells its frames:
-        // so the other store stands for all chunks that the summary stands for.
+        // The frame is the text of states in turn merged, as many as there are frames. Where the
+        // summary's store tells these, the states are theirs: so the other store stands for all
+        // chunks that the summary stands for.
+        ensures read { OnOk result (IsMerged (query_tree self.old.query) (S.told self.old.store)
+            (S.held self.old.store) (T.told into.old) (T.told into.new)) }
         ensures merged { OnOk result (IfSome (S.told self.old.store) (λ frames. T.told into.new
             ≡ told_merged (query_tree self.old.query) (T.told into.old) self.old.states)) }
         ensures count { OnOk result (T.held into.new

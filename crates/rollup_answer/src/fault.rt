@@ -69,7 +69,7 @@ fn roll_status(error: &RollError) -> u8
 }
 
 /// The exit status of a fault.
-pub(crate) fn status_of(fault: &RollupFault) -> u8
+pub fn status_of(fault: &RollupFault) -> u8
     ensures { result ≡ status_of fault.now }
 {
     match fault {
@@ -82,7 +82,7 @@ pub(crate) fn status_of(fault: &RollupFault) -> u8
 }
 
 /// The fault of words that ask for nothing.
-pub(crate) fn ask_fault(error: AskError) -> RollupFault
+pub fn ask_fault(error: AskError) -> RollupFault
     ensures { result ≡ ask_fault error }
 {
     match error {

@@ -8,4 +8,6 @@ mod line;
 mod rollup;
 mod status;
 
+pub use fault::{RollupFault, ask_fault, status_of};
+pub use line::fault_line;
 pub use rollup::run_rollup;

@@ -71,7 +71,7 @@ fn fault_text(alloc: Global, fault: &RollupFault) -> Result<String, AllocError>
 }
 
 /// The line of a fault.
-fn fault_line(alloc: Global, fault: &RollupFault) -> Result<String, AllocError>
+pub fn fault_line(alloc: Global, fault: &RollupFault) -> Result<String, AllocError>
     ensures { IfOk result (λ s. string_bytes s ≡ fault_line fault.now) }
 {
     let mut line = fault_text(alloc, fault)?;

@@ -1,4 +1,4 @@
--- Of the proofs alone: why there is no query, and why there are no keys.
+-- Why there is no query, and why there are no keys.
 use Rattle.std.specs.Prelude.{◌≡◌, ℕ, List, Option, None, Result, Err, ⊤}
 use Rattle.pipe_model.specs.Query.{QueryTree}
 use Rattle.rollup_words.specs.declared.refusal.AskError.{AskError}

@@ -89,11 +89,7 @@ fn word_positions(alloc: Global, fields: &[Field], word: &Text) -> Result<Vec<us
 }
 
 /// The positions of the key columns of a query that a word names.
-pub(crate) fn kept_positions(
-    alloc: Global,
-    query: &Query,
-    word: &Text,
-) -> Result<Vec<usize>, AskError>
+pub fn kept_positions(alloc: Global, query: &Query, word: &Text) -> Result<Vec<usize>, AskError>
     requires { first_fault query.now ≡ None }
     ensures kept { IfOk result
         (λ v. kept_positions (query_tree query.now) word.now ≡ Some v.items) }

@@ -10,6 +10,7 @@ mod request;
 mod said;
 mod worked;
 
-pub use question::read_request;
+pub use keys::kept_positions;
+pub use question::{read_request, whole_query};
 pub use refusal::{AskError, Refusal};
 pub use request::{Request, RollQuestion, SaveQuestion};

@@ -20,7 +20,7 @@ use std::alloc::{AllocError, Global};
 use tool_query::{QueryError, query_of_word};
 
 /// The query that a word is, which gives all its groups in the order of their keys.
-fn whole_query(alloc: Global, word: &Text) -> Result<Query, AskError>
+pub fn whole_query(alloc: Global, word: &Text) -> Result<Query, AskError>
     ensures query { IfOk result (λ q. whole_query (word_query word.now) ≡ Ok (query_tree q)) }
     ensures faultless { IfOk result (λ q. first_fault q ≡ None) }
     ensures cause { IfErr result (λ e. IsNoWhole e (whole_query (word_query word.now))) }

@@ -1,8 +1,10 @@
 //! What a row of a saved state costs that is written and read, in nanoseconds: `state_times ROUNDS`
-//! says it beside what a row costs that is spilled.
+//! says it beside what a row costs that is spilled. `state_times ROUNDS QUERY LOG` says what it takes
+//! to read all states in a log, in microseconds.
 #![tactic(auto)]
 
 mod asked;
+mod log;
 mod read;
 mod rounds;
 mod rows;
@@ -10,6 +12,7 @@ mod times;
 mod written;
 
 use crate::asked::{GROUPS, query_of};
+use crate::log::show_log;
 use crate::rounds::Times;
 use crate::times::times_of_query;
 use std::env::{self, Env};
@@ -33,15 +36,22 @@ fn show(rt: &impl Print, times: Times) -> anyhow::Result<()> {
 }
 
 /// Without a word one round is made, and nothing is printed.
-fn main(rt: HostRuntime) -> anyhow::Result<()> {
+fn show_rows(rt: &HostRuntime, asked: Option<u32>) -> anyhow::Result<()> {
     let alloc = rt.alloc();
-    let asked = rounds_of(&rt)?;
     let query = query_of(alloc)?;
-    let times = times_of_query(&rt, alloc, &query, asked.unwrap_or(1));
+    let times = times_of_query(rt, alloc, &query, asked.unwrap_or(1));
     drop(query);
     let times = times?;
     if asked.is_some() {
-        show(&rt, times)?;
+        show(rt, times)?;
     }
     Ok(())
+}
+
+fn main(rt: HostRuntime) -> anyhow::Result<()> {
+    let asked = rounds_of(&rt)?;
+    match (env::args(&rt)?.nth(2), env::args(&rt)?.nth(3)) {
+        (Some(query), Some(log)) => show_log(&rt, &query, &log, asked.unwrap_or(1)),
+        _ => show_rows(&rt, asked),
+    }
 }

@@ -3,12 +3,18 @@ use Rattle.std.proofs.Common.{◌≡◌, ◌∙◌, ◌++◌, ℕ, List, [], rul
 use Rattle.std.specs.Prelude.{◌⊎◌, IfErr, IfSome, IsErrOf}
 use Rattle.std.specs.Io.KnownBytes.{Appends}
 use Rattle.std.proofs.lemmas.Option.{none-some}
+use Rattle.pipe_columns.specs.declared.data_chunk.DataChunk.{DataChunk}
+use Rattle.pipe_columns.specs.Frame.{FrameData}
 use Rattle.pipe_csv.specs.declared.csv_error.CsvError.{CsvError}
+use Rattle.pipe_csv.specs.Texts.{csv_text}
 use Rattle.pipe_io.specs.Files.{Files}
 use Rattle.pipe_io.specs.Output.{WroteFront}
+use Rattle.pipe_model.specs.Answer.{answer}
 use Rattle.pipe_model.specs.Query.{QueryTree}
 use Rattle.pipe_states.specs.States.{StateSeen}
 use Rattle.pipe_summary.specs.InTurn.{HoldsStates, IsFirstDamaged}
+use Rattle.pipe_summary.specs.Summed.{IsSummed}
+use Rattle.pipe_summary.specs.Sums.{StandsFor}
 use Rattle.pipe_summary.specs.declared.read_error.ReadError.{ReadError}
 use Rattle.pipe_summary.specs.declared.read_error.ReadError.TheVariants as read_error
 use Rattle.summary_add.specs.Adds.{end_of_adding, FilesAdded, TellsFault}
@@ -104,6 +110,11 @@ add-never (Err adding.Store) same = cc
 add-never (Err (adding.Read e)) same = cc
 
 -- ---- an answer
+
+-- it is shown as its text
+pub answer-shown : (q : QueryTree) (told : Option (List (List ℕ))) (held : ℕ) (frame : FrameData) → IsSummed q told held frame
+    → ((chunks : List DataChunk) → StandsFor q told chunks → frame ≡ answer chunks q 1) → IsShown q told held (csv_text frame)
+answer-shown q told held frame s answers = record { states = s.states; holds = s.holds; frame = frame; sums = s.frame_is; answers = answers; text_is = refl }
 
 -- a write that failed has begun
 pub wrote-leaves : (o : Option SummaryFault) (q : QueryTree) (told : Option (List (List ℕ))) (held : ℕ) (old new : Option (List ℕ)) (text : List ℕ) (Same : Type 0)

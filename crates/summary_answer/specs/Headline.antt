@@ -1,5 +1,5 @@
 -- What a command on a summary owes.
-use Rattle.std.specs.Prelude.{◌≡◌, ℕ, List, [], Option, IfSome}
+use Rattle.std.specs.Prelude.{◌≡◌, ℕ, List, [], Option}
 use Rattle.std.specs.Io.KnownBytes.{Appends}
 use Rattle.pipe_columns.specs.declared.data_chunk.DataChunk.{DataChunk}
 use Rattle.pipe_columns.specs.Frame.{FrameData}
@@ -26,13 +26,13 @@ pub record HasAdded
   pub nothing : text ≡ []
 
 -- the store holds states, and a text is that of the frame which they come to: where the store tells its
--- frames, that is the answer over all chunks that it stands for
+-- frames, these are their texts, and that is the answer over all chunks that it stands for
 pub record IsShown
     (q : QueryTree) (told : Option (List (List ℕ))) (held : ℕ) (text : List ℕ) : Type 0 where
   pub states : List StateSeen
   pub holds : HoldsStates q told held states
   pub frame : FrameData
-  pub sums : IfSome told (λ frames. frame ≡ summed q states)
+  pub sums : frame ≡ summed q states
   pub answers : (chunks : List DataChunk) → StandsFor q told chunks → frame ≡ answer chunks q 1
   pub text_is : text ≡ csv_text frame
 

@@ -1,6 +1,6 @@
 //! A store whose frames are a log in a file.
 
-ghost use Rattle.std.specs.Prelude.{◌≡◌, ◌<◌, ◌+◌, ◌-◌, ◌^◌, [], false, length, IfOk, OnOk, OnErr, IsErrOf};
+ghost use Rattle.std.specs.Prelude.{◌≡◌, ◌<◌, ◌+◌, ◌-◌, ◌^◌, [], false, true, length, IfOk, OnOk, OnErr, IsErrOf};
 ghost use Rattle.pipe_columns.specs.Causes.{HasCause};
 ghost use Rattle.pipe_spill.specs.FileStore.{with_end};
 ghost use Rattle.pipe_spill.specs.declared.store.StoreError.TheVariants as store_error;
@@ -109,7 +109,10 @@ impl SpillStore for KeptFile {
             → faults_of self.new.frames ≡ faults_of self.old.frames }
         ensures ends { OnOk result (self.new.frames.ends
             ≡ with_end self.old.frames.ends (length (entry frame.now))) }
+        ensures whole { OnOk result (self.new.frames.torn ≡ false) }
         ensures refused_ends { OnErr result (self.new.frames.ends ≡ self.old.frames.ends) }
+        ensures torn { self.old.frames.torn ≡ true
+            → IsErrOf result store_error.Failed × (self.new.frames.torn ≡ true) }
         ensures path { self.new.path ≡ self.old.path }
     {
         self.frames.put(&mut self.file, frame)
@@ -125,6 +128,7 @@ impl SpillStore for KeptFile {
             → faults_of self.new.frames ≡ faults_of self.old.frames }
         ensures size { OnOk result (length into.new.items ≡ frame_size self.old.frames.ends number) }
         ensures ends { self.new.frames.ends ≡ self.old.frames.ends }
+        ensures torn { self.new.frames.torn ≡ self.old.frames.torn }
         ensures path { self.new.path ≡ self.old.path }
     {
         self.frames.get(&mut self.file, number, into)

@@ -73,6 +73,7 @@ impl LogFrames {
             ≡ with_end self.old.ends (length (entry frame.now))) }
         ensures written { OnOk result (IsWrittenAt (next_start self.old.ends) (entry frame.now)
             (F.told file.old) (F.told file.new)) }
+        ensures whole { OnOk result (self.new.torn ≡ false) }
         ensures refused { OnErr result (self.new.ends ≡ self.old.ends) }
         ensures front { OnErr result (HasFront (next_start self.old.ends) (F.told file.old)
             (F.told file.new)) }

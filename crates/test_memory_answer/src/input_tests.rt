@@ -1,6 +1,6 @@
-//! A text as an input.
+//! Texts as inputs.
 
-use memory_input::TextInput;
+use memory_input::{PiecesInput, TextInput};
 use pipe_columns::Text;
 use pipe_io::{InputError, InputFiles};
 use std::test::Fail;
@@ -29,6 +29,39 @@ fn a_text_is_read(rt: HostRuntime) -> Result<(), Fail> {
     }
     if input.read(&mut into) != Ok(0) {
         return Err("no end".into());
+    }
+    Ok(())
+}
+
+/// Whether a file of an input is begun, and its bytes read at once into room that they fill.
+fn reads<I: InputFiles>(input: &mut I, name: &Text, into: &mut [u8], wanted: &[u8]) -> bool {
+    if into.is_empty() || input.begin(name).is_err() {
+        return false;
+    }
+    let count = input.read(into);
+    count == Ok(wanted.len()) && *into == *wanted
+}
+
+/// The pieces of a text are read under their names, in any order, and no other file is there.
+#[test]
+fn pieces_are_read(rt: HostRuntime) -> Result<(), Fail> {
+    let mut names = Vec::new(rt.alloc());
+    for name in ["a", "b"] {
+        names.push(Text::new(rt.alloc(), name)?)?;
+    }
+    let other = Text::new(rt.alloc(), "c")?;
+    let mut input = PiecesInput::new(&names, &[2, 3], b"12345");
+    if input.begin(&other) != Err(InputError::NoFile) {
+        return Err("another file is there".into());
+    }
+    if !reads(&mut input, &names[1], &mut [0; 3], b"345") {
+        return Err("another second piece".into());
+    }
+    if input.size_hint() != 0 {
+        return Err("another size".into());
+    }
+    if !reads(&mut input, &names[0], &mut [0; 2], b"12") {
+        return Err("another first piece".into());
     }
     Ok(())
 }

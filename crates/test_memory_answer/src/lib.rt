@@ -5,3 +5,4 @@ mod asked;
 mod group_tests;
 mod input_tests;
 mod room_tests;
+mod state_tests;

@@ -1,6 +1,6 @@
-use Rattle.std.proofs.Common.{◌≡◌, ap, arith, ◌∙◌}
+use Rattle.pipe_kinds.specs.ManyStates.{state_of}
 use Rattle.pipe_groups.proofs.RunFacts.{no-text-run}
 use Rattle.pipe_groups.proofs.feed_run.feed_input.Goals as goal
 
-pub pre_agg_ordered_lent-requires-clause-plain : goal.pre_agg_ordered_lent-requires-clause-plain
-pre_agg_ordered_lent-requires-clause-plain c = no-text-run c.args.chunk c.args.row c.in-Some.values.now c.args.state.now (rw c.in-Some.ensures c.requires.plain)
+pub feed_run-requires-clause-plain : goal.feed_run-requires-clause-plain
+feed_run-requires-clause-plain c = no-text-run c.args.chunk c.args.row c.in-Some.values.now (state_of c.args.states.now c.args.index c.args.j) (rw (c.in-Some.ensures) c.requires.plain)

@@ -1,8 +1,11 @@
-use Rattle.std.proofs.Common.{◌≡◌, take}
-use Rattle.std.specs.List.{sum_by}
-use Rattle.pipe_groups.specs.Layout.{held_len}
+use Rattle.std.proofs.Common.{◌≡◌, ◌+◌, ◌≤◌, drop}
+use Rattle.pipe_groups.specs.Layout.{AscendFrom, held_from}
 use Rattle.pipe_groups.proofs.groups.held_bytes_of.Given as goal
 
--- those of the entries so far
+-- with those of the other entries they are all, and they lie before these
 abbrev pub invariant-loop-entry : goal.invariant-loop-entry
-invariant-loop-entry l = l.bytes ≡ sum_by held_len (take l.entry-index l.entries)
+invariant-loop-entry l = record {
+  ascend : AscendFrom l.start (drop l.entry-index l.entries);
+  bytes : l.bytes + held_from l.start (drop l.entry-index l.entries) ≡ held_from 0 l.entries;
+  before : l.bytes ≤ l.start;
+}

@@ -1,4 +1,4 @@
-use Rattle.std.proofs.Common.{◌∙◌, sym}
+use Rattle.std.proofs.Common.{◌∙◌}
 use Rattle.pipe_inputs.specs.ChunkRows.{row_at}
 use Rattle.pipe_groups.proofs.FewInputs.{inputs-many, list-one, list-two}
 use Rattle.pipe_groups.proofs.row_code.own_values.Goals as goal

@@ -1,11 +1,10 @@
-use Rattle.std.proofs.Common.{◌≡◌, ◌++◌, take, drop}
-use Rattle.pipe_running.specs.GroupStates.{fed_from}
+use Rattle.std.proofs.Common.{◌≡◌, drop}
+use Rattle.pipe_groups.proofs.ManyFacts.{FedMany}
 use Rattle.pipe_groups.proofs.states.feed_states.Given as goal
 
--- the states so far are fed, and the others and their inputs are as before
+-- the states so far are fed, and the inputs of the others are as before
 abbrev pub invariant-loop-j : goal.invariant-loop-j
 invariant-loop-j l = record {
-  left : drop l.j l.states ≡ drop l.j l.fn.states;
   inputs : drop l.j l.values ≡ drop l.j l.fn.values;
-  fed : take l.j l.states ++ fed_from l.place l.j l.fn.values (drop l.j l.states) ≡ fed_from l.place 0 l.fn.values l.fn.states;
+  fed : FedMany l.place l.fn.values l.fn.states l.states l.index l.j;
 }

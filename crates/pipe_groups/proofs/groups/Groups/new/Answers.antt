@@ -6,7 +6,7 @@ use Rattle.pipe_groups.specs.Shape.{Shape, shape_of}
 use Rattle.pipe_groups.proofs.FreshFacts.{fresh-prototypes, shape-parts}
 use Rattle.pipe_groups.proofs.groups.Groups.new.Goals as goal
 
-same : (c : goal.In_ok-fields) → ◌≡◌ {A = Shape} (record {
+same : (c : goal.In_ok-states) → ◌≡◌ {A = Shape} (record {
   key_types = c.in_ok-key_types.key_types.items;
   input_types = c.in_ok-input_types.input_types.items;
   prototypes = c.in_ok-prototypes.prototypes.items;
@@ -17,8 +17,8 @@ same c =
     (c.in_ok-prototypes.ensures ∙ ap (λ (fs : List AggregateFunction). fresh_states fs) c.prototypes.ensures.functions ∙ fresh-prototypes (query_tree c.args.query.now))
     (c.in_ok-fields.ensures ∙ c.fields.ensures ∙ c.output_schema.ensures.schema)
 
-pub of_shape-requires : goal.of_shape-requires
-of_shape-requires c = record {
+pub of_shape-requires-clause-shape : goal.of_shape-requires-clause-shape
+of_shape-requires-clause-shape c = record {
   query = query_tree c.args.query.now;
   of_query = same c;
   groupable = c.prototypes.ensures.groupable;

@@ -3,4 +3,4 @@ use Rattle.pipe_groups.proofs.LaidFacts.{laid-none}
 use Rattle.pipe_groups.proofs.groups.Groups.of_shape.Goals as goal
 
 pub invariant_of-result : goal.invariant_of-result
-invariant_of-result c = laid-none _ c.requires c.new.ensures.items c.new-2.ensures.items c.new-3.ensures.items refl
+invariant_of-result c = laid-none _ c.requires.shape c.new.ensures.items c.new-2.ensures.items c.requires.none c.requires.like refl

@@ -7,7 +7,7 @@ use Rattle.pipe_groups.specs.Shape.{IsShape, Shape}
 use Rattle.pipe_groups.proofs.FreshFacts.{fresh-shape, shape-parts}
 use Rattle.pipe_groups.proofs.groups.Groups.split.Goals as goal
 
-same : (c : goal.In_ok-fields) → ◌≡◌ {A = Shape} (record {
+same : (c : goal.In_ok-states) → ◌≡◌ {A = Shape} (record {
   key_types = c.in_ok-key_types.key_types.items;
   input_types = c.in_ok-input_types.input_types.items;
   prototypes = c.in_ok-prototypes.prototypes.items;
@@ -18,8 +18,8 @@ same c =
     (c.in_ok-prototypes.ensures ∙ ap (λ (fs : List AggregateFunction). fresh_states fs) c.deref-3.ensures.value ∙ fresh-shape (shape_in c.self.inside) c.self.invariant.shape)
     (c.in_ok-fields.ensures ∙ c.fields.ensures)
 
-pub of_shape-requires : goal.of_shape-requires
-of_shape-requires c = subst (λ (s : Shape). IsShape s) (sym (same c)) c.self.invariant.shape
+pub of_shape-requires-clause-shape : goal.of_shape-requires-clause-shape
+of_shape-requires-clause-shape c = subst (λ (s : Shape). IsShape s) (sym (same c)) c.self.invariant.shape
 
 pub returns-clause-shape : goal.returns-clause-shape
 returns-clause-shape c = c.of_shape.ensures.shape ∙ same c.before ∙ ap (λ (s : Seen). s.shape) c.self.view_is

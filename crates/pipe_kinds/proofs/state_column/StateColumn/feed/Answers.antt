@@ -1,4 +1,4 @@
-use Rattle.std.proofs.Common.{◌≡◌, ◌∙◌, ◌+◌, ◌<◌, ◌^◌, ℕ, List, true, length, set, ap, sym, subst}
+use Rattle.std.proofs.Common.{◌≡◌, ◌∙◌, ◌+◌, ◌<◌, true, length, set, ap, sym, subst}
 use Rattle.pipe_running.specs.States.{after_value, seen, takes}
 use Rattle.pipe_kinds.specs.Columns.{ColumnStates, state_at}
 use Rattle.pipe_kinds.proofs.ColumnFacts.{put-state}

@@ -1,4 +1,4 @@
-use Rattle.std.proofs.Common.{◌≡◌, ◌∙◌, ◌<◌, length, ap, sym, subst}
+use Rattle.std.proofs.Common.{◌∙◌, ◌<◌, length, ap, sym, subst}
 use Rattle.pipe_running.specs.Lent.{keeps_text}
 use Rattle.pipe_kinds.specs.Columns.{ColumnStates, state_at}
 use Rattle.pipe_kinds.proofs.state_column.StateColumn.keeps_text.Goals as goal

@@ -1,0 +1,5 @@
+//! Tests of the states of groups, by their public functions alone.
+#![tactic(auto)]
+
+#[cfg(test)]
+mod counts;
