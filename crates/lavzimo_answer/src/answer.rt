@@ -1,6 +1,6 @@
 //! The answer to what is asked.
 
-ghost use Rattle.std.specs.Prelude.{◌≡◌, ◌⊎◌, ◌+◌, All, IfSome, List, None, Some, false, ℕ};
+ghost use Rattle.std.specs.Prelude.{◌≡◌, ◌⊎◌, ◌+◌, ◌≤◌, All, IfSome, List, None, Some, false, ℕ};
 ghost use Rattle.std.specs.Io.KnownBytes.{Appends};
 ghost use Rattle.pipe_aggs.specs.Faults.{first_fault};
 ghost use Rattle.pipe_columns.specs.Causes.{Rose};
@@ -143,6 +143,7 @@ pub(crate) fn answer<
         → All IsSoundStore result.stores }
     ensures made { HasNoRun result.journals result.stores ⊎ (M.made maker.new
         ≡ M.made maker.old + stores_asked (ask (asked_seen asked))) }
+    ensures at_most { M.made maker.new ≤ M.made maker.old + stores_asked (ask (asked_seen asked)) }
 {
     let Asked {
         question,

@@ -1,6 +1,6 @@
 //! One run, from the words of a command to the bytes of its output.
 
-ghost use Rattle.std.specs.Prelude.{◌≡◌, ◌≢◌, ◌⊎◌, ◌+◌, All, IfSome, IsSome, IsTrue, None, Some, false};
+ghost use Rattle.std.specs.Prelude.{◌≡◌, ◌≢◌, ◌⊎◌, ◌+◌, ◌≤◌, All, IfSome, IsSome, IsTrue, None, Some, false};
 ghost use Rattle.pipe_columns.specs.Causes.{Rose};
 ghost use Rattle.pipe_io.specs.Tried.{TriedFront};
 ghost use Rattle.lavzimo_run.specs.Stores.{IsSoundStore};
@@ -61,6 +61,7 @@ fn run<I: InputFiles, O: Output, M: SpillMaker, G: Gate + Sync, H: Threads + Wai
     ensures in_memory { has_folder (asked_of words.now) ≡ false → All IsSoundStore result.stores }
     ensures made { HasNoRun result.journals result.stores
         ⊎ (M.made maker.new ≡ M.made maker.old + stores_asked (asked_of words.now)) }
+    ensures at_most { M.made maker.new ≤ M.made maker.old + stores_asked (asked_of words.now) }
     ensures unasked { FaultUnasked (asked_of words.now) result.fault }
     ensures unread { AskNothing (asked_of words.now) → input.new ≡ input.old }
     ensures unmade { AskNothing (asked_of words.now) → maker.new ≡ maker.old }
@@ -150,11 +151,12 @@ pub fn run_lavzimo<
         (O.told output.old) (O.told output.new) result.journals result.stores }
     ensures untouched { IsTrue (is_unwritten result.status) → output.new ≡ output.old }
 
-    // What is left of the run, and how many stores were made for it.
+    // What is left of the run, and how many stores were made for it: no more than are asked for.
     ensures left { IsLeft processors (asked_of words.now) (I.told input.old)
         result.journals result.stores }
     ensures made { HasNoRun result.journals result.stores
         ⊎ (M.made maker.new ≡ M.made maker.old + stores_asked (asked_of words.now)) }
+    ensures at_most { M.made maker.new ≤ M.made maker.old + stores_asked (asked_of words.now) }
 
     // What is reported beside that, and with which statuses a run ends.
     ensures silent { result.status ≡ DONE → messages.new ≡ messages.old }
