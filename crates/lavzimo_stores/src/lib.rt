@@ -2,6 +2,7 @@
 //! share a folder and leave nothing there.
 #![tactic(auto)]
 
+mod made_in;
 mod maker;
 mod own_store;
 mod own_stores;
