@@ -1,7 +1,4 @@
-//! The folders of stores that were made, of which the code holds nothing.
-
-ghost use Rattle.std.specs.Prelude.{◌≡◌, ◌++◌, ◌∷◌, [], option_map};
-ghost use Rattle.lavzimo_stores.specs.MadeIn.{folders_of};
+//! Where a store was made, behind others, of which the code holds nothing.
 
 use pipe_columns::Text;
 use std::snapshot::Snapshot;
@@ -12,18 +9,4 @@ pub(crate) enum MadeIn {
     Nothing,
     Memory(Snapshot<MadeIn>),
     Folder(Snapshot<MadeIn>, Snapshot<Text>),
-}
-
-impl MadeIn {
-    /// One store more, behind the others.
-    pub(crate) fn add(&mut self, dir: Option<&Text>)
-        ensures { folders_of self.new
-            ≡ folders_of self.old ++ option_map (λ d. d.now) dir.entry ∷ [] }
-    {
-        let before = Snapshot::of(&*self);
-        *self = match dir {
-            None => MadeIn::Memory(before),
-            Some(dir) => MadeIn::Folder(before, Snapshot::of(dir)),
-        };
-    }
 }

@@ -6,7 +6,7 @@ ghost use Rattle.pipe_spill.specs.FileStore.{path_in};
 ghost use Rattle.lavzimo_stores.specs.OwnStore.{file_of, is_own_sure, own_faults, own_held};
 ghost use Rattle.lavzimo_stores.specs.OwnStore.{own_path, own_told};
 
-use crate::made_in::MadeIn;
+use crate::made_folders::MadeFolders;
 use crate::maker::SpillMaker;
 use crate::own_store::OwnStore;
 use crate::unnamed_file::UnnamedFile;
@@ -27,18 +27,17 @@ pub struct OwnStores<'a, R> {
     salt: u64,
     hash_keys: Option<RandomState>,
     made: usize,
-    folders: MadeIn,
+    folders: MadeFolders,
 }
 
 impl<'a, R> Model for OwnStores<'a, R> {
     ghost use Rattle.std.specs.Prelude.{◌≡◌, ℕ, List, Option, length};
-    ghost use Rattle.lavzimo_stores.specs.MadeIn.{folders_of};
 
     ghost Value = { List (Option (List ℕ)) };
 
-    ghost view = { λ m. folders_of m.folders };
+    ghost view = { λ m. m.folders };
 
-    ghost invariant = { λ m. length (folders_of m.folders) ≡ m.made };
+    ghost invariant = { λ m. length m.folders ≡ m.made };
 }
 
 impl<'a, R: Files<File = File>> OwnStores<'a, R> {
@@ -61,7 +60,7 @@ impl<'a, R: Files<File = File>> OwnStores<'a, R> {
             salt,
             hash_keys,
             made: 0,
-            folders: MadeIn::Nothing,
+            folders: MadeFolders::none(),
         }
     }
 
