@@ -11,3 +11,4 @@ pub mod Wholes
 pub mod SideBySide
 pub mod Sourcing
 pub mod Joined
+pub mod InTurn
