@@ -2,6 +2,7 @@ pub mod Lists
 pub mod Slicing
 pub mod SourceFacts
 pub mod ChunkFacts
+pub mod PieceFacts
 pub mod Joining
 pub mod Asking
 pub mod Apart
@@ -10,3 +11,4 @@ pub mod Wholes
 pub mod SideBySide
 pub mod Sourcing
 pub mod Joined
+pub mod InTurn

@@ -263,7 +263,7 @@ module _ {T K : Type 0} (Is : K → PlacedGroups → Type 0) (partition : T → 
   pub tasks-can : (Takes : List Field → Type 0) → Takes (output_schema (query_tree s.query)) → (p : ℕ) (d : T) → p < length old → CanBeKept Takes (partition (slice_index_or old p d)) (mine (slice_index_or old p d))
   tasks-can Takes takes p d lt = record {
     can = tasks-finish p d lt;
-    takes = λ frame firsts gives. subst Takes (sym (own-placed (query_tree s.query) (partition (slice_index_or old p d)) (record { frame = frame; firsts = firsts }) (placed-at p d lt).shape gives).fields) takes;
+    takes = subst (λ (sh : Shape). Takes sh.fields) (sym (placed-at p d lt).shape) takes;
   }
 
   module _ (count : length new ≡ length old) (done : (p : ℕ) (d : T) → p < length old

@@ -3,8 +3,7 @@
 use Rattle.std.specs.Prelude.{◌≡◌, ◌<◌, ◌++◌, ◌∷◌, ℕ, filter, length, List, map, Result, slice_index_or, Ok, Err}
 use Rattle.std.specs.List.{All}
 use Rattle.pipe_columns.specs.declared.schema.Field.{Field}
-use Rattle.pipe_columns.specs.Frame.{AllHaveHeight, fields_of, FrameData}
-use Rattle.pipe_columns.specs.declared.place.Place.{Place}
+use Rattle.pipe_columns.specs.Frame.{AllHaveHeight}
 use Rattle.pipe_columns.specs.Row.{Row}
 use Rattle.pipe_aggs.specs.QueryTrees.{query_tree}
 use Rattle.pipe_model.specs.Query.{QueryTree}
@@ -28,8 +27,7 @@ pub record IsPartOf (partitions p : ℕ) (local part : Table) : Type 0 where
 -- a partition can give its groups and the local ones of its keys, and their fields are taken
 pub record CanBeKept (Takes : List Field → Type 0) (s : PartitionSeen) (local : Table) : Type 0 where
   pub can : CanFinish s local
-  pub takes : (frame : FrameData) (firsts : List Place) → GivesOwnPlaced s frame firsts
-      → Takes (fields_of frame.columns)
+  pub takes : Takes s.table.shape.fields
 
 -- a partition gave the groups of its rows and of the local ones of its keys, of which this is kept, and
 -- its store didn't fail

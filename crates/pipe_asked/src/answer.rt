@@ -1,6 +1,6 @@
 //! The groups of closed partitions and of a local table, as one whole.
 
-ghost use Rattle.std.specs.Prelude.{◌≡◌, ◌<◌, IfErr, IfOk, List, OnOk, length};
+ghost use Rattle.std.specs.Prelude.{◌≡◌, ◌<◌, IfErr, IfOk, List, OnOk, false, length};
 ghost use Rattle.pipe_aggs.specs.QueryTrees.{query_tree};
 ghost use Rattle.pipe_columns.specs.Frame.{AllHaveHeight, fields_of, FrameData, stacked};
 ghost use Rattle.pipe_model.specs.Output.{output_schema};
@@ -10,8 +10,10 @@ ghost use Rattle.pipe_asked.specs.Sources.{IsGiveCause, KeepsAsked, unasked};
 ghost use Rattle.pipe_asked.specs.Stacking.{IsOfFields, IsWholeOfChunks};
 ghost use Rattle.pipe_asked.specs.Wholes.{IsAnswerWhole};
 
+use crate::asked::AskedPartitions;
 use crate::form::Form;
 use crate::group_source::GroupBySource;
+use crate::in_turn::joined_wholes;
 use crate::side_by_side::answer_side_by_side;
 use pipe_aggs::CheckedQuery;
 use pipe_columns::DataFrame;
@@ -73,9 +75,8 @@ fn joined_chunks<F: Form, S: SpillStore + Drop>(
     }
 }
 
-/// The whole of the chunks of closed partitions and of a local table, below one another, partition by
-/// partition. Of each chunk the frame goes before the next is asked for. The partitions come back, in order.
-fn answer_in_turn<F: Form, S: SpillStore + Drop>(
+/// The whole of the chunk of closed partitions and of a local table. The partitions come back, in order.
+fn answer_of_chunks<F: Form, S: SpillStore + Drop>(
     alloc: Global,
     form: &F,
     query: &CheckedQuery<'_>,
@@ -98,6 +99,63 @@ fn answer_in_turn<F: Form, S: SpillStore + Drop>(
     match joined_chunks(alloc, form, query, &mut source) {
         Ok(whole) => (Ok(whole), source.into_parts()),
         Err(error) => (Err(error), source.into_parts()),
+    }
+}
+
+/// The wholes of closed partitions and of a local table, below one another, where no order is kept: each
+/// is made before the next partition is asked. The partitions come back, in order.
+fn answer_of_wholes<F: Form, S: SpillStore + Drop>(
+    alloc: Global,
+    form: &F,
+    query: &CheckedQuery<'_>,
+    closed: Vec<ClosedPartition<S>>,
+    local: AggHashTable,
+    slice: Option<(usize, usize)>,
+) -> (Result<F::Whole, BatchError>, Vec<ClosedPartition<S>>)
+    requires source { IsSource (unasked query.now closed.items local slice) }
+    requires slice { slice ≡ (query_tree query.now).slice }
+    requires some { 0 < length closed.items }
+    requires takes { F.takes form.now (output_schema (query_tree query.now)) }
+    requires order { (query_tree query.now).keeps_order ≡ false }
+    ensures whole { IfOk result.0
+        (IsAnswerWhole (F.is form.now) (unasked query.now closed.items local slice)) }
+    ensures kept { AreSamePartitions closed.items result.1.items }
+    ensures calm { OnOk result.0 (CountOn closed.items result.1.items) }
+    ensures cause { IfErr result.0 (λ e. IsGiveCause (unasked query.now closed.items local slice)
+        (unasked query.now result.1.items local slice) e) }
+{
+    let mut asked = AskedPartitions::new(alloc, query, closed, local, slice);
+    match joined_wholes(alloc, form, query, &mut asked) {
+        Ok(whole) => (Ok(whole), asked.into_parts()),
+        Err(error) => (Err(error), asked.into_parts()),
+    }
+}
+
+/// What closed partitions and a local table give, partition by partition, or all in the order of rows. The
+/// partitions come back, in order.
+fn answer_in_turn<F: Form, S: SpillStore + Drop>(
+    alloc: Global,
+    form: &F,
+    query: &CheckedQuery<'_>,
+    closed: Vec<ClosedPartition<S>>,
+    local: AggHashTable,
+    slice: Option<(usize, usize)>,
+) -> (Result<F::Whole, BatchError>, Vec<ClosedPartition<S>>)
+    requires source { IsSource (unasked query.now closed.items local slice) }
+    requires slice { slice ≡ (query_tree query.now).slice }
+    requires some { 0 < length closed.items }
+    requires takes { F.takes form.now (output_schema (query_tree query.now)) }
+    ensures whole { IfOk result.0
+        (IsAnswerWhole (F.is form.now) (unasked query.now closed.items local slice)) }
+    ensures kept { AreSamePartitions closed.items result.1.items }
+    ensures calm { OnOk result.0 (CountOn closed.items result.1.items) }
+    ensures cause { IfErr result.0 (λ e. IsGiveCause (unasked query.now closed.items local slice)
+        (unasked query.now result.1.items local slice) e) }
+{
+    if query.query().maintain_order {
+        answer_of_chunks(alloc, form, query, closed, local, slice)
+    } else {
+        answer_of_wholes(alloc, form, query, closed, local, slice)
     }
 }
 

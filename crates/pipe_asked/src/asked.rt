@@ -1,6 +1,6 @@
 //! Closed partitions that are asked for their groups, one after another.
 
-ghost use Rattle.std.specs.Prelude.{◌≡◌, ◌==◌, ◌+◌, ◌<◌, ℕ, IfErr, IfOk, List, OnErr, OnOk, length, slice_index_or};
+ghost use Rattle.std.specs.Prelude.{◌≡◌, ◌==◌, ◌||◌, ◌+◌, ◌<◌, ℕ, IfErr, IfOk, List, OnErr, OnOk, length, slice_index_or};
 ghost use Rattle.pipe_aggs.specs.QueryTrees.{query_tree};
 ghost use Rattle.pipe_columns.specs.Frame.{FitsSchema};
 ghost use Rattle.pipe_columns.specs.Row.{Row};
@@ -10,12 +10,13 @@ ghost use Rattle.pipe_groups.specs.QueryRows.{ArePlacedRows};
 ghost use Rattle.pipe_asked.specs.Left.{CountOn};
 ghost use Rattle.pipe_asked.specs.Given.{HasGivenNext, HasRows, is_used_up, IsSource, KeepsSource, SourceSeen};
 ghost use Rattle.pipe_asked.specs.Sources.{IsPlacedFrame};
+ghost use Rattle.pipe_asked.specs.Stacking.{GivesNextPieces};
 ghost use Rattle.pipe_global.specs.Finishing.{IsCause};
 
 use pipe_aggs::CheckedQuery;
 use pipe_columns::DataChunk;
 use pipe_global::{BatchError, ClosedPartition};
-use pipe_groups::PlacedGroups;
+use pipe_groups::{GroupPieces, PlacedGroups};
 use pipe_spill::SpillStore;
 use pipe_tables::AggHashTable;
 use std::alloc::Global;
@@ -121,6 +122,16 @@ impl<'a, S: SpillStore + Drop> AskedPartitions<'a, S> {
         self.given == self.partitions.len()
     }
 
+    /// Whether nothing is left to give, where the query keeps no order.
+    pub(crate) fn is_done(&self) -> bool
+        ensures is { result ≡ (is_used_up self.now.slice
+            || (self.now.given == length self.now.partitions)) }
+        ensures source { IsSource self.now }
+    {
+        let all = self.are_given();
+        self.is_used_up() || all
+    }
+
     /// Gives the groups of the next partition, in the order of their keys, under what is left of the
     /// slice. A refused call gives nothing and loses no row, and can be made again.
     pub(crate) fn next_chunk(&mut self) -> Result<DataChunk, BatchError>
@@ -188,6 +199,37 @@ impl<'a, S: SpillStore + Drop> AskedPartitions<'a, S> {
         };
         *given += 1;
         Ok(groups)
+    }
+
+    /// Gives the groups of the next partition piece by piece, in the order of their keys, under what is
+    /// left of the slice. They are the partition's no more. A refused call gives nothing and loses no row.
+    pub(crate) fn next_pieces(&mut self) -> Result<GroupPieces, BatchError>
+        requires left { self.old.given < length self.old.partitions }
+        ensures pieces { IfOk result (λ p. GivesNextPieces self.old self.new p) }
+        ensures kept { OnOk result (KeepsSource self.old self.new (self.old.given + 1)) }
+        ensures calm { OnOk result (CountOn self.old.partitions self.new.partitions) }
+        ensures refused { OnErr result (KeepsSource self.old self.new self.old.given) }
+        ensures stands { OnOk result
+            ((rs : List Row) → HasRows rs self.old → HasRows rs self.new) }
+        ensures cause { IfErr result (λ e. (d : _) → IsCause
+            (slice_index_or self.old.partitions self.old.given d)
+            (slice_index_or self.new.partitions self.old.given d) e) }
+    {
+        let AskedPartitions {
+            alloc,
+            partitions,
+            local,
+            slice,
+            given,
+            ..
+        } = self;
+        let partition = &mut partitions[*given];
+        let pieces = match partition.finish_pieces(*alloc, local, slice) {
+            Ok(pieces) => pieces,
+            Err(refused) => return Err(refused),
+        };
+        *given += 1;
+        Ok(pieces)
     }
 
     /// Gives the partitions back, in order. It takes no memory.

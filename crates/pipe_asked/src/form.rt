@@ -1,13 +1,15 @@
 //! What the groups of partitions become: a frame, or the lines of its rows.
 
-ghost use Rattle.std.specs.Prelude.{◌≡◌, [], IfOk, List, OnOk, ⊤};
+ghost use Rattle.std.specs.Prelude.{◌≡◌, ◌<◌, [], IfOk, List, OnOk, ⊤};
 ghost use Rattle.pipe_columns.specs.declared.schema.Field.{Field};
 ghost use Rattle.pipe_columns.specs.Frame.{AllHaveHeight, fields_of, frame_of, FrameData, stacked};
 ghost use Rattle.pipe_lines.specs.Lines.{joined_texts, lines_of};
+ghost use Rattle.pipe_asked.specs.Stacking.{IsWholeOfGroups};
 ghost use Rattle.pipe_asked.specs.Wholes.{AreAlike};
 
 use crate::stacking::put_below;
 use pipe_columns::{DataFrame, Schema};
+use pipe_groups::GroupPieces;
 use pipe_lines::{Lines, add_all_lines};
 use std::alloc::{AllocError, Global};
 
@@ -21,6 +23,10 @@ pub trait Form {
 
     /// A whole is that of a frame.
     ghost is: { Self → Self.Whole → FrameData → Type 0 };
+
+    /// How many groups it takes at a time, where groups are given piece by piece.
+    fn piece(&self) -> usize
+        ensures { 0 < result };
 
     /// The whole of no rows.
     fn none(&self, alloc: Global, schema: &Schema) -> Result<Self::Whole, AllocError>
@@ -38,6 +44,35 @@ pub trait Form {
         ensures { OnOk result ((f g : FrameData) → fields_of g.columns ≡ fields_of f.columns
             → AllHaveHeight f.height f.columns → is self.now whole.old f → is self.now more g
             → is self.now whole.new (stacked f g)) };
+
+    /// The whole of the groups that are left to give, made piece by piece: the frame of each piece goes
+    /// before the next is made.
+    fn of_pieces(
+        &self,
+        alloc: Global,
+        schema: &Schema,
+        pieces: &mut GroupPieces,
+    ) -> Result<Self::Whole, AllocError>
+        requires takes { takes self.now pieces.old.shape.fields }
+        requires schema { schema.now ≡ pieces.old.shape.fields }
+        ensures { IfOk result
+            (IsWholeOfGroups (is self.now) pieces.old.shape pieces.old.left) }
+    {
+        let most = self.piece();
+        let first = pieces.next_piece(most)?;
+        let Some(front) = first else {
+            return self.none(alloc, schema);
+        };
+        let mut whole = self.of_frame(alloc, front)?;
+        'rest: loop {
+            let given = pieces.next_piece(most)?;
+            let Some(piece) = given else {
+                return Ok(whole);
+            };
+            let more = self.of_frame(alloc, piece)?;
+            self.put_below(&mut whole, more)?;
+        }
+    }
 }
 
 /// The frame itself.
@@ -50,6 +85,10 @@ impl Form for AsFrame {
     ghost takes = { λ form fields. ⊤ };
 
     ghost is = { λ form w f. w ≡ f };
+
+    fn piece(&self) -> usize {
+        usize::MAX
+    }
 
     fn none(&self, alloc: Global, schema: &Schema) -> Result<DataFrame, AllocError> {
         DataFrame::empty_with_schema(alloc, schema)
@@ -84,6 +123,10 @@ impl<'a, L: Lines> Form for AsText<'a, L> {
 
     ghost is = { λ t w f. (joined_texts w.texts.items ≡ lines_of (L.shape t.lines.now) f)
         × (w.height ≡ f.height) };
+
+    fn piece(&self) -> usize {
+        4096
+    }
 
     fn none(&self, alloc: Global, _schema: &Schema) -> Result<GroupsText, AllocError> {
         Ok(GroupsText {

@@ -7,6 +7,7 @@ mod by_place;
 mod cut;
 mod form;
 mod group_source;
+mod in_turn;
 mod kept;
 mod laws;
 mod side_by_side;

@@ -164,7 +164,8 @@ fn answer_by_parts<F: Form + Sync, S: SpillStore + Drop + Send, H: Threads + Syn
     ensures cause { IfErr result.0 (λ e. IsGiveCause (unasked query.now closed.items local None)
         (unasked query.now result.1.items local None) e) }
 {
-    let keep = AsWhole { form };
+    let schema = query.output_schema();
+    let keep = AsWhole { form, schema };
     let (given, closed) = finish_all(rt, alloc, threads, query, &keep, closed, local);
     match given {
         Ok(wholes) => (stacked_parts(alloc, form, query, wholes), closed),

@@ -82,26 +82,6 @@ pub(crate) fn tasks_of<S: SpillStore + Drop, T: Drop>(
     tasks
 }
 
-/// What is kept of the groups of a partition, which is finished. The rest of them goes.
-fn finish_kept<S: SpillStore + Drop, K: Keep>(
-    alloc: Global,
-    keep: &K,
-    partition: &mut ClosedPartition<S>,
-    local: &mut AggHashTable,
-) -> Result<K::Kept, BatchError>
-    requires { CanBeKept (K.takes keep.now) partition.old local.old }
-    ensures { WasFinished (K.is keep.now) partition.old local.old partition.new result }
-{
-    let groups = match partition.finish_placed(alloc, local) {
-        Ok(groups) => groups,
-        Err(error) => return Err(error),
-    };
-    match keep.keep(alloc, groups) {
-        Ok(kept) => Ok(kept),
-        Err(AllocError) => Err(BatchError::Memory),
-    }
-}
-
 /// Finishes a partition.
 fn finish_one<S: SpillStore + Drop, K: Keep>(
     alloc: Global,
@@ -117,7 +97,7 @@ fn finish_one<S: SpillStore + Drop, K: Keep>(
         local,
         given,
     } = task;
-    *given = finish_kept(alloc, keep, partition, local);
+    *given = keep.finish(alloc, partition, local);
 }
 
 /// Finishes each partition, in a thread beside others where one can be had.

@@ -13,13 +13,14 @@ use Rattle.pipe_spill.specs.SpillRow.{AreRows, IsRow, joined_rows, Payload}
 use Rattle.pipe_spill.specs.declared.spill_row.SpillRow.{SpillRow}
 use Rattle.pipe_groups.specs.Groups.{Group, held_at}
 use Rattle.pipe_groups.specs.Holds.{Holds}
+use Rattle.pipe_groups.specs.Pieces.{PiecesSeen}
 use Rattle.pipe_groups.specs.Shape.{Shape}
 use Rattle.pipe_groups.proofs.HoldFacts.{holds-moved, holds-part}
 use Rattle.pipe_keyed.specs.Tables.{HoldFewTogether, Table}
 use Rattle.pipe_tables.specs.Tables.{lies_in}
 use Rattle.pipe_global.specs.declared.mark.Mark.{Mark}
-use Rattle.pipe_global.specs.Finishing.{AreOwn, CanFinish, GivesGroups, GivesOwn, GivesOwnPlaced, GivesPlaced, IsEmptied, IsMarked, KeepsRest, other_rows, own_rows, StandAsBefore, StandFor, StandMoved, StandsForRows}
-use Rattle.pipe_global.specs.Gathering.{HasGathered, HasGiven, HasGivenPlaced, HasTakenLocal, HoldsAllRows, without_groups}
+use Rattle.pipe_global.specs.Finishing.{AreOwn, CanFinish, GivesGroups, GivesOwn, GivesOwnPieces, GivesOwnPlaced, GivesPieces, GivesPlaced, IsEmptied, IsMarked, KeepsRest, other_rows, own_rows, StandAsBefore, StandFor, StandMoved, StandsForRows}
+use Rattle.pipe_global.specs.Gathering.{HasGathered, HasGiven, HasGivenPieces, HasGivenPlaced, HasTakenLocal, HoldsAllRows, without_groups}
 use Rattle.pipe_global.specs.Partition.{PartitionSeen}
 use Rattle.pipe_global.proofs.Gathered.{kept-more, own-append, own-kept, own-none}
 
@@ -203,6 +204,18 @@ module _ (s now : PartitionSeen) (local left : Table) (kept : KeepsRest s now) w
         left_is = given.left_is;
       })
 
+  pub gives-pieces : (slice rest : Option (ℕ × ℕ)) (p : PiecesSeen) → HoldsAllRows s now local left → HasGivenPieces now slice rest p → (rows locals : List SpillRow) → StandFor s local rows locals
+      → GivesPieces s.table.shape slice rest (rows ++ own_rows s locals) p
+  gives-pieces slice rest p ready given rows locals both =
+      let moved = ready.moved rows locals both in
+      subst (λ (x : Shape). GivesPieces x slice rest (rows ++ own_rows s locals) p) kept.shape.0 (record {
+        groups = now.table.groups;
+        apart = given.apart;
+        holds = holds-standing now (rows ++ own_rows s locals) ready.waiting ready.marks moved.stands;
+        pieces_are = given.pieces_are;
+        left_is = given.left_is;
+      })
+
   pub gives-placed : (f : FrameData) (firsts : List Place) → HoldsAllRows s now local left → HasGivenPlaced now f firsts → (rows locals : List SpillRow) → StandFor s local rows locals
       → GivesPlaced s.table.shape (rows ++ own_rows s locals) f firsts
   gives-placed f firsts ready given rows locals both =
@@ -221,6 +234,14 @@ module _ (s now : PartitionSeen) (local left : Table) (kept : KeepsRest s now) w
         rows = few.rows;
         own = own-back s now few.rows kept few.own;
         gives = subst (λ (x : Shape). GivesGroups x slice rest few.rows f) kept.shape.0 (record { groups = now.table.groups; apart = given.apart; holds = few.holds; frame_is = given.frame_is; left_is = given.left_is });
+      }
+
+  pub gives-own-pieces : (slice rest : Option (ℕ × ℕ)) (p : PiecesSeen) → CanFinish now left → HasGivenPieces now slice rest p → GivesOwnPieces s slice rest p
+  gives-own-pieces slice rest p can given =
+      let few = can.gathers.few in record {
+        rows = few.rows;
+        own = own-back s now few.rows kept few.own;
+        gives = subst (λ (x : Shape). GivesPieces x slice rest few.rows p) kept.shape.0 (record { groups = now.table.groups; apart = given.apart; holds = few.holds; pieces_are = given.pieces_are; left_is = given.left_is });
       }
 
   pub gives-own-placed : (f : FrameData) (firsts : List Place) → CanFinish now left → HasGivenPlaced now f firsts → GivesOwnPlaced s f firsts

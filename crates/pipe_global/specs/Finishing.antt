@@ -15,6 +15,7 @@ use Rattle.pipe_spill.specs.declared.spill_row.SpillRow.{SpillRow}
 use Rattle.pipe_groups.specs.Given.{in_order, IsFrameOfGroups, slice_after}
 use Rattle.pipe_groups.specs.Groups.{count_held, Group, held_at, group_keys}
 use Rattle.pipe_groups.specs.Holds.{Holds}
+use Rattle.pipe_groups.specs.Pieces.{PiecesSeen}
 use Rattle.pipe_groups.specs.QueryRows.{ArePlaced}
 use Rattle.pipe_groups.specs.Shape.{Shape}
 use Rattle.pipe_keyed.specs.Tables.{KeepsShape, Table}
@@ -106,6 +107,15 @@ pub record GivesGroups (shape : Shape) (slice left : Option (ℕ × ℕ)) (rows 
   pub frame_is : IsFrameOfGroups shape (sliced slice (in_order groups)) frame
   pub left_is : left ≡ slice_after (count_held groups) slice
 
+-- the groups of rows, in the order of their keys, are to be given under a slice, of which this is left
+pub record GivesPieces (shape : Shape) (slice left : Option (ℕ × ℕ)) (rows : List SpillRow)
+    (pieces : PiecesSeen) : Type 0 where
+  pub groups : List Group
+  pub apart : IsDistinct bytes_eq (group_keys groups)
+  pub holds : Holds shape.prototypes groups rows
+  pub pieces_are : pieces ≡ record { shape = shape; left = sliced slice (in_order groups) }
+  pub left_is : left ≡ slice_after (count_held groups) slice
+
 -- a frame of the groups of rows, and the least place of the rows of each
 pub record GivesPlaced (shape : Shape) (rows : List SpillRow) (frame : FrameData)
     (firsts : List Place) : Type 0 where
@@ -120,6 +130,13 @@ pub record GivesOwn (s : PartitionSeen) (slice left : Option (ℕ × ℕ)) (fram
   pub rows : List SpillRow
   pub own : AreOwn s rows
   pub gives : GivesGroups s.table.shape slice left rows frame
+
+-- the groups of some rows of the partition are to be given under a slice, of which this is left
+pub record GivesOwnPieces (s : PartitionSeen) (slice left : Option (ℕ × ℕ)) (pieces : PiecesSeen)
+    : Type 0 where
+  pub rows : List SpillRow
+  pub own : AreOwn s rows
+  pub gives : GivesPieces s.table.shape slice left rows pieces
 
 -- a frame of the groups of some rows of the partition, and the least place of the rows of each
 pub record GivesOwnPlaced (s : PartitionSeen) (frame : FrameData) (firsts : List Place)

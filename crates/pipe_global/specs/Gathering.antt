@@ -10,6 +10,7 @@ use Rattle.pipe_spill.specs.declared.spill_row.SpillRow.{SpillRow}
 use Rattle.pipe_groups.specs.Given.{in_order, IsFrameOfGroups, slice_after}
 use Rattle.pipe_groups.specs.Groups.{count_held, group_keys}
 use Rattle.pipe_groups.specs.Holds.{Holds}
+use Rattle.pipe_groups.specs.Pieces.{PiecesSeen}
 use Rattle.pipe_groups.specs.QueryRows.{ArePlaced}
 use Rattle.pipe_keyed.specs.Tables.{KeepsShape, Table}
 use Rattle.pipe_global.specs.declared.mark.Mark.{Mark}
@@ -87,6 +88,14 @@ pub record HoldsAllRows (s new : PartitionSeen) (local left : Table) : Type 0 wh
 pub record HasGiven (s : PartitionSeen) (slice left : Option (ℕ × ℕ)) (frame : FrameData) : Type 0 where
   pub apart : IsDistinct bytes_eq (group_keys s.table.groups)
   pub frame_is : IsFrameOfGroups s.table.shape (sliced slice (in_order s.table.groups)) frame
+  pub left_is : left ≡ slice_after (count_held s.table.groups) slice
+
+-- the groups of the table are to be given piece by piece under a slice, of which this is left
+pub record HasGivenPieces (s : PartitionSeen) (slice left : Option (ℕ × ℕ)) (pieces : PiecesSeen)
+    : Type 0 where
+  pub apart : IsDistinct bytes_eq (group_keys s.table.groups)
+  pub pieces_are : pieces
+      ≡ record { shape = s.table.shape; left = sliced slice (in_order s.table.groups) }
   pub left_is : left ≡ slice_after (count_held s.table.groups) slice
 
 -- all groups of the table were given, with their least places

@@ -2,12 +2,12 @@
 
 ghost use Rattle.std.specs.Prelude.{◌≡◌, ◌++◌, IfErr, IfOk, List, OnErr, OnOk};
 ghost use Rattle.pipe_spill.specs.declared.spill_row.SpillRow.{SpillRow};
-ghost use Rattle.pipe_global.specs.Finishing.{CanFinish, GivesGroups, GivesOwn, GivesOwnPlaced, GivesPlaced, HasNoFault, IsCause, IsEmptied, IsLeftOf, IsRestOf, KeepsRest, own_rows, StandFor, StandTogether};
+ghost use Rattle.pipe_global.specs.Finishing.{CanFinish, GivesGroups, GivesOwn, GivesOwnPieces, GivesOwnPlaced, GivesPieces, GivesPlaced, HasNoFault, IsCause, IsEmptied, IsLeftOf, IsRestOf, KeepsRest, own_rows, StandFor, StandTogether};
 
 use crate::batch_error::BatchError;
 use crate::closed::ClosedPartition;
 use pipe_columns::DataFrame;
-use pipe_groups::PlacedGroups;
+use pipe_groups::{GroupPieces, PlacedGroups};
 use pipe_spill::SpillStore;
 use pipe_tables::AggHashTable;
 use std::alloc::Global;
@@ -48,6 +48,38 @@ impl<S: SpillStore + Drop> ClosedPartition<S> {
             return Err(BatchError::Memory);
         };
         Ok(frame)
+    }
+
+    /// The same groups, to be given piece by piece. Once they are to be given, the partition has none.
+    pub fn finish_pieces(
+        &mut self,
+        alloc: Global,
+        local: &mut AggHashTable,
+        slice: &mut Option<(usize, usize)>,
+    ) -> Result<GroupPieces, BatchError>
+        requires { CanFinish self.old local.old }
+        ensures pieces { IfOk result (λ p. (rows locals : List SpillRow)
+            → StandFor self.old local.old rows locals → GivesPieces self.old.table.shape
+            slice.old slice.new (rows ++ own_rows self.old locals) p) }
+        ensures partition { IfOk result (λ p. GivesOwnPieces self.old slice.old slice.new p) }
+        ensures emptied { OnOk result (IsEmptied self.new) }
+        ensures rest { OnOk result (IsRestOf self.old local.old local.new) }
+        ensures kept { KeepsRest self.old self.new }
+        ensures again { OnErr result (CanFinish self.new local.new) }
+        ensures left { OnErr result (IsLeftOf self.old local.old local.new) }
+        ensures together { OnErr result (StandTogether self.old self.new local.old local.new) }
+        ensures slice_err { OnErr result (slice.new ≡ slice.old) }
+        ensures calm { OnOk result (HasNoFault self.old self.new) }
+        ensures cause { IfErr result (λ e. IsCause self.old self.new e) }
+    {
+        match self.contents.prepare(alloc, local) {
+            Ok(()) => {}
+            Err(error) => return Err(error),
+        }
+        let Ok(pieces) = self.contents.give_pieces(slice) else {
+            return Err(BatchError::Memory);
+        };
+        Ok(pieces)
     }
 
     /// The same of all groups, each with the least place of its rows.

@@ -2,12 +2,12 @@
 
 ghost use Rattle.std.specs.Prelude.{◌≡◌, IfErr, IfOk, OnErr, OnOk};
 ghost use Rattle.pipe_global.specs.Finishing.{CanFinish, HasNoFault, IsCause, KeepsRest, StandAsBefore};
-ghost use Rattle.pipe_global.specs.Gathering.{HasGiven, HasGivenPlaced, HasTakenLocal, HoldsAllRows, without_groups};
+ghost use Rattle.pipe_global.specs.Gathering.{HasGiven, HasGivenPieces, HasGivenPlaced, HasTakenLocal, HoldsAllRows, without_groups};
 
 use crate::batch_error::BatchError;
 use crate::contents::Contents;
 use pipe_columns::DataFrame;
-use pipe_groups::PlacedGroups;
+use pipe_groups::{GroupPieces, PlacedGroups};
 use pipe_spill::SpillStore;
 use pipe_tables::AggHashTable;
 use std::alloc::{AllocError, Global};
@@ -70,6 +70,20 @@ impl<S: SpillStore + Drop> Contents<S> {
     {
         let frame = self.table.finalize(slice)?;
         Ok(frame)
+    }
+
+    /// The groups of the table are given piece by piece under a slice, and none is left.
+    pub(crate) fn give_pieces(
+        &mut self,
+        slice: &mut Option<(usize, usize)>,
+    ) -> Result<GroupPieces, AllocError>
+        ensures pieces { IfOk result (λ p. HasGivenPieces self.old slice.old slice.new p) }
+        ensures ok { OnOk result (self.new ≡ without_groups self.old) }
+        ensures err { OnErr result (self.new ≡ self.old) }
+        ensures slice_err { OnErr result (slice.new ≡ slice.old) }
+    {
+        let pieces = self.table.in_pieces(slice)?;
+        Ok(pieces)
     }
 
     /// The same of all groups, each with the least place of its rows.

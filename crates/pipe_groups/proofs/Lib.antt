@@ -42,3 +42,5 @@ pub mod ByPlaceAnswer
 pub mod ManyFacts
 pub mod RoomFacts
 pub mod EachFacts
+pub mod LeftFacts
+pub mod PiecesFacts

@@ -1,15 +1,15 @@
 -- The running aggregates of one group among those of all, changed one by one.
-use Rattle.std.proofs.Common.{◌≡◌, ◌∙◌, ℕ, ◌+◌, ◌<◌, ◌≤◌, true, List, [], ◌++◌, length, map, take, drop, set, refl, sym, ap, arith}
-use Rattle.std.proofs.lemmas.List.{append-nil, drop_all, get_or-set_other, get_or-set_same, length-drop, length-set, set-get_or, set-set, take_all}
+use Rattle.std.proofs.Common.{◌≡◌, ◌∙◌, ℕ, ◌+◌, ◌<◌, ◌≤◌, true, List, [], ◌∷◌, ◌++◌, length, map, take, drop, set, refl, sym, ap, arith}
+use Rattle.std.proofs.lemmas.List.{append-nil, drop_all, get_or-set_other, get_or-set_same, length-drop, length-set, map-append, set-get_or, set-set, take_all, take_more, take_more_set}
 use Rattle.pipe_columns.specs.declared.any_value.AnyValue.{AnyValue}
 use Rattle.pipe_columns.specs.declared.place.Place.{Place}
 use Rattle.pipe_columns.specs.Frame.{value_at}
 use Rattle.pipe_kinds.specs.Columns.{no_state}
 use Rattle.pipe_kinds.specs.ManyStates.{ManyStates, state_of, states_in, with_state_of, with_states}
 use Rattle.pipe_running.specs.declared.function.AggregateFunction.{AggregateFunction}
-use Rattle.pipe_running.specs.GroupStates.{fed_from, run_from, StatesSeen, TakesFrom}
+use Rattle.pipe_running.specs.GroupStates.{fed_from, fresh_states, run_from, StatesSeen, TakesFrom}
 use Rattle.pipe_running.specs.Runs.{after_run}
-use Rattle.pipe_running.specs.States.{after_value, seen, takes}
+use Rattle.pipe_running.specs.States.{after_value, fresh, seen, takes}
 use Rattle.pipe_groups.proofs.RunFacts.{run-states-next}
 use Rattle.pipe_groups.proofs.StateFacts.{fed-next, left-next, same-next, seen-at, takes-at}
 
@@ -72,9 +72,19 @@ module _ (old now : ManyStates) (i j : ℕ) (c : ChangedTo old now i j) where
       let is : cur ≡ whole = sym (take_all j cur long) ∙ sym (append-nil (take j cur)) ∙ ap (λ (l : States). take j cur ++ l) (sym (ap after rest ∙ none)) ∙ done in
       c.others ∙ ap (λ (ss : States). with_states i ss old) is
 
--- another group's are as before
-pub changed-other : (old now : ManyStates) (i j k : ℕ) → ChangedTo old now i j → (k ≡ i → ⊥) → states_in now k ≡ states_in old k
-changed-other old now i j k c apart = ap (λ (m : ManyStates). states_in m k) c.others ∙ get_or-set_other old.groups i k (states_in now i) [] apart
+-- where those so far are as before any row, so is one more
+pub fresh-next : (old now : ManyStates) (i j : ℕ) → ChangedTo old now i j → (new : ManyStates) → i < length old.groups → j < length (states_in old i) → new ≡ with_state_of i j (fresh (state_of now i j)) now
+    → take j (states_in now i) ≡ fresh_states (take j (states_in old i)) → take (j + 1) (states_in new i) ≡ fresh_states (take (j + 1) (states_in old i))
+fresh-next old now i j c new within lt is done =
+    let own : States = states_in old i in
+    let s : AggregateFunction = fresh (state_of now i j) in
+    let more : fresh_states (take (j + 1) own) ≡ fresh_states (take j own) ++ fresh (state_of old i j) ∷ [] = ap (map fresh) (take_more own j no_state lt) ∙ map-append fresh (take j own) (state_of old i j ∷ []) in
+    ap (take (j + 1)) (changed-here old now i j c new s within is) ∙ take_more_set (states_in now i) j s (changed-long old now i j c lt)
+    ∙ (λ k. done k ++ fresh (changed-one old now i j c k) ∷ []) ∙ sym more
+
+-- another group's are as before where one group's are replaced
+pub put-other : (m : ManyStates) (i k : ℕ) (ss : States) → (k ≡ i → ⊥) → states_in (with_states i ss m) k ≡ states_in m k
+put-other m i k ss apart = get_or-set_other m.groups i k ss [] apart
 
 -- ---- fed a row
 

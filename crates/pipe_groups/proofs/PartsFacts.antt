@@ -34,7 +34,7 @@ use Rattle.pipe_groups.proofs.ByPlaceFacts.{ascending-once, held-placed}
 use Rattle.pipe_groups.proofs.HoldFacts.{holds-part}
 
 -- functions that agree on the elements of a list give the same images
-map-same : {X Y : Type 0} (P : X → Type 0) (f g : X → Y) → ((x : X) → P x → f x ≡ g x) → (xs : List X) → All P xs → map f xs ≡ map g xs
+pub map-same : {X Y : Type 0} (P : X → Type 0) (f g : X → Y) → ((x : X) → P x → f x ≡ g x) → (xs : List X) → All P xs → map f xs ≡ map g xs
 map-same P f g same [] h = refl
 map-same P f g same (x ∷ xs) h = let one = same x (All-head P x xs h) in let rest = map-same P f g same xs (All-tail P x xs h) in λ i. one i ∷ rest i
 

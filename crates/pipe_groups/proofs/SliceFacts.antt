@@ -30,7 +30,7 @@ module _ {X : Type 0} (same : X → X → Bool) where
   distinct-take (suc n) [] d = d
   distinct-take (suc n) (x ∷ xs) d = IsDistinct-cons same x (take n xs) (differs-take x n xs (IsDistinct-head same x xs d)) (distinct-take n xs (IsDistinct-tail same x xs d))
 
-  distinct-drop : (n : ℕ) (xs : List X) → IsDistinct same xs → IsDistinct same (drop n xs)
+  pub distinct-drop : (n : ℕ) (xs : List X) → IsDistinct same xs → IsDistinct same (drop n xs)
   distinct-drop zero xs d = d
   distinct-drop (suc n) [] d = d
   distinct-drop (suc n) (x ∷ xs) d = distinct-drop n xs (IsDistinct-tail same x xs d)

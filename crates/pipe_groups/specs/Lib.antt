@@ -12,3 +12,5 @@ pub mod Reading
 pub mod Shape
 pub mod Texts
 pub mod GroupRuns
+pub mod Pieces
+pub mod PiecesLayout

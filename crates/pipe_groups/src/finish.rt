@@ -1,6 +1,6 @@
 //! How groups become a frame.
 
-ghost use Rattle.std.specs.Prelude.{◌≡◌, ◌<◌, [], All, IfOk, length, map, nat_eq, OnErr, OnOk, Some, true};
+ghost use Rattle.std.specs.Prelude.{◌≡◌, ◌<◌, [], ℕ, All, false, IfOk, length, map, nat_eq, OnErr, OnOk, Some, true};
 ghost use Rattle.std.specs.List.{IsDistinct};
 ghost use Rattle.std.specs.Str.{bytes_eq};
 ghost use Rattle.pipe_columns.specs.Slice.{sliced};
@@ -82,11 +82,30 @@ impl Groups {
         ensures emptied { OnOk result (HasGroups self.old self.new []) }
         ensures err { OnErr result (HasGroups self.old self.new self.old.groups) }
     {
+        let frame = self.give_frame(taken)?;
+        self.release();
+        Ok(frame)
+    }
+
+    /// The frame of some groups, in turn. The other groups stay. All memory is had before anything
+    /// changes.
+    pub(crate) fn give_frame(&mut self, taken: &[usize]) -> Result<DataFrame, AllocError>
+        requires within { All (λ i. i < length self.old.groups) taken.now }
+        requires once { IsDistinct nat_eq taken.now }
+        requires gives { All (CanGive self.old.shape) (map (group_of self.old.groups) taken.now) }
+        ensures frame { IfOk result (λ f.
+            IsFrameOfGroups self.old.shape (map (group_of self.old.groups) taken.now) f) }
+        ensures shape { self.new.shape ≡ self.old.shape }
+        ensures count { length self.new.groups ≡ length self.old.groups }
+        ensures others { (k : ℕ) → All (λ i. nat_eq i k ≡ false) taken.now
+            → group_of self.new.groups k ≡ group_of self.old.groups k }
+        ensures err { OnErr result (HasGroups self.old self.new self.old.groups) }
+    {
         let alloc = *self.entries.allocator();
         let keys = self.key_columns(taken)?;
         let mut given = self.given_columns(taken.len())?;
         let mut columns = Vec::with_capacity(alloc, keys.len() + given.len())?;
-        self.give_all(taken, &mut given);
+        self.give_states(taken, &mut given);
         finish_all(keys, &mut columns);
         finish_all(given, &mut columns);
         Ok(DataFrame::new(taken.len(), columns).unwrap())

@@ -12,7 +12,7 @@ ghost use Rattle.pipe_groups.specs.Groups.{count_held, HasGroups, held_groups, g
 use crate::keyed_groups::KeyedGroups;
 use crate::marking::Marking;
 use pipe_columns::DataFrame;
-use pipe_groups::PlacedGroups;
+use pipe_groups::{GroupPieces, PlacedGroups};
 use std::alloc::AllocError;
 
 impl<M: Marking> KeyedGroups<M> {
@@ -32,6 +32,30 @@ impl<M: Marking> KeyedGroups<M> {
         let frame = self.groups.finalize(slice)?;
         self.chains = self.chains.split();
         Ok(frame)
+    }
+
+    /// The groups that hold rows, to be given piece by piece in the order of their keys, under a
+    /// slice, of which less is then left. No group is left here. Where memory is wanting, all stays
+    /// as it was.
+    pub fn in_pieces(
+        &mut self,
+        slice: &mut Option<(usize, usize)>,
+    ) -> Result<GroupPieces, AllocError>
+        requires apart { IsDistinct bytes_eq (group_keys self.old.groups) }
+        requires gives { All (CanGive self.old.shape) (held_groups self.old.groups) }
+        ensures pieces { IfOk result (λ p. p ≡ record {
+          shape = self.old.shape;
+          left = sliced slice.old (in_order self.old.groups);
+        }) }
+        ensures emptied { OnOk result (HasGroups self.old self.new []) }
+        ensures slice { OnOk result
+            (slice.new ≡ slice_after (count_held self.old.groups) slice.old) }
+        ensures err { OnErr result (HasGroups self.old self.new self.old.groups) }
+        ensures slice_err { OnErr result (slice.new ≡ slice.old) }
+    {
+        let pieces = self.groups.in_pieces(slice)?;
+        self.chains = self.chains.split();
+        Ok(pieces)
     }
 
     /// The frame of all groups that hold rows, in the order of their keys, with their first places.

@@ -10,11 +10,23 @@ use Rattle.pipe_running.specs.declared.function.AggregateFunction.{AggregateFunc
 use Rattle.pipe_running.specs.declared.function.AggregateFunction.TheVariants as function
 use Rattle.pipe_running.specs.Lent.{keeps_text}
 use Rattle.pipe_running.specs.States.{after_value, takes}
+use Rattle.pipe_kinds.specs.declared.count_states.CountStates.{CountStates}
+use Rattle.pipe_kinds.specs.declared.count_states.CountStates.TheVariants as counts
+use Rattle.pipe_kinds.specs.declared.extreme_states.ExtremeNumbers.{ExtremeNumbers}
+use Rattle.pipe_kinds.specs.declared.extreme_states.ExtremeNumbers.TheVariants as extremes
+use Rattle.pipe_kinds.specs.declared.other_states.OtherStates.{OtherStates}
+use Rattle.pipe_kinds.specs.declared.other_states.OtherStates.TheVariants as others
+use Rattle.pipe_kinds.specs.declared.sum_states.SumStates.{SumStates}
+use Rattle.pipe_kinds.specs.declared.sum_states.SumStates.TheVariants as sums
 use Rattle.pipe_kinds.specs.declared.kind.KindStates.{KindStates}
 use Rattle.pipe_kinds.specs.declared.kind.KindStates.TheVariants as kind
 use Rattle.pipe_kinds.specs.Columns.{state_at}
+use Rattle.pipe_kinds.specs.CountStates.{counts_of}
+use Rattle.pipe_kinds.specs.ExtremeStates.{numbers_of}
 use Rattle.pipe_kinds.specs.Keeping.{keeps_value, plain_value}
 use Rattle.pipe_kinds.specs.Kinds.{is_held, states_of}
+use Rattle.pipe_kinds.specs.OtherStates.{hold_values, others_of}
+use Rattle.pipe_kinds.specs.SumStates.{sums_of}
 
 -- where none of a list is one that keeps values, none at an index is
 module _ {S : Type 0} (function : S → AggregateFunction) (plain : (s : S) → keeps_value (function s) ≡ false) where
@@ -23,26 +35,42 @@ module _ {S : Type 0} (function : S → AggregateFunction) (plain : (s : S) → 
   plain-at (x ∷ xs) zero = plain x
   plain-at (x ∷ xs) (suc i) = plain-at xs i
 
+-- no count keeps a value
+pub plain-count : (k : CountStates) (i : ℕ) → keeps_value (state_at (counts_of k) i) ≡ false
+plain-count (counts.Count v) i = plain-at function.Count (λ s. refl) v.items i
+plain-count (counts.Len v) i = plain-at function.Len (λ s. refl) v.items i
+
+-- nor does a sum
+pub plain-sum : (k : SumStates) (i : ℕ) → keeps_value (state_at (sums_of k) i) ≡ false
+plain-sum (sums.U32 v) i = plain-at function.SumU32 (λ s. refl) v.items i
+plain-sum (sums.U64 v) i = plain-at function.SumU64 (λ s. refl) v.items i
+plain-sum (sums.I32 v) i = plain-at function.SumI32 (λ s. refl) v.items i
+plain-sum (sums.I64 v) i = plain-at function.SumI64 (λ s. refl) v.items i
+
+-- nor a minimum or a maximum
+pub plain-extreme : (k : ExtremeNumbers) (i : ℕ) → keeps_value (state_at (numbers_of k) i) ≡ false
+plain-extreme (extremes.U8 v) i = plain-at function.MinMaxU8 (λ s. refl) v.items i
+plain-extreme (extremes.U16 v) i = plain-at function.MinMaxU16 (λ s. refl) v.items i
+plain-extreme (extremes.U32 v) i = plain-at function.MinMaxU32 (λ s. refl) v.items i
+plain-extreme (extremes.U64 v) i = plain-at function.MinMaxU64 (λ s. refl) v.items i
+plain-extreme (extremes.I8 v) i = plain-at function.MinMaxI8 (λ s. refl) v.items i
+plain-extreme (extremes.I16 v) i = plain-at function.MinMaxI16 (λ s. refl) v.items i
+plain-extreme (extremes.I32 v) i = plain-at function.MinMaxI32 (λ s. refl) v.items i
+plain-extreme (extremes.I64 v) i = plain-at function.MinMaxI64 (λ s. refl) v.items i
+
+-- of the others those that hold none
+pub plain-other : (k : OtherStates) (i : ℕ) → hold_values k ≡ false → keeps_value (state_at (others_of k) i) ≡ false
+plain-other (others.Mean v) i e = plain-at function.Mean (λ s. refl) v.items i
+plain-other (others.Null t v) i e = plain-at function.Null (λ s. refl) v.items i
+plain-other (others.First t v) i e = cc e
+plain-other (others.Last t v) i e = cc e
+
 -- states that aren't held keep no value
 pub plain-kind : (k : KindStates) (i : ℕ) → is_held k ≡ false → keeps_value (state_at (states_of k) i) ≡ false
-plain-kind (kind.Count v) i e = plain-at function.Count (λ s. refl) v.items i
-plain-kind (kind.Len v) i e = plain-at function.Len (λ s. refl) v.items i
-plain-kind (kind.SumU32 v) i e = plain-at function.SumU32 (λ s. refl) v.items i
-plain-kind (kind.SumU64 v) i e = plain-at function.SumU64 (λ s. refl) v.items i
-plain-kind (kind.SumI32 v) i e = plain-at function.SumI32 (λ s. refl) v.items i
-plain-kind (kind.SumI64 v) i e = plain-at function.SumI64 (λ s. refl) v.items i
-plain-kind (kind.Mean v) i e = plain-at function.Mean (λ s. refl) v.items i
-plain-kind (kind.Null t v) i e = plain-at function.Null (λ s. refl) v.items i
-plain-kind (kind.MinMaxU8 d v) i e = plain-at function.MinMaxU8 (λ s. refl) v.items i
-plain-kind (kind.MinMaxU16 d v) i e = plain-at function.MinMaxU16 (λ s. refl) v.items i
-plain-kind (kind.MinMaxU32 d v) i e = plain-at function.MinMaxU32 (λ s. refl) v.items i
-plain-kind (kind.MinMaxU64 d v) i e = plain-at function.MinMaxU64 (λ s. refl) v.items i
-plain-kind (kind.MinMaxI8 d v) i e = plain-at function.MinMaxI8 (λ s. refl) v.items i
-plain-kind (kind.MinMaxI16 d v) i e = plain-at function.MinMaxI16 (λ s. refl) v.items i
-plain-kind (kind.MinMaxI32 d v) i e = plain-at function.MinMaxI32 (λ s. refl) v.items i
-plain-kind (kind.MinMaxI64 d v) i e = plain-at function.MinMaxI64 (λ s. refl) v.items i
-plain-kind (kind.First t v) i e = cc e
-plain-kind (kind.Last t v) i e = cc e
+plain-kind (kind.Counts v) i e = plain-count v i
+plain-kind (kind.Sums v) i e = plain-sum v i
+plain-kind (kind.Extremes v) i e = plain-extreme v.numbers i
+plain-kind (kind.Others v) i e = plain-other v i e
 
 -- one that keeps no value keeps no text
 pub no-text : (p : Place) (v : AnyValue) (f : AggregateFunction) → keeps_value f ≡ false → keeps_text p v f ≡ false
@@ -100,8 +128,13 @@ plain-after p (av.Text s) (function.MinMaxI16 a) e = refl
 plain-after p (av.Text s) (function.MinMaxI32 a) e = refl
 plain-after p (av.Text s) (function.MinMaxI64 a) e = refl
 
--- what is of no held kind isn't held
-pub not-held : (k : KindStates) → ((t : DataType) (v : Vec AggregateFunction Global) → k ≡ kind.First t v → ⊥) → ((t : DataType) (v : Vec AggregateFunction Global) → k ≡ kind.Last t v → ⊥) → is_held k ≡ false
-not-held (kind.First t v) h l = absurd (h t v refl)
-not-held (kind.Last t v) h l = absurd (l t v refl)
+-- what is neither a first nor a last holds none
+pub not-held : (k : OtherStates) → ((t : DataType) (v : Vec AggregateFunction Global) → k ≡ others.First t v → ⊥) → ((t : DataType) (v : Vec AggregateFunction Global) → k ≡ others.Last t v → ⊥) → hold_values k ≡ false
+not-held (others.First t v) h l = absurd (h t v refl)
+not-held (others.Last t v) h l = absurd (l t v refl)
 not-held k h l = refl
+
+-- nor does what is none of the others
+pub not-other : (k : KindStates) → ((v : OtherStates) → k ≡ kind.Others v → ⊥) → is_held k ≡ false
+not-other (kind.Others v) h = absurd (h v refl)
+not-other k h = refl

@@ -1,7 +1,11 @@
 pub mod Columns
+pub mod CountStates
 pub mod Directions
+pub mod ExtremeStates
 pub mod Keeping
 pub mod KindState
 pub mod Kinds
 pub mod ManyStates
+pub mod OtherStates
 pub mod Stored
+pub mod SumStates

@@ -26,8 +26,8 @@ pub(crate) fn new_columns(
     Ok(columns)
 }
 
-/// Makes memory for so many more groups in each column that has so many, and says for how many there
-/// is.
+/// Makes memory for so many more groups in each column that has so many, and says for how many
+/// there is.
 pub(crate) fn reserve_all(
     columns: &mut [StateColumn],
     count: usize,

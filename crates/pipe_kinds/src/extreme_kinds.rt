@@ -3,13 +3,15 @@
 ghost use Rattle.std.specs.Prelude.{refl};
 ghost use Rattle.pipe_running.specs.declared.function.AggregateFunction.TheVariants as function;
 
-use crate::kind_state::KindState;
+use crate::kind_state::{AsFunction, KindState};
 use crate::plain_state::PlainState;
 use pipe_running::MinMaxAgg;
 
-impl KindState for MinMaxAgg<u8> {
+impl AsFunction for MinMaxAgg<u8> {
     ghost as_function = { function.MinMaxU8 };
+}
 
+impl KindState for MinMaxAgg<u8> {
     ghost is_kind = { record {
       after_is = λ p v s. refl;
       takes_is = λ s v. refl;
@@ -25,9 +27,11 @@ impl PlainState for MinMaxAgg<u8> {
     ghost keeps_none = { λ s. refl };
 }
 
-impl KindState for MinMaxAgg<u16> {
+impl AsFunction for MinMaxAgg<u16> {
     ghost as_function = { function.MinMaxU16 };
+}
 
+impl KindState for MinMaxAgg<u16> {
     ghost is_kind = { record {
       after_is = λ p v s. refl;
       takes_is = λ s v. refl;
@@ -43,9 +47,11 @@ impl PlainState for MinMaxAgg<u16> {
     ghost keeps_none = { λ s. refl };
 }
 
-impl KindState for MinMaxAgg<u32> {
+impl AsFunction for MinMaxAgg<u32> {
     ghost as_function = { function.MinMaxU32 };
+}
 
+impl KindState for MinMaxAgg<u32> {
     ghost is_kind = { record {
       after_is = λ p v s. refl;
       takes_is = λ s v. refl;
@@ -61,9 +67,11 @@ impl PlainState for MinMaxAgg<u32> {
     ghost keeps_none = { λ s. refl };
 }
 
-impl KindState for MinMaxAgg<u64> {
+impl AsFunction for MinMaxAgg<u64> {
     ghost as_function = { function.MinMaxU64 };
+}
 
+impl KindState for MinMaxAgg<u64> {
     ghost is_kind = { record {
       after_is = λ p v s. refl;
       takes_is = λ s v. refl;
@@ -79,9 +87,11 @@ impl PlainState for MinMaxAgg<u64> {
     ghost keeps_none = { λ s. refl };
 }
 
-impl KindState for MinMaxAgg<i8> {
+impl AsFunction for MinMaxAgg<i8> {
     ghost as_function = { function.MinMaxI8 };
+}
 
+impl KindState for MinMaxAgg<i8> {
     ghost is_kind = { record {
       after_is = λ p v s. refl;
       takes_is = λ s v. refl;
@@ -97,9 +107,11 @@ impl PlainState for MinMaxAgg<i8> {
     ghost keeps_none = { λ s. refl };
 }
 
-impl KindState for MinMaxAgg<i16> {
+impl AsFunction for MinMaxAgg<i16> {
     ghost as_function = { function.MinMaxI16 };
+}
 
+impl KindState for MinMaxAgg<i16> {
     ghost is_kind = { record {
       after_is = λ p v s. refl;
       takes_is = λ s v. refl;
@@ -115,9 +127,11 @@ impl PlainState for MinMaxAgg<i16> {
     ghost keeps_none = { λ s. refl };
 }
 
-impl KindState for MinMaxAgg<i32> {
+impl AsFunction for MinMaxAgg<i32> {
     ghost as_function = { function.MinMaxI32 };
+}
 
+impl KindState for MinMaxAgg<i32> {
     ghost is_kind = { record {
       after_is = λ p v s. refl;
       takes_is = λ s v. refl;
@@ -133,9 +147,11 @@ impl PlainState for MinMaxAgg<i32> {
     ghost keeps_none = { λ s. refl };
 }
 
-impl KindState for MinMaxAgg<i64> {
+impl AsFunction for MinMaxAgg<i64> {
     ghost as_function = { function.MinMaxI64 };
+}
 
+impl KindState for MinMaxAgg<i64> {
     ghost is_kind = { record {
       after_is = λ p v s. refl;
       takes_is = λ s v. refl;

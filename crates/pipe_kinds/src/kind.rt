@@ -1,69 +1,53 @@
 //! The states of groups, all of one kind.
 
-ghost use Rattle.std.specs.Prelude.{◌≡◌, ◌+◌, ◌<◌, ◌≤◌, ◌∷◌, ◌++◌, [], IsOk, OnOk, length};
+ghost use Rattle.std.specs.Prelude.{◌≡◌, [], IfSome};
 ghost use Rattle.pipe_running.specs.States.{fresh};
+ghost use Rattle.pipe_kinds.specs.Directions.{direction_in};
+ghost use Rattle.pipe_kinds.specs.ExtremeStates.{fresh_number, numbers_of};
 ghost use Rattle.pipe_kinds.specs.Kinds.{fresh_of, room_of, states_of};
 
+use crate::count_states::CountStates;
 use crate::direction::direction_of;
-use crate::state_list::{clear_states, push_state, reserve_states};
-use pipe_columns::DataType;
-use pipe_running::{
-    AggregateFn, AggregateFunction, CountAgg, Direction, FirstAgg, LastAgg, MeanAgg, MinMaxAgg,
-    NullAgg, SumAgg,
-};
+use crate::extreme_states::{ExtremeNumbers, ExtremeStates};
+use crate::kind_list::{KindList, both_of_kind};
+use crate::other_states::OtherStates;
+use crate::sum_states::SumStates;
+use pipe_columns::{AnyValue, Place};
+use pipe_running::{AggregateFn, AggregateFunction, Finalized};
 use std::alloc::{AllocError, Global};
 
-/// The states of groups, all of one kind, each in a vector of that kind's own states. A first or a
-/// last is kept as it is, since it holds a value.
+/// The states of groups, all of one kind, each in a vector of that kind's own states.
 #[derive(Drop)]
 pub(crate) enum KindStates {
-    Count(Vec<CountAgg<false>>),
-    Len(Vec<CountAgg<true>>),
-    SumU32(Vec<SumAgg<u32>>),
-    SumU64(Vec<SumAgg<u64>>),
-    SumI32(Vec<SumAgg<i32>>),
-    SumI64(Vec<SumAgg<i64>>),
-    Mean(Vec<MeanAgg<i128>>),
-    Null(DataType, Vec<NullAgg>),
-    MinMaxU8(Direction, Vec<MinMaxAgg<u8>>),
-    MinMaxU16(Direction, Vec<MinMaxAgg<u16>>),
-    MinMaxU32(Direction, Vec<MinMaxAgg<u32>>),
-    MinMaxU64(Direction, Vec<MinMaxAgg<u64>>),
-    MinMaxI8(Direction, Vec<MinMaxAgg<i8>>),
-    MinMaxI16(Direction, Vec<MinMaxAgg<i16>>),
-    MinMaxI32(Direction, Vec<MinMaxAgg<i32>>),
-    MinMaxI64(Direction, Vec<MinMaxAgg<i64>>),
-    First(DataType, Vec<AggregateFunction>),
-    Last(DataType, Vec<AggregateFunction>),
+    Counts(CountStates),
+    Sums(SumStates),
+    Extremes(ExtremeStates),
+    Others(OtherStates),
 }
 
-/// Calls a function with the vector of states, of whichever kind they are.
+/// Calls a function with the states, of whichever kind they are.
 macro_rules! each_kind {
     ($kind:expr, $states:ident => $call:expr) => {
         match $kind {
-            KindStates::Count($states) => $call,
-            KindStates::Len($states) => $call,
-            KindStates::SumU32($states) => $call,
-            KindStates::SumU64($states) => $call,
-            KindStates::SumI32($states) => $call,
-            KindStates::SumI64($states) => $call,
-            KindStates::Mean($states) => $call,
-            KindStates::Null(_, $states) => $call,
-            KindStates::MinMaxU8(_, $states) => $call,
-            KindStates::MinMaxU16(_, $states) => $call,
-            KindStates::MinMaxU32(_, $states) => $call,
-            KindStates::MinMaxU64(_, $states) => $call,
-            KindStates::MinMaxI8(_, $states) => $call,
-            KindStates::MinMaxI16(_, $states) => $call,
-            KindStates::MinMaxI32(_, $states) => $call,
-            KindStates::MinMaxI64(_, $states) => $call,
-            KindStates::First(_, $states) => $call,
-            KindStates::Last(_, $states) => $call,
+            KindStates::Counts($states) => $call,
+            KindStates::Sums($states) => $call,
+            KindStates::Extremes($states) => $call,
+            KindStates::Others($states) => $call,
         }
     };
 }
 
-pub(crate) use each_kind;
+/// No minimums or maximums, in the direction of a running aggregate.
+fn no_extremes(prototype: &AggregateFunction, numbers: ExtremeNumbers) -> KindStates
+    ensures fresh { IfSome (direction_in prototype.now)
+        (λ d. fresh_of result ≡ fresh_number d numbers) }
+    ensures states { states_of result ≡ numbers_of numbers }
+{
+    KindStates::Extremes(ExtremeStates {
+        direction: direction_of(prototype),
+        numbers,
+    })
+}
 
 impl KindStates {
     /// No states, of the kind of a running aggregate.
@@ -72,127 +56,107 @@ impl KindStates {
         ensures states { states_of result ≡ [] }
     {
         match prototype {
-            AggregateFunction::First(state) => KindStates::First(state.dtype(), Vec::new(alloc)),
-            AggregateFunction::Last(state) => KindStates::Last(state.dtype(), Vec::new(alloc)),
-            AggregateFunction::Count(_) => KindStates::Count(Vec::new(alloc)),
-            AggregateFunction::Len(_) => KindStates::Len(Vec::new(alloc)),
-            AggregateFunction::SumU32(_) => KindStates::SumU32(Vec::new(alloc)),
-            AggregateFunction::SumU64(_) => KindStates::SumU64(Vec::new(alloc)),
-            AggregateFunction::SumI32(_) => KindStates::SumI32(Vec::new(alloc)),
-            AggregateFunction::SumI64(_) => KindStates::SumI64(Vec::new(alloc)),
-            AggregateFunction::Mean(_) => KindStates::Mean(Vec::new(alloc)),
-            AggregateFunction::Null(state) => KindStates::Null(state.0, Vec::new(alloc)),
-            AggregateFunction::MinMaxU8(_) => KindStates::MinMaxU8(
-                direction_of(prototype),
-                Vec::new(alloc),
+            AggregateFunction::Count(_) => KindStates::Counts(CountStates::Count(Vec::new(alloc))),
+            AggregateFunction::Len(_) => KindStates::Counts(CountStates::Len(Vec::new(alloc))),
+            AggregateFunction::SumU32(_) => KindStates::Sums(SumStates::U32(Vec::new(alloc))),
+            AggregateFunction::SumU64(_) => KindStates::Sums(SumStates::U64(Vec::new(alloc))),
+            AggregateFunction::SumI32(_) => KindStates::Sums(SumStates::I32(Vec::new(alloc))),
+            AggregateFunction::SumI64(_) => KindStates::Sums(SumStates::I64(Vec::new(alloc))),
+            AggregateFunction::Mean(_) => KindStates::Others(OtherStates::Mean(Vec::new(alloc))),
+            AggregateFunction::Null(state) => {
+                KindStates::Others(OtherStates::Null(state.0, Vec::new(alloc)))
+            }
+            AggregateFunction::First(state) => {
+                KindStates::Others(OtherStates::First(state.dtype(), Vec::new(alloc)))
+            }
+            AggregateFunction::Last(state) => {
+                KindStates::Others(OtherStates::Last(state.dtype(), Vec::new(alloc)))
+            }
+            AggregateFunction::MinMaxU8(_) => no_extremes(
+                prototype,
+                ExtremeNumbers::U8(Vec::new(alloc)),
             ),
-            AggregateFunction::MinMaxU16(_) => KindStates::MinMaxU16(
-                direction_of(prototype),
-                Vec::new(alloc),
+            AggregateFunction::MinMaxU16(_) => no_extremes(
+                prototype,
+                ExtremeNumbers::U16(Vec::new(alloc)),
             ),
-            AggregateFunction::MinMaxU32(_) => KindStates::MinMaxU32(
-                direction_of(prototype),
-                Vec::new(alloc),
+            AggregateFunction::MinMaxU32(_) => no_extremes(
+                prototype,
+                ExtremeNumbers::U32(Vec::new(alloc)),
             ),
-            AggregateFunction::MinMaxU64(_) => KindStates::MinMaxU64(
-                direction_of(prototype),
-                Vec::new(alloc),
+            AggregateFunction::MinMaxU64(_) => no_extremes(
+                prototype,
+                ExtremeNumbers::U64(Vec::new(alloc)),
             ),
-            AggregateFunction::MinMaxI8(_) => KindStates::MinMaxI8(
-                direction_of(prototype),
-                Vec::new(alloc),
+            AggregateFunction::MinMaxI8(_) => no_extremes(
+                prototype,
+                ExtremeNumbers::I8(Vec::new(alloc)),
             ),
-            AggregateFunction::MinMaxI16(_) => KindStates::MinMaxI16(
-                direction_of(prototype),
-                Vec::new(alloc),
+            AggregateFunction::MinMaxI16(_) => no_extremes(
+                prototype,
+                ExtremeNumbers::I16(Vec::new(alloc)),
             ),
-            AggregateFunction::MinMaxI32(_) => KindStates::MinMaxI32(
-                direction_of(prototype),
-                Vec::new(alloc),
+            AggregateFunction::MinMaxI32(_) => no_extremes(
+                prototype,
+                ExtremeNumbers::I32(Vec::new(alloc)),
             ),
-            AggregateFunction::MinMaxI64(_) => KindStates::MinMaxI64(
-                direction_of(prototype),
-                Vec::new(alloc),
-            ),
-        }
-    }
-
-    /// Makes memory for so many more states.
-    pub(crate) fn reserve(&mut self, more: usize) -> Result<(), AllocError>
-        ensures states { states_of self.new ≡ states_of self.old }
-        ensures fresh { fresh_of self.new ≡ fresh_of self.old }
-        ensures ok { OnOk result (more ≤ room_of self.new) }
-        ensures room { room_of self.old ≤ room_of self.new }
-        ensures succeeds { more ≤ room_of self.old → IsOk result }
-    {
-        each_kind!(self, states => reserve_states(states, more))
-    }
-
-    /// Appends a state before any value, where there is room.
-    pub(crate) fn push_fresh(&mut self)
-        requires { 0 < room_of self.old }
-        ensures states { states_of self.new ≡ states_of self.old ++ fresh_of self.old ∷ [] }
-        ensures fresh { fresh_of self.new ≡ fresh_of self.old }
-        ensures room { room_of self.new + 1 ≡ room_of self.old }
-    {
-        match self {
-            KindStates::Count(states) => push_state(states, CountAgg::new()),
-            KindStates::Len(states) => push_state(states, CountAgg::new()),
-            KindStates::SumU32(states) => push_state(states, SumAgg::new()),
-            KindStates::SumU64(states) => push_state(states, SumAgg::new()),
-            KindStates::SumI32(states) => push_state(states, SumAgg::new()),
-            KindStates::SumI64(states) => push_state(states, SumAgg::new()),
-            KindStates::Mean(states) => push_state(states, MeanAgg::new()),
-            KindStates::Null(dtype, states) => push_state(states, NullAgg::new(*dtype)),
-            KindStates::MinMaxU8(direction, states) => push_state(
-                states,
-                MinMaxAgg::new(*direction),
-            ),
-            KindStates::MinMaxU16(direction, states) => push_state(
-                states,
-                MinMaxAgg::new(*direction),
-            ),
-            KindStates::MinMaxU32(direction, states) => push_state(
-                states,
-                MinMaxAgg::new(*direction),
-            ),
-            KindStates::MinMaxU64(direction, states) => push_state(
-                states,
-                MinMaxAgg::new(*direction),
-            ),
-            KindStates::MinMaxI8(direction, states) => push_state(
-                states,
-                MinMaxAgg::new(*direction),
-            ),
-            KindStates::MinMaxI16(direction, states) => push_state(
-                states,
-                MinMaxAgg::new(*direction),
-            ),
-            KindStates::MinMaxI32(direction, states) => push_state(
-                states,
-                MinMaxAgg::new(*direction),
-            ),
-            KindStates::MinMaxI64(direction, states) => push_state(
-                states,
-                MinMaxAgg::new(*direction),
-            ),
-            KindStates::First(dtype, states) => push_state(
-                states,
-                AggregateFunction::First(FirstAgg::new(*dtype)),
-            ),
-            KindStates::Last(dtype, states) => push_state(
-                states,
-                AggregateFunction::Last(LastAgg::new(*dtype)),
+            AggregateFunction::MinMaxI64(_) => no_extremes(
+                prototype,
+                ExtremeNumbers::I64(Vec::new(alloc)),
             ),
         }
     }
+}
 
-    /// Lets all states go. The room stays.
-    pub(crate) fn clear(&mut self)
-        ensures states { states_of self.new ≡ [] }
-        ensures fresh { fresh_of self.new ≡ fresh_of self.old }
-        ensures room { room_of self.new ≡ room_of self.old + length (states_of self.old) }
-    {
-        each_kind!(self, states => clear_states(states))
+impl KindList for KindStates {
+    ghost states_of = { states_of };
+
+    ghost fresh_of = { fresh_of };
+
+    ghost room_of = { room_of };
+
+    fn reserve(&mut self, more: usize) -> Result<(), AllocError> {
+        each_kind!(self, states => states.reserve(more))
+    }
+
+    fn room(&self) -> usize {
+        each_kind!(self, states => states.room())
+    }
+
+    fn push_fresh(&mut self) {
+        each_kind!(self, states => states.push_fresh())
+    }
+
+    fn clear(&mut self) {
+        each_kind!(self, states => states.clear())
+    }
+
+    fn release(&mut self) {
+        each_kind!(self, states => states.release())
+    }
+
+    #[inline(always)]
+    fn feed(&mut self, at: usize, place: Place, value: AnyValue) {
+        each_kind!(self, states => states.feed(at, place, value))
+    }
+
+    fn feed_run(&mut self, at: usize, chunk: u32, row: u32, values: &[AnyValue]) {
+        each_kind!(self, states => states.feed_run(at, chunk, row, values))
+    }
+
+    fn finalize(&mut self, at: usize) -> Finalized {
+        each_kind!(self, states => states.finalize(at))
+    }
+
+    fn join(&mut self, at: usize, other: &mut KindStates, from: usize) {
+        both_of_kind!(
+            KindStates::Counts, KindStates::Sums, KindStates::Extremes, KindStates::Others;
+            self, other, a, b => a.join(at, b, from)
+        )
+    }
+
+    #[inline(always)]
+    fn look(&self, at: usize) -> usize {
+        each_kind!(self, states => states.look(at))
     }
 }

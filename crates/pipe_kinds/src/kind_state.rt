@@ -5,11 +5,14 @@ ghost use Rattle.pipe_kinds.specs.KindState.{IsKind};
 
 use pipe_running::AggregateFn;
 
-/// A running aggregate of one kind. It says which running aggregate of any kind it is.
-pub(crate) trait KindState: AggregateFn + Drop {
+/// What is a running aggregate of any kind.
+pub(crate) trait AsFunction: Drop {
     /// The running aggregate of any kind that it is.
     ghost as_function: { Self → AggregateFunction };
+}
 
-    ghost is_kind: { IsKind as_function Self.after_value Self.takes Self.seen Self.alike Self.joined
-        Self.fresh Self.given };
+/// A running aggregate of one kind. It says of itself what the one of any kind says that it is.
+pub(crate) trait KindState: AsFunction + AggregateFn {
+    ghost is_kind: { IsKind Self.as_function Self.after_value Self.takes Self.seen Self.alike
+        Self.joined Self.fresh Self.given };
 }

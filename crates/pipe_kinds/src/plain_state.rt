@@ -7,5 +7,5 @@ use crate::kind_state::KindState;
 
 /// A running aggregate of one kind that keeps no value itself.
 pub(crate) trait PlainState: KindState {
-    ghost keeps_none: { (s : Self) → keeps_value (Self.KindState.as_function s) ≡ false };
+    ghost keeps_none: { (s : Self) → keeps_value (Self.AsFunction.as_function s) ≡ false };
 }

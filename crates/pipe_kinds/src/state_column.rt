@@ -1,6 +1,7 @@
 //! A column: the states of all groups for one aggregate.
 
-ghost use Rattle.std.specs.Prelude.{◌≡◌, ◌+◌, ◌<◌, ◌≤◌, ◌^◌, [], false, IsOk, None, OnOk, length, slice_set, true};
+ghost use Rattle.std.specs.Prelude.{◌≡◌, ◌+◌, ◌<◌, ◌≤◌, ◌^◌, [], false, IsOk, None, OnOk, length};
+ghost use Rattle.std.specs.Prelude.{slice_set, true};
 ghost use Rattle.std.specs.List.{list_all};
 ghost use Rattle.pipe_running.specs.Lent.{keeps_text, text_of_run};
 ghost use Rattle.pipe_running.specs.Runs.{after_run};
@@ -9,13 +10,15 @@ ghost use Rattle.pipe_kinds.specs.Columns.{cleared, pushed, released, state_at, 
 ghost use Rattle.pipe_kinds.specs.Keeping.{keeps_value};
 
 use crate::kind::KindStates;
+use crate::kind_list::KindList;
 use pipe_columns::{AnyValue, Place};
 use pipe_running::{AggregateFunction, Finalized};
 use std::alloc::{AllocError, Global};
 use std::marker::Model;
 
 /// The states of all groups for one aggregate, in a vector of its kind. Contracts see the list of
-/// them, each as a running aggregate of any kind, what one is before any value, and the room for more.
+/// them, each as a running aggregate of any kind, what one is before any value, and the room for
+/// more.
 #[derive(Drop)]
 pub struct StateColumn {
     kind: KindStates,
@@ -142,7 +145,8 @@ impl StateColumn {
     /// among which is no text that it would keep.
     pub fn feed_run(&mut self, group: usize, chunk: u32, row: u32, values: &[AnyValue])
         requires within { group < length self.old.states }
-        requires taken { list_all (λ v. takes (state_at self.old.states group) v) values.now ≡ true }
+        requires taken { list_all (λ v. takes (state_at self.old.states group) v) values.now
+            ≡ true }
         requires few { seen (state_at self.old.states group) + length values.now < 2 ^ 32 }
         requires rows { row + length values.now ≤ 2 ^ 32 }
         requires plain { text_of_run chunk row values.now (state_at self.old.states group) ≡ None }

@@ -1,17 +1,18 @@
 //! States of one kind in a vector, seen as running aggregates of any kind.
 
-ghost use Rattle.std.specs.Prelude.{◌≡◌, ◌+◌, ◌<◌, ◌≤◌, ◌^◌, ◌∷◌, ◌++◌, [], IsOk, OnOk, length, map, slice_set, true};
+ghost use Rattle.std.specs.Prelude.{◌≡◌, ◌+◌, ◌<◌, ◌≤◌, ◌^◌, ◌∷◌, ◌++◌, [], IsOk, OnOk, length};
+ghost use Rattle.std.specs.Prelude.{map, slice_set, true};
 ghost use Rattle.pipe_running.specs.States.{after_value, alike, fresh, given, joined, seen, takes};
 ghost use Rattle.pipe_kinds.specs.Columns.{room_in, state_at};
 
-use crate::kind_state::KindState;
+use crate::kind_state::{AsFunction, KindState};
 use pipe_columns::{AnyValue, Place};
 use pipe_running::{AggregateFunction, Finalized};
 use std::alloc::AllocError;
 use std::mem;
 
 /// Makes memory for so many more.
-pub(crate) fn reserve_states<A: KindState>(
+pub(crate) fn reserve_states<A: AsFunction>(
     states: &mut Vec<A>,
     more: usize,
 ) -> Result<(), AllocError>
@@ -24,7 +25,7 @@ pub(crate) fn reserve_states<A: KindState>(
 }
 
 /// Appends one, where there is room.
-pub(crate) fn push_state<A: KindState>(states: &mut Vec<A>, state: A)
+pub(crate) fn push_state<A: AsFunction>(states: &mut Vec<A>, state: A)
     requires { 0 < room_in states.old }
     ensures states { map A.as_function states.new.items
         ≡ map A.as_function states.old.items ++ A.as_function state ∷ [] }
@@ -34,7 +35,7 @@ pub(crate) fn push_state<A: KindState>(states: &mut Vec<A>, state: A)
 }
 
 /// Lets all go. The room stays.
-pub(crate) fn clear_states<A: KindState>(states: &mut Vec<A>)
+pub(crate) fn clear_states<A: AsFunction>(states: &mut Vec<A>)
     ensures states { map A.as_function states.new.items ≡ [] }
     ensures room { room_in states.new
         ≡ room_in states.old + length (map A.as_function states.old.items) }
@@ -71,14 +72,14 @@ pub(crate) fn give_at<A: KindState>(states: &mut Vec<A>, at: usize) -> Finalized
 }
 
 /// For how many more there is memory.
-pub(crate) fn room_left<A: KindState>(states: &Vec<A>) -> usize
+pub(crate) fn room_left<A: AsFunction>(states: &Vec<A>) -> usize
     ensures { result ≡ room_in states.now }
 {
     states.capacity() - states.len()
 }
 
 /// Lets all go, and gives their memory back.
-pub(crate) fn release_states<A: KindState>(states: &mut Vec<A>)
+pub(crate) fn release_states<A: AsFunction>(states: &mut Vec<A>)
     ensures states { map A.as_function states.new.items ≡ [] }
     ensures room { room_in states.new ≡ 0 }
 {

@@ -1,13 +1,15 @@
 //! The states of all groups, for all aggregates.
 
-ghost use Rattle.std.specs.Prelude.{◌≡◌, ◌+◌, ◌<◌, ◌≤◌, ◌^◌, [], false, ℕ, IfOk, IsOk, None, OnOk, length, true};
+ghost use Rattle.std.specs.Prelude.{◌≡◌, ◌+◌, ◌<◌, ◌≤◌, ◌^◌, [], false, ℕ, IfOk, IsOk, None, OnOk};
+ghost use Rattle.std.specs.Prelude.{length, true};
 ghost use Rattle.std.specs.List.{list_all};
 ghost use Rattle.pipe_running.specs.GroupStates.{fresh_states, joined_states};
 ghost use Rattle.pipe_running.specs.Lent.{keeps_text, text_of_run};
 ghost use Rattle.pipe_running.specs.Runs.{after_run};
 ghost use Rattle.pipe_running.specs.States.{after_value, fresh, given, seen, takes};
 ghost use Rattle.pipe_kinds.specs.Keeping.{keeps_value};
-ghost use Rattle.pipe_kinds.specs.ManyStates.{AreJoinable, state_of, states_in, with_fresh, with_state_of, with_states};
+ghost use Rattle.pipe_kinds.specs.ManyStates.{AreJoinable, state_of, states_in, with_fresh};
+ghost use Rattle.pipe_kinds.specs.ManyStates.{with_state_of, with_states};
 
 use crate::columns::{
     clear_all, join_all, look_all, new_columns, one_keeps_values, push_all, release_all,
@@ -154,8 +156,8 @@ impl States {
         self.columns[j].feed(group, place, value);
     }
 
-    /// Feeds the state of a group a value that is lent, and is no text that it would keep. It takes no
-    /// memory.
+    /// Feeds the state of a group a value that is lent, and is no text that it would keep. It takes
+    /// no memory.
     #[inline(always)]
     pub fn feed_lent(&mut self, group: usize, j: usize, place: Place, value: &AnyValue)
         requires within { group < length self.old.groups }
@@ -163,8 +165,8 @@ impl States {
         requires taken { takes (state_of self.old group j) value.now ≡ true }
         requires few { seen (state_of self.old group j) + 1 < 2 ^ 32 }
         requires plain { keeps_text place value.now (state_of self.old group j) ≡ false }
-        ensures { self.new
-            ≡ with_state_of group j (after_value place value.now (state_of self.old group j)) self.old }
+        ensures { self.new ≡ with_state_of group j
+            (after_value place value.now (state_of self.old group j)) self.old }
     {
         self.columns[j].feed_lent(group, place, value);
     }
@@ -189,13 +191,14 @@ impl States {
         requires within { group < length self.old.groups }
         requires there { j < length self.old.fresh }
         ensures given { result ≡ given (state_of self.old group j) }
-        ensures states { self.new ≡ with_state_of group j (fresh (state_of self.old group j)) self.old }
+        ensures states { self.new
+            ≡ with_state_of group j (fresh (state_of self.old group j)) self.old }
     {
         self.columns[j].finalize(group)
     }
 
-    /// Takes the states of a group of others over into those of a group, which are then as before any
-    /// row. It takes no memory.
+    /// Takes the states of a group of others over into those of a group, which are then as before
+    /// any row. It takes no memory.
     pub fn join(&mut self, group: usize, other: &mut States, from: usize)
         requires within { group < length self.old.groups }
         requires from { from < length other.old.groups }

@@ -3,13 +3,15 @@
 ghost use Rattle.std.specs.Prelude.{refl};
 ghost use Rattle.pipe_running.specs.declared.function.AggregateFunction.TheVariants as function;
 
-use crate::kind_state::KindState;
+use crate::kind_state::{AsFunction, KindState};
 use crate::plain_state::PlainState;
 use pipe_running::{CountAgg, MeanAgg, SumAgg};
 
-impl KindState for CountAgg<false> {
+impl AsFunction for CountAgg<false> {
     ghost as_function = { function.Count };
+}
 
+impl KindState for CountAgg<false> {
     ghost is_kind = { record {
       after_is = λ p v s. refl;
       takes_is = λ s v. refl;
@@ -25,9 +27,11 @@ impl PlainState for CountAgg<false> {
     ghost keeps_none = { λ s. refl };
 }
 
-impl KindState for CountAgg<true> {
+impl AsFunction for CountAgg<true> {
     ghost as_function = { function.Len };
+}
 
+impl KindState for CountAgg<true> {
     ghost is_kind = { record {
       after_is = λ p v s. refl;
       takes_is = λ s v. refl;
@@ -43,9 +47,11 @@ impl PlainState for CountAgg<true> {
     ghost keeps_none = { λ s. refl };
 }
 
-impl KindState for SumAgg<u32> {
+impl AsFunction for SumAgg<u32> {
     ghost as_function = { function.SumU32 };
+}
 
+impl KindState for SumAgg<u32> {
     ghost is_kind = { record {
       after_is = λ p v s. refl;
       takes_is = λ s v. refl;
@@ -61,9 +67,11 @@ impl PlainState for SumAgg<u32> {
     ghost keeps_none = { λ s. refl };
 }
 
-impl KindState for SumAgg<u64> {
+impl AsFunction for SumAgg<u64> {
     ghost as_function = { function.SumU64 };
+}
 
+impl KindState for SumAgg<u64> {
     ghost is_kind = { record {
       after_is = λ p v s. refl;
       takes_is = λ s v. refl;
@@ -79,9 +87,11 @@ impl PlainState for SumAgg<u64> {
     ghost keeps_none = { λ s. refl };
 }
 
-impl KindState for SumAgg<i32> {
+impl AsFunction for SumAgg<i32> {
     ghost as_function = { function.SumI32 };
+}
 
+impl KindState for SumAgg<i32> {
     ghost is_kind = { record {
       after_is = λ p v s. refl;
       takes_is = λ s v. refl;
@@ -97,9 +107,11 @@ impl PlainState for SumAgg<i32> {
     ghost keeps_none = { λ s. refl };
 }
 
-impl KindState for SumAgg<i64> {
+impl AsFunction for SumAgg<i64> {
     ghost as_function = { function.SumI64 };
+}
 
+impl KindState for SumAgg<i64> {
     ghost is_kind = { record {
       after_is = λ p v s. refl;
       takes_is = λ s v. refl;
@@ -115,9 +127,11 @@ impl PlainState for SumAgg<i64> {
     ghost keeps_none = { λ s. refl };
 }
 
-impl KindState for MeanAgg<i128> {
+impl AsFunction for MeanAgg<i128> {
     ghost as_function = { function.Mean };
+}
 
+impl KindState for MeanAgg<i128> {
     ghost is_kind = { record {
       after_is = λ p v s. refl;
       takes_is = λ s v. refl;

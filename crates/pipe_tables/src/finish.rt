@@ -8,7 +8,7 @@ ghost use Rattle.pipe_keyed.specs.Tables.{HasGroups, IsTable};
 
 use crate::hash_table::AggHashTable;
 use pipe_columns::DataFrame;
-use pipe_groups::PlacedGroups;
+use pipe_groups::{GroupPieces, PlacedGroups};
 use std::alloc::AllocError;
 
 impl AggHashTable {
@@ -28,6 +28,29 @@ impl AggHashTable {
         self.parts = None;
         self.hints = self.hints.split();
         Ok(frame)
+    }
+
+    /// The groups, to be given piece by piece in the order of their keys, under a slice, of which less
+    /// is then left. None is left here. Where memory is wanting, all stays as it was.
+    pub fn in_pieces(
+        &mut self,
+        slice: &mut Option<(usize, usize)>,
+    ) -> Result<GroupPieces, AllocError>
+        ensures pieces { IfOk result (λ p. p ≡ record {
+          shape = self.old.shape;
+          left = sliced slice.old (in_order self.old.groups);
+        }) }
+        ensures slice { OnOk result
+            (slice.new ≡ slice_after (count_held self.old.groups) slice.old) }
+        ensures emptied { OnOk result (HasGroups self.old self.new []) }
+        ensures err { OnErr result (HasGroups self.old self.new self.old.groups) }
+        ensures slice_err { OnErr result (slice.new ≡ slice.old) }
+        ensures table { IsTable self.old }
+    {
+        let pieces = self.keyed.in_pieces(slice)?;
+        self.parts = None;
+        self.hints = self.hints.split();
+        Ok(pieces)
     }
 
     /// Gives all groups in the order of their keys, each with the least place of its rows. None is

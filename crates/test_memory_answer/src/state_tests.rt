@@ -71,12 +71,15 @@ fn refusals_of_states(rt: HostRuntime) -> Result<(), Fail> {
     let alloc = rt.alloc();
     let mut states = state_at(alloc, 0)?;
     let length = states.len();
+    let Some(less) = length.checked_sub(1) else {
+        return Err("a state of no bytes".into());
+    };
     let same = state_at(alloc, 0)?;
     states.extend_from_slice(&same)?;
     for (lengths, status) in [
         ([length, length], 13),
-        ([length + 1, length - 1], 12),
-        ([length, length - 1], 2),
+        ([length + 1, less], 12),
+        ([length, less], 2),
         ([length, length + 1], 2),
     ] {
         if !refuses(alloc, &lengths, &states, status)? {

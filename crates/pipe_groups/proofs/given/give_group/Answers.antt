@@ -1,16 +1,16 @@
-use Rattle.std.proofs.Common.{◌≡◌, ◌∙◌, ◌+◌, ◌<◌, List, ◌++◌, length, take, sym, ap, arith, length-append}
-use Rattle.std.proofs.lemmas.List.{take_all}
+use Rattle.std.proofs.Common.{◌≡◌, ◌∙◌, ◌+◌, ◌<◌, ◌≤◌, List, [], ◌++◌, length, take, refl, sym, ap, arith, length-append}
+use Rattle.std.proofs.lemmas.List.{append-nil, take_all}
 use Rattle.pipe_columns.specs.declared.any_value.AnyValue.{AnyValue}
 use Rattle.pipe_kinds.specs.Columns.{no_state}
 use Rattle.pipe_kinds.specs.ManyStates.{ManyStates, state_of, states_in}
 use Rattle.pipe_running.specs.declared.function.AggregateFunction.{AggregateFunction}
 use Rattle.pipe_running.specs.declared.interface.Finalized.{Finalized}
-use Rattle.pipe_running.specs.GroupStates.{given_all}
+use Rattle.pipe_running.specs.GroupStates.{fresh_states, given_all}
 use Rattle.pipe_running.specs.States.{given, output_values}
 use Rattle.pipe_groups.specs.Columns.{columns_of_unfinished, with_values, with_values_at}
 use Rattle.pipe_groups.proofs.ColumnFacts.{with_values_at-more}
-use Rattle.pipe_groups.proofs.GivenFacts.{given-le, given-more, told-apart}
-use Rattle.pipe_groups.proofs.ManyFacts.{changed-count, changed-fresh, changed-next, changed-one, changed-other}
+use Rattle.pipe_groups.proofs.GivenFacts.{given-le, given-more}
+use Rattle.pipe_groups.proofs.ManyFacts.{changed-count, changed-end, changed-next, changed-one, fresh-next}
 use Rattle.pipe_groups.proofs.given.give_group.Goals as goal
 
 pub finalize-requires-clause-within : goal.finalize-requires-clause-within
@@ -47,6 +47,7 @@ loop-j-preserved c =
           ∙ ap (λ (vs : List AnyValue). with_values_at 0 vs (columns_of_unfinished c.args.columns.now)) (sym more);
       room = λ n h. rw c.give_at-at.ensures.next (c.give_at-at.ensures.room n (inv.room n h));
       changed = changed-next _ _ _ _ inv.changed c.finalize.new.self _ c.requires.within c.finalize.ensures.states;
+      fresh = fresh-next _ _ _ _ inv.changed c.finalize.new.self c.requires.within here c.finalize.ensures.states inv.fresh;
     }
 
 pub returns-clause-columns : goal.returns-clause-columns
@@ -55,11 +56,9 @@ returns-clause-columns c =
     let all : take c.loop-j.j own ≡ own = take_all c.loop-j.j own (omega (arith, c.loop-j-test.false, c.width-j-end.ensures.width, c.width-j-end.ensures.sized c.args.index c.requires.within)) in
     c.loop-j.invariant.columns ∙ ap (λ (ss : List AggregateFunction). with_values (given_all ss) (columns_of_unfinished c.args.columns.now)) all
 
-pub returns-clause-others : goal.returns-clause-others
-returns-clause-others c = λ k apart. changed-other _ _ _ _ k c.loop-j.invariant.changed (told-apart c.args.index k apart)
-
-pub returns-clause-count : goal.returns-clause-count
-returns-clause-count c = changed-count _ _ _ _ c.loop-j.invariant.changed
-
-pub returns-clause-like : goal.returns-clause-like
-returns-clause-like c = changed-fresh _ _ _ _ c.loop-j.invariant.changed
+pub returns-clause-states : goal.returns-clause-states
+returns-clause-states c =
+    let own : List AggregateFunction = states_in c.args.states.now c.args.index in
+    let le : length own ≤ c.loop-j.j = omega (arith, c.loop-j-test.false, c.width-j-end.ensures.width, c.width-j-end.ensures.sized c.args.index c.requires.within) in
+    changed-end _ _ _ _ c.loop-j.invariant.changed (λ ss. []) (fresh_states own) refl le
+    (append-nil (take c.loop-j.j (states_in c.loop-j.states c.args.index)) ∙ c.loop-j.invariant.fresh ∙ ap (λ (ss : List AggregateFunction). fresh_states ss) (take_all c.loop-j.j own le))

@@ -6,7 +6,7 @@ use Rattle.pipe_kinds.proofs.state_run.run_at.Goals as goal
 
 pub returns-clause-states : goal.returns-clause-states
 returns-clause-states g c =
-    let f = g.A.KindState.as_function in
+    let f = g.A.AsFunction.as_function in
     let s = c.index_mut-state.result.now in
     let here = at-map f c.args.states.now.items c.args.at s c.requires.within c.index_mut-state.ensures.value in
     put-map f c.args.states.now.items c.args.at s _ c.run_state.new.state

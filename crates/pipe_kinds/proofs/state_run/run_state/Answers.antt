@@ -5,7 +5,7 @@ use Rattle.pipe_kinds.proofs.state_run.run_state.Goals as goal
 
 pub loop-index-preserved : goal.loop-index-preserved
 loop-index-preserved g c =
-    let f = g.A.KindState.as_function in
+    let f = g.A.AsFunction.as_function in
     let s = c.loop-index.state in
     let i = c.loop-index.index in
     let v = c.index-values-index.result in

@@ -9,13 +9,13 @@ use Rattle.pipe_groups.specs.Shape.{IsShape}
 use Rattle.pipe_groups.proofs.ColumnRows.{length-from}
 use Rattle.pipe_groups.proofs.FrameFacts.{all-high, frame-of-groups, given-are, given-fit, givens, is_there, keys-fit}
 use Rattle.pipe_groups.proofs.TakenFacts.{givens-taken, keys-each, keys-taken, shape-is}
-use Rattle.pipe_groups.proofs.groups.Groups.give.Goals as goal
+use Rattle.pipe_groups.proofs.groups.Groups.give_frame.Goals as goal
 
 pub key_columns-requires-clause-keys : goal.key_columns-requires-clause-keys
 key_columns-requires-clause-keys c = keys-each c.self.inside c.args.self.now c.self.view_is c.self.invariant c.args.taken.now c.requires.within c.requires.gives
 
-pub give_all-requires-clause-columns : goal.give_all-requires-clause-columns
-give_all-requires-clause-columns c =
+pub give_states-requires-clause-columns : goal.give_states-requires-clause-columns
+give_states-requires-clause-columns c =
     sym (length-map c.in_ok-given.given.items column_of_unfinished) ∙ ap (λ (cs : List ColumnData). length cs) c.in_ok-given.ensures.columns
     ∙ length-from 0 (drop (length c.args.self.now.shape.key_types) c.args.self.now.shape.fields) []
 
@@ -36,10 +36,10 @@ finish_all-requires-2-clause-fit c =
     let taken : List ℕ = c.args.taken.now in
     let gs : List Group = map (group_of now.groups) taken in
     let shape : IsShape now.shape = shape-is c.self.inside now c.self.view_is c.self.invariant in
-    let given : columns_of_unfinished c.give_all.new.columns.items ≡ with_rows (givens gs) (columns_from 0 (drop (length now.shape.key_types) now.shape.fields) []) =
-    c.give_all.ensures.columns ∙ ap (λ (rs : List (List AnyValue)). with_rows rs (columns_of_unfinished c.in_ok-given.given.items)) (givens-taken c.self.inside now c.self.view_is c.self.invariant taken)
+    let given : columns_of_unfinished c.give_states.new.columns.items ≡ with_rows (givens gs) (columns_from 0 (drop (length now.shape.key_types) now.shape.fields) []) =
+    c.give_states.ensures.columns ∙ ap (λ (rs : List (List AnyValue)). with_rows rs (columns_of_unfinished c.in_ok-given.given.items)) (givens-taken c.self.inside now c.self.view_is c.self.invariant taken)
     ∙ ap (with_rows (givens gs)) c.in_ok-given.ensures.columns in
-    given-fit now.shape shape gs c.requires.gives (columns_of_unfinished c.give_all.new.columns.items) given
+    given-fit now.shape shape gs c.requires.gives (columns_of_unfinished c.give_states.new.columns.items) given
 
 pub finish_all-requires-2-clause-room : goal.finish_all-requires-2-clause-room
 finish_all-requires-2-clause-room c =
@@ -48,11 +48,11 @@ finish_all-requires-2-clause-room c =
     let gs : List Group = map (group_of now.groups) taken in
     let fields = drop (length now.shape.key_types) now.shape.fields in
     let shape : IsShape now.shape = shape-is c.self.inside now c.self.view_is c.self.invariant in
-    let given : columns_of_unfinished c.give_all.new.columns.items ≡ with_rows (givens gs) (columns_from 0 fields []) =
-    c.give_all.ensures.columns ∙ ap (λ (rs : List (List AnyValue)). with_rows rs (columns_of_unfinished c.in_ok-given.given.items)) (givens-taken c.self.inside now c.self.view_is c.self.invariant taken)
+    let given : columns_of_unfinished c.give_states.new.columns.items ≡ with_rows (givens gs) (columns_from 0 fields []) =
+    c.give_states.ensures.columns ∙ ap (λ (rs : List (List AnyValue)). with_rows rs (columns_of_unfinished c.in_ok-given.given.items)) (givens-taken c.self.inside now c.self.view_is c.self.invariant taken)
     ∙ ap (with_rows (givens gs)) c.in_ok-given.ensures.columns in
-    let after : length c.give_all.new.columns.items ≡ length fields =
-    sym (length-map c.give_all.new.columns.items column_of_unfinished) ∙ ap (λ (cs : List ColumnData). length cs) (given ∙ given-are now.shape shape gs c.requires.gives) ∙ length-from 0 fields (givens gs) in
+    let after : length c.give_states.new.columns.items ≡ length fields =
+    sym (length-map c.give_states.new.columns.items column_of_unfinished) ∙ ap (λ (cs : List ColumnData). length cs) (given ∙ given-are now.shape shape gs c.requires.gives) ∙ length-from 0 fields (givens gs) in
     let before : length c.in_ok-given.given.items ≡ length fields =
     sym (length-map c.in_ok-given.given.items column_of_unfinished) ∙ ap (λ (cs : List ColumnData). length cs) c.in_ok-given.ensures.columns ∙ length-from 0 fields [] in
     let keys : length c.finish_all.new.finished.items ≡ length c.in_ok-keys.keys.items =
@@ -64,7 +64,7 @@ finish_all-requires-2-clause-room c =
       before,
       keys,
       c.finish_all.new.finished.ok.0,
-      c.give_all.new.columns.ok.0,
+      c.give_states.new.columns.ok.0,
       c.in_ok-given.given.ok.0,
       c.in_ok-keys.keys.ok.0,
       c.len.ensures,
@@ -80,9 +80,9 @@ unwrap-requires c =
     let gs : List Group = map (group_of now.groups) taken in
     let shape : IsShape now.shape = shape-is c.self.inside now c.self.view_is c.self.invariant in
     let front : List ColumnData = columns_of_unfinished c.in_ok-keys.keys.items in
-    let back : List ColumnData = columns_of_unfinished c.give_all.new.columns.items in
+    let back : List ColumnData = columns_of_unfinished c.give_states.new.columns.items in
     let given : back ≡ with_rows (givens gs) (columns_from 0 (drop (length now.shape.key_types) now.shape.fields) []) =
-    c.give_all.ensures.columns ∙ ap (λ (rs : List (List AnyValue)). with_rows rs (columns_of_unfinished c.in_ok-given.given.items)) (givens-taken c.self.inside now c.self.view_is c.self.invariant taken)
+    c.give_states.ensures.columns ∙ ap (λ (rs : List (List AnyValue)). with_rows rs (columns_of_unfinished c.in_ok-given.given.items)) (givens-taken c.self.inside now c.self.view_is c.self.invariant taken)
     ∙ ap (with_rows (givens gs)) c.in_ok-given.ensures.columns in
     let keys : HaveKeys now.shape.key_types (take (length now.shape.key_types) now.shape.fields) (group_keys gs) front =
     subst (λ (ks : List (List ℕ)). HaveKeys now.shape.key_types (take (length now.shape.key_types) now.shape.fields) ks front)
@@ -99,9 +99,9 @@ returns-clause-frame c =
     let gs : List Group = map (group_of now.groups) taken in
     let shape : IsShape now.shape = shape-is c.self.inside now c.self.view_is c.self.invariant in
     let front : List ColumnData = columns_of_unfinished c.in_ok-keys.keys.items in
-    let back : List ColumnData = columns_of_unfinished c.give_all.new.columns.items in
+    let back : List ColumnData = columns_of_unfinished c.give_states.new.columns.items in
     let given : back ≡ with_rows (givens gs) (columns_from 0 (drop (length now.shape.key_types) now.shape.fields) []) =
-    c.give_all.ensures.columns ∙ ap (λ (rs : List (List AnyValue)). with_rows rs (columns_of_unfinished c.in_ok-given.given.items)) (givens-taken c.self.inside now c.self.view_is c.self.invariant taken)
+    c.give_states.ensures.columns ∙ ap (λ (rs : List (List AnyValue)). with_rows rs (columns_of_unfinished c.in_ok-given.given.items)) (givens-taken c.self.inside now c.self.view_is c.self.invariant taken)
     ∙ ap (with_rows (givens gs)) c.in_ok-given.ensures.columns in
     let keys : HaveKeys now.shape.key_types (take (length now.shape.key_types) now.shape.fields) (group_keys gs) front =
     subst (λ (ks : List (List ℕ)). HaveKeys now.shape.key_types (take (length now.shape.key_types) now.shape.fields) ks front)

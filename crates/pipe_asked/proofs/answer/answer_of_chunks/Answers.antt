@@ -4,7 +4,7 @@ use Rattle.pipe_asked.specs.Left.{CountOn}
 use Rattle.pipe_asked.specs.Sources.{GroupSourceSeen, IsGiveCause, unasked}
 use Rattle.pipe_asked.specs.Stacking.{IsWholeOfChunks}
 use Rattle.pipe_asked.proofs.Joined.{cause-of-parts, turn-whole}
-use Rattle.pipe_asked.proofs.answer.answer_in_turn.Goals as goal
+use Rattle.pipe_asked.proofs.answer.answer_of_chunks.Goals as goal
 
 pub returns-in-Ok-clause-whole : goal.returns-in-Ok-clause-whole
 returns-in-Ok-clause-whole g c =
