@@ -179,7 +179,7 @@ told-unasked (fault.Refused r) (ended kinds) status ends (inl is) = absurd ends
 told-unasked (fault.Unread name e) (ended kinds) status ends (inl is) = absurd ends
 told-unasked (fault.NoQuery name why) (ended kinds) status ends (inl is) = absurd ends
 told-unasked (fault.Run names e) (ended kinds) status ends (inl is) = absurd ends
-told-unasked fault.OutputFailed (ended kinds) status ends (inl is) = inr (inl is)
+told-unasked fault.OutputFailed (ended kinds) status ends (inl is) = inr (inl (is, ends))
 told-unasked fault.Memory (ended kinds) status ends (inl is) = inr (inr is)
 
 pub done-unasked : (w : Words) (status : ℕ) → status ≡ DONE → FaultUnasked w None → EndsUnasked w status

@@ -1,5 +1,5 @@
 -- The run of what is asked, behind the reading of its query.
-use Rattle.std.proofs.Common.{◌≡◌, ◌≤◌, ℕ, List, refl, subst, arith, inl, inr, Option, None, Some}
+use Rattle.std.proofs.Common.{◌≡◌, ◌≤◌, ℕ, List, append-nil, refl, subst, sym, arith, inl, inr, Option, None, Some}
 use Rattle.std.specs.Prelude.{◌⊎◌, ◌++◌, IfSome}
 use Rattle.pipe_columns.specs.Causes.{Rose}
 use Rattle.pipe_io.specs.Files.{Files}
@@ -10,6 +10,7 @@ use Rattle.pipe_plan.specs.declared.event.PartitionEvent.{PartitionEvent}
 use Rattle.pipe_plan.specs.Run.{StoreSeen}
 use Rattle.lavzimo_run.specs.Jobs.{JobSeen}
 use Rattle.lavzimo_run.specs.Running as run
+use Rattle.lavzimo_run.specs.Stores.{WereMadeIn}
 use Rattle.lavzimo_shown.specs.Showing.{ShowingSeen, shown_of}
 use Rattle.lavzimo_words.specs.Asked.{AskedSeen, ask}
 use Rattle.lavzimo_answer.specs.Asking.{IsQueryOf, job_of}
@@ -31,6 +32,10 @@ rose-some (Some f) P old mid now before h = λ p. rose-later old mid now before 
 -- some names were tried, and then a front of others
 pub tried-behind : (old mid now first names : List (List ℕ)) → mid ≡ old ++ first → TriedFront mid now names → TriedFront old now (first ++ names)
 tried-behind old mid now first names more front = front-then old mid now (first ++ names) names (record { some = first; more = more; front = refl }) front
+
+-- no store was made
+pub none_made_in : (folder : Option (List ℕ)) (made : List (Option (List ℕ))) → WereMadeIn folder made made
+none_made_in folder made = (0, sym (append-nil made))
 
 module _ (n : ℕ) (a : AskedSeen) (told : Option Files) (q : QueryTree) (asked : IsQueryOf a.question told q) (j : JobSeen) (showing : ShowingSeen) (job-is : j ≡ job_of n a q) (shows : showing ≡ shown_of a.question q)
     (journals : List (List PartitionEvent)) (stores : List StoreSeen) where

@@ -1,5 +1,6 @@
 -- What is read and run for what is asked.
-use Rattle.std.specs.Prelude.{◌≡◌, ℕ, ◌++◌, ◌≤◌, max, min, Bool, false, List, [], ◌∷◌, length, if◌then◌else◌, Option, is_some, unwrap_or, Result, Ok, Err}
+use Rattle.std.specs.Prelude.{◌≡◌, ℕ, ◌++◌, ◌≤◌, max, min, Bool, false, List, [], ◌∷◌, length}
+use Rattle.std.specs.Prelude.{if◌then◌else◌, None, Option, is_some, unwrap_or, Result, Ok, Err}
 use Rattle.std.specs.Str.{is_utf8}
 use Rattle.pipe_io.specs.Files.{Files, IsWhole}
 use Rattle.pipe_io.specs.declared.whole_file.TheConstants.{MOST_FILE_BYTES}
@@ -67,6 +68,12 @@ abbrev pub files_asked : Words → List (List ℕ)
 files_asked (ask a) = query_files a.question ++ a.files
 files_asked (refused r) = []
 files_asked (ended kinds) = []
+
+-- the folder that rows are spilled to, if one is named
+abbrev pub folder_asked : Words → Option (List ℕ)
+folder_asked (ask a) = a.spill_dir
+folder_asked (refused r) = None
+folder_asked (ended kinds) = None
 
 -- whether rows are spilled to a folder
 abbrev pub has_folder : Words → Bool

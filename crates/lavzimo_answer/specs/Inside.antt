@@ -31,7 +31,7 @@ FaultUnasked (ended kinds) (Some (fault.Refused r)) = ⊥
 FaultUnasked (ended kinds) (Some (fault.Unread name e)) = ⊥
 FaultUnasked (ended kinds) (Some (fault.NoQuery name why)) = ⊥
 FaultUnasked (ended kinds) (Some (fault.Run names e)) = ⊥
-FaultUnasked (ended kinds) (Some fault.OutputFailed) = ⊤
+FaultUnasked (ended kinds) (Some fault.OutputFailed) = IsHelp (ended kinds)
 FaultUnasked (ended kinds) (Some fault.Memory) = ⊤
 
 -- what a fault says of the run of a job: it stopped for this, or it was answered

@@ -96,7 +96,9 @@ abbrev pub EndsUnasked : Words → ℕ → Type 0
 EndsUnasked (ask a) status = ⊤
 EndsUnasked (refused r) status = (status ≡ WORDS_REFUSED) ⊎ (status ≡ NO_MEMORY)
 EndsUnasked (ended kinds) status =
-    EndsApart kinds status ⊎ (status ≡ OUTPUT_FAILED) ⊎ (status ≡ NO_MEMORY)
+    EndsApart kinds status
+    ⊎ ((status ≡ OUTPUT_FAILED) × IsHelp (ended kinds))
+    ⊎ (status ≡ NO_MEMORY)
 
 -- words ask nothing that is read
 abbrev pub AskNothing : Words → Type 0

@@ -1,6 +1,6 @@
 //! The answer to what is asked.
 
-ghost use Rattle.std.specs.Prelude.{◌≡◌, ◌⊎◌, ◌+◌, All, IfSome, List, None, Some, false, ℕ};
+ghost use Rattle.std.specs.Prelude.{◌≡◌, ◌⊎◌, ◌+◌, ◌≤◌, All, IfSome, List, None, Some, false, ℕ};
 ghost use Rattle.std.specs.Io.KnownBytes.{Appends};
 ghost use Rattle.pipe_aggs.specs.Faults.{first_fault};
 ghost use Rattle.pipe_columns.specs.Causes.{Rose};
@@ -8,12 +8,13 @@ ghost use Rattle.pipe_io.specs.Output.{WroteFront};
 ghost use Rattle.pipe_io.specs.Tried.{TriedFront};
 ghost use Rattle.pipe_plan.specs.Stores.{stores_seen};
 ghost use Rattle.lavzimo_run.specs.Jobs.{CanRun, job_seen};
-ghost use Rattle.lavzimo_run.specs.Stores.{AreMade, IsSoundStore};
+ghost use Rattle.lavzimo_run.specs.Stores.{AreMade, IsSoundStore, WereMadeIn};
 ghost use Rattle.lavzimo_words.specs.Askable.{MayBeAsked};
 ghost use Rattle.lavzimo_words.specs.Asked.{ask, asked_seen, question_seen};
-ghost use Rattle.lavzimo_answer.specs.Asking.{files_asked, has_folder, stores_asked};
+ghost use Rattle.lavzimo_answer.specs.Asking.{files_asked, folder_asked, has_folder, stores_asked};
 ghost use Rattle.lavzimo_answer.specs.Faults.{IsCaused, status_of};
-ghost use Rattle.lavzimo_answer.specs.Headline.{HasNoRun, IsBegun, IsJobAnswered, IsLeft, IsWritten};
+ghost use Rattle.lavzimo_answer.specs.Headline.{HasNoRun, IsBegun, IsJobAnswered, IsLeft};
+ghost use Rattle.lavzimo_answer.specs.Headline.{IsWritten};
 ghost use Rattle.lavzimo_answer.specs.Inside.{IsBefore, IsJobFault};
 ghost use Rattle.lavzimo_answer.specs.Names.{names_seen};
 ghost use Rattle.tool_shell.specs.declared.status.TheConstants.{INPUT_FAILED};
@@ -101,8 +102,9 @@ fn answer_job<
     }
 }
 
-/// Answers what is asked: reads its query, makes the stores, runs it over the files, and writes the text
-/// that is shown.
+/// Answers what is asked: reads its query, makes the stores, runs it over the files, and writes the
+/// text that is shown.
+#[tactic(auto, using(crate::proofs::JobFacts::none_made_in))]
 pub(crate) fn answer<
     I: InputFiles,
     O: Output,
@@ -143,6 +145,10 @@ pub(crate) fn answer<
         → All IsSoundStore result.stores }
     ensures made { HasNoRun result.journals result.stores ⊎ (M.made maker.new
         ≡ M.made maker.old + stores_asked (ask (asked_seen asked))) }
+    ensures at_most { M.made maker.new
+        ≤ M.made maker.old + stores_asked (ask (asked_seen asked)) }
+    ensures folders { WereMadeIn (folder_asked (ask (asked_seen asked)))
+        (M.folders maker.old) (M.folders maker.new) }
 {
     let Asked {
         question,

@@ -1,15 +1,19 @@
 //! One run, from the words of a command to the bytes of its output.
 
-ghost use Rattle.std.specs.Prelude.{◌≡◌, ◌≢◌, ◌⊎◌, ◌+◌, All, IfSome, IsSome, IsTrue, None, Some, false};
+ghost use Rattle.std.specs.Prelude.{◌≡◌, ◌≢◌, ◌⊎◌, ◌+◌, ◌≤◌, All, IfSome, IsSome, IsTrue, None};
+ghost use Rattle.std.specs.Prelude.{Some, false};
 ghost use Rattle.pipe_columns.specs.Causes.{Rose};
 ghost use Rattle.pipe_io.specs.Tried.{TriedFront};
-ghost use Rattle.lavzimo_run.specs.Stores.{IsSoundStore};
+ghost use Rattle.lavzimo_run.specs.Stores.{IsSoundStore, WereMadeIn};
 ghost use Rattle.lavzimo_words.specs.Asked.{asked_of};
-ghost use Rattle.lavzimo_answer.specs.Asking.{files_asked, has_folder, stores_asked};
+ghost use Rattle.lavzimo_answer.specs.Asking.{files_asked, folder_asked, has_folder, stores_asked};
 ghost use Rattle.lavzimo_answer.specs.Faults.{IsCaused, status_of};
-ghost use Rattle.lavzimo_answer.specs.Headline.{HasNoRun, IsAnswerWritten, IsBegun, IsLeft, IsWritten};
+ghost use Rattle.lavzimo_answer.specs.Headline.{HasNoRun, IsAnswerWritten, IsBegun, IsLeft};
+ghost use Rattle.lavzimo_answer.specs.Headline.{IsWritten};
 ghost use Rattle.lavzimo_answer.specs.Inside.{FaultUnasked, IsBefore};
-ghost use Rattle.lavzimo_answer.specs.Status.{AreRefused, AskNothing, EndsAsDue, EndsUnasked, IsAnswered, ReportsFault, ReportsFront, is_status, is_unwritten};
+ghost use Rattle.lavzimo_answer.specs.Status.{AreRefused, AskNothing, EndsAsDue, EndsUnasked};
+ghost use Rattle.lavzimo_answer.specs.Status.{IsAnswered, ReportsFault, ReportsFront, is_status};
+ghost use Rattle.lavzimo_answer.specs.Status.{is_unwritten};
 ghost use Rattle.tool_shell.specs.declared.status.TheConstants.{INPUT_FAILED};
 
 use crate::answer::answer;
@@ -29,6 +33,7 @@ use std::thread::Threads;
 use tool_shell::{DONE, INPUT_FAILED, NO_MEMORY, OUTPUT_FAILED, WORDS_REFUSED};
 
 /// Reads what words ask, and answers it; or writes the help or the version that they call for.
+#[tactic(auto, using(crate::proofs::JobFacts::none_made_in))]
 fn run<I: InputFiles, O: Output, M: SpillMaker, G: Gate + Sync, H: Threads + Wait + Sync>(
     rt: &H,
     alloc: Global,
@@ -61,6 +66,9 @@ fn run<I: InputFiles, O: Output, M: SpillMaker, G: Gate + Sync, H: Threads + Wai
     ensures in_memory { has_folder (asked_of words.now) ≡ false → All IsSoundStore result.stores }
     ensures made { HasNoRun result.journals result.stores
         ⊎ (M.made maker.new ≡ M.made maker.old + stores_asked (asked_of words.now)) }
+    ensures at_most { M.made maker.new ≤ M.made maker.old + stores_asked (asked_of words.now) }
+    ensures folders { WereMadeIn (folder_asked (asked_of words.now))
+        (M.folders maker.old) (M.folders maker.new) }
     ensures unasked { FaultUnasked (asked_of words.now) result.fault }
     ensures unread { AskNothing (asked_of words.now) → input.new ≡ input.old }
     ensures unmade { AskNothing (asked_of words.now) → maker.new ≡ maker.old }
@@ -77,9 +85,10 @@ fn run<I: InputFiles, O: Output, M: SpillMaker, G: Gate + Sync, H: Threads + Wai
     }
 }
 
-/// Answers what the words of a command ask of files: by as many workers as processors, unless they say
-/// how many, over stores of a maker. A fault is reported by a line to the output for messages, with what
-/// a second look gives. It answers the exit status, the journals of the run and its stores.
+/// Answers what the words of a command ask of files: by as many workers as processors, unless they
+/// say how many, over stores of a maker. A fault is reported by a line to the output for messages,
+/// with what a second look gives. It answers the exit status, the journals of the run and its
+/// stores.
 pub fn run_lavzimo<
     I: InputFiles,
     O: ClosableOutput,
@@ -100,19 +109,20 @@ pub fn run_lavzimo<
     looks: &mut L,
     gate: &G,
 ) -> LavzimoEnd<M::Store>
-    // The headline: the run of what the words ask was answered, its journals and stores are these, and
-    // the output grew by exactly the text that is shown of its frame; or it grew by the text of help or
-    // of the version.
+    // The headline: the run of what the words ask was answered, its journals and stores are these,
+    // and the output grew by exactly the text that is shown of its frame; or it grew by the text of
+    // help or of the version.
     ensures written { result.status ≡ DONE → IsWritten processors (asked_of words.now)
         (I.told input.old) (O.told output.old) (O.told output.new) result.journals result.stores }
 
-    // Where input and stores tell too, that is what is shown of the answer over the chunks of the files,
-    // of one partition: whatever the numbers of workers and partitions.
+    // Where input and stores tell too, that is what is shown of the answer over the chunks of the
+    // files, of one partition: whatever the numbers of workers and partitions.
     ensures answered { result.status ≡ DONE → All IsSoundStore result.stores
         → IsAnswerWritten (asked_of words.now) (I.told input.old)
         (O.told output.old) (O.told output.new) }
 
-    // Where the input tells, each status comes exactly where it is due, but for those of what fails.
+    // Where the input tells, each status comes exactly where it is due, but for those of what
+    // fails.
     ensures as_due { EndsAsDue result.status (asked_of words.now) (I.told input.old) }
 
     // Words that ask nothing are refused with their status, or end apart; that status comes for no
@@ -129,12 +139,13 @@ pub fn run_lavzimo<
         → (Rose (O.faults output.old) (O.faults output.new) → ⊥)
         → (result.status ≡ DONE) ⊎ (result.status ≡ NO_MEMORY)) }
 
-    // The file of a query, and then the files, are begun one after another, each once at most for each
-    // time that it is named, and no others.
+    // The file of a query, and then the files, are begun one after another, each once at most for
+    // each time that it is named, and no others.
     ensures tried { TriedFront (I.tried input.old) (I.tried input.new)
         (files_asked (asked_of words.now)) }
 
-    // A fault of reading or writing comes only where its count rose. Without a folder no store fails.
+    // A fault of reading or writing comes only where its count rose. Without a folder no store
+    // fails.
     ensures input_failed { result.status ≡ INPUT_FAILED
         → Rose (I.faults input.old) (I.faults input.new) }
     ensures output_failed { result.status ≡ OUTPUT_FAILED
@@ -150,17 +161,22 @@ pub fn run_lavzimo<
         (O.told output.old) (O.told output.new) result.journals result.stores }
     ensures untouched { IsTrue (is_unwritten result.status) → output.new ≡ output.old }
 
-    // What is left of the run, and how many stores were made for it.
+    // What is left of the run, and how many stores were made for it: no more than are asked for,
+    // each in the folder that the words name, or in memory where they name none.
     ensures left { IsLeft processors (asked_of words.now) (I.told input.old)
         result.journals result.stores }
     ensures made { HasNoRun result.journals result.stores
         ⊎ (M.made maker.new ≡ M.made maker.old + stores_asked (asked_of words.now)) }
+    ensures at_most { M.made maker.new ≤ M.made maker.old + stores_asked (asked_of words.now) }
+    ensures folders { WereMadeIn (folder_asked (asked_of words.now))
+        (M.folders maker.old) (M.folders maker.new) }
 
     // What is reported beside that, and with which statuses a run ends.
     ensures silent { result.status ≡ DONE → messages.new ≡ messages.old }
     ensures reported { result.status ≢ DONE → result.status ≢ NO_MEMORY
-        → ReportsFault processors (asked_of words.now) (I.told input.old) result.stores result.status
-        (E.faults messages.old) (E.faults messages.new) (E.told messages.old) (E.told messages.new) }
+        → ReportsFault processors (asked_of words.now) (I.told input.old) result.stores
+        result.status (E.faults messages.old) (E.faults messages.new)
+        (E.told messages.old) (E.told messages.new) }
     ensures memory_reported { result.status ≡ NO_MEMORY
         → ReportsFront (E.told messages.old) (E.told messages.new) }
     ensures statuses { IsTrue (is_status result.status) }

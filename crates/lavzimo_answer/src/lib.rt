@@ -1,5 +1,5 @@
-//! The answer of `lavzimo`: from the words of a command to the bytes of its output, its line and its
-//! exit status.
+//! The answer of `lavzimo`: from the words of a command to the bytes of its output, its line and
+//! its exit status.
 #![tactic(auto)]
 
 mod answer;

@@ -1,5 +1,5 @@
-//! Second looks: at a file that isn't read to its end, and at an output that failed. Nothing is claimed
-//! of them.
+//! Second looks: at a file that isn't read to its end, and at an output that failed. Nothing is
+//! claimed of them.
 
 use crate::fault::Fault;
 use crate::names::Names;

@@ -34,7 +34,8 @@ pub(crate) struct Ready {
 /// The query of columns, and what is shown of them.
 fn ask_columns(alloc: Global, columns: &Columns) -> Result<Ready, AllocError>
     requires askable { IsAskable (columns_seen columns.now) }
-    ensures query { IfOk result (λ r. query_tree r.query ≡ query_of_words (columns_seen columns.now)) }
+    ensures query { IfOk result
+        (λ r. query_tree r.query ≡ query_of_words (columns_seen columns.now)) }
     ensures faultless { IfOk result (λ r. first_fault r.query ≡ None) }
     ensures showing { IfOk result (λ r. r.showing
         ≡ shown_of (of_columns (columns_seen columns.now)) (query_tree r.query)) }
@@ -60,7 +61,8 @@ fn query_in(alloc: Global, text: Vec<u8>) -> Result<Query, QueryError>
 fn show_all(alloc: Global, query: Query, name: &Text) -> Result<Ready, AllocError>
     requires faultless { first_fault query ≡ None }
     ensures query { IfOk result (λ r. r.query ≡ query) }
-    ensures showing { IfOk result (λ r. r.showing ≡ shown_of (of_file name.now) (query_tree query)) }
+    ensures showing { IfOk result
+        (λ r. r.showing ≡ shown_of (of_file name.now) (query_tree query)) }
 {
     let showing = match query.check(alloc) {
         Ok(checked) => Showing::whole(alloc, query.keys.len(), checked.output_schema())?,
@@ -98,7 +100,8 @@ fn ask_file<I: InputFiles>(alloc: Global, name: &Text, input: &mut I) -> Result<
     ensures query { IfOk result (λ r. IsQueryOf (of_file name.now) (I.told input.old)
         (query_tree r.query)) }
     ensures faultless { IfOk result (λ r. first_fault r.query ≡ None) }
-    ensures showing { IfOk result (λ r. r.showing ≡ shown_of (of_file name.now) (query_tree r.query)) }
+    ensures showing { IfOk result
+        (λ r. r.showing ≡ shown_of (of_file name.now) (query_tree r.query)) }
     ensures cause { IfErr result (λ f. IsAskedFault f (of_file name.now) (I.told input.old)) }
     ensures failed { IfErr result
         (λ f. status_of f ≡ INPUT_FAILED → Rose (I.faults input.old) (I.faults input.new)) }

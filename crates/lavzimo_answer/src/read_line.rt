@@ -60,7 +60,8 @@ fn misread(dtype: DataType) -> &'static str
     }
 }
 
-/// How it is told that a field doesn't read, or in row 0, the header, that a column isn't there once.
+/// How it is told that a field doesn't read, or in row 0, the header, that a column isn't there
+/// once.
 fn field_text(
     alloc: Global,
     file: &str,

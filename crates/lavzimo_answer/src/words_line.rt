@@ -4,7 +4,8 @@ use lavzimo_words::Refusal;
 use pipe_columns::Text;
 use std::alloc::{AllocError, Global};
 
-/// How it is told that a command doesn't take words: what `clap` says, without its last end of line.
+/// How it is told that a command doesn't take words: what `clap` says, without its last end of
+/// line.
 pub(crate) fn faulty_text(alloc: Global, text: &Text) -> Result<String, AllocError> {
     String::from_str(alloc, text.as_str().trim_end())
 }

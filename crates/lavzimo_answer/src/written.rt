@@ -16,7 +16,8 @@ use std::alloc::Global;
 /// Writes a text.
 pub(crate) fn write_text<O: Output>(output: &mut O, text: &[u8]) -> Option<Fault>
     ensures done { result ≡ None → Appends (O.told output.old) (O.told output.new) text.now }
-    ensures begun { IfSome result (λ _. WroteFront (O.told output.old) (O.told output.new) text.now) }
+    ensures begun { IfSome result
+        (λ _. WroteFront (O.told output.old) (O.told output.new) text.now) }
     ensures output_failed { result ≡ Some Fault.OutputFailed
         → Rose (O.faults output.old) (O.faults output.new) }
     ensures faults { IfSome result (λ f. (f ≡ Fault.OutputFailed) ⊎ (f ≡ Fault.Memory)) }

@@ -1,5 +1,5 @@
 -- What holds of the stores of a run.
-use Rattle.std.proofs.Common.{◌≡◌, ◌∙◌, ◌+◌, ◌<◌, ◌≤◌, ◌^◌, ◌==◌, ℕ, Bool, true, List, [], ◌∷◌, ◌++◌, length, map, refl, sym, ap, subst, arith, suc, zero, inl, inr, rules, Vec, Global, Option, None, Some}
+use Rattle.std.proofs.Common.{◌≡◌, ◌∙◌, ◌+◌, ◌<◌, ◌≤◌, ◌^◌, ◌==◌, ℕ, Bool, true, List, [], ◌∷◌, ◌++◌, length, map, refl, sym, ap, subst, append-nil, append_assoc, arith, suc, zero, inl, inr, rules, Vec, Global, Option, None, Some}
 use Rattle.std.specs.Prelude.{◌⊎◌, ◌&&◌, IsTrue, is_some, nat_lt, option_map, replicate}
 use Rattle.std.specs.Cmp.Derive.{both_true}
 use Rattle.std.specs.List.{All, list_all, slice_index_or}
@@ -39,6 +39,15 @@ actions_more n old new v h none grew =
 pub none-mapped : {A B : Type 0} (f : A → B) (o : Option A) → option_map f o ≡ None → o ≡ None
 none-mapped f None is = refl
 none-mapped f (Some x) is = absurd (none-some (f x) (sym is))
+
+-- none more were made
+pub made-in-none : (folder : Option (List ℕ)) (first : List (Option (List ℕ))) → first ≡ first ++ replicate 0 folder
+made-in-none folder first = sym (append-nil first)
+
+-- one more was made in the same folder
+pub made-in-more : (folder : Option (List ℕ)) (n : ℕ) (first before now : List (Option (List ℕ))) → before ≡ first ++ replicate n folder → now ≡ before ++ folder ∷ [] → now ≡ first ++ replicate (n + 1) folder
+made-in-more folder n first before now were is =
+    is ∙ ap (λ (l : List (Option (List ℕ))). l ++ folder ∷ []) were ∙ append_assoc first (replicate n folder) (folder ∷ []) ∙ ap (λ (l : List (Option (List ℕ))). first ++ l) (replicate-append-replicate n 1 folder)
 
 module _ {S : Type 0} (held : S → ℕ) (told : S → Option (List (List ℕ))) (faults : S → ℕ) (sure : S → Bool) (path : S → Option (List ℕ)) where
   abbrev seen : S → StoreSeen

@@ -1,5 +1,6 @@
 -- What is seen of the stores of a run.
-use Rattle.std.specs.Prelude.{◌≡◌, ◌<◌, ℕ, true, All, IsTrue, List, [], length, Option, Some, None, slice_index_or}
+use Rattle.std.specs.Prelude.{◌≡◌, ◌<◌, ◌++◌, ℕ, true, All, IsTrue, List, [], length, replicate}
+use Rattle.std.specs.Prelude.{Option, Some, None, slice_index_or}
 use Rattle.pipe_global.specs.Partition.{no_store}
 use Rattle.pipe_plan.specs.Run.{StoreSeen, tells}
 
@@ -14,6 +15,11 @@ pub record IsMade (folder : Option (List ℕ)) (s : StoreSeen) : Type 0 where
 pub record AreMade (folder : Option (List ℕ)) (count : ℕ) (stores : List StoreSeen) : Type 0 where
   pub each : All (IsMade folder) stores
   pub number : length stores ≡ count
+
+-- some stores more were made, each in this folder or, where there is none, in memory, and no others
+abbrev pub WereMadeIn :
+    Option (List ℕ) → List (Option (List ℕ)) → List (Option (List ℕ)) → Type 0
+WereMadeIn folder before now = (count : ℕ) × (now ≡ before ++ replicate count folder)
 
 -- a store tells, and never failed
 pub record IsSoundStore (s : StoreSeen) : Type 0 where

@@ -1,8 +1,8 @@
 //! The stores of a run.
 
-ghost use Rattle.std.specs.Prelude.{◌≡◌, ◌+◌, IfOk, OnOk, option_map};
+ghost use Rattle.std.specs.Prelude.{◌≡◌, ◌+◌, ◌≤◌, IfOk, OnOk, option_map};
 ghost use Rattle.pipe_plan.specs.Stores.{stores_seen};
-ghost use Rattle.lavzimo_run.specs.Stores.{AreMade};
+ghost use Rattle.lavzimo_run.specs.Stores.{AreMade, WereMadeIn};
 
 use lavzimo_stores::SpillMaker;
 use pipe_columns::Text;
@@ -18,6 +18,9 @@ pub fn make_stores<M: SpillMaker>(
     ensures made { IfOk result (λ v. AreMade (option_map (λ f. f.now) folder.entry) partitions
         (stores_seen M.Store.held M.Store.told M.Store.faults M.Store.sure M.Store.path v.items)) }
     ensures number { OnOk result (M.made maker.new ≡ M.made maker.old + partitions) }
+    ensures at_most { M.made maker.new ≤ M.made maker.old + partitions }
+    ensures folders { WereMadeIn (option_map (λ f. f.now) folder.entry)
+        (M.folders maker.old) (M.folders maker.new) }
 {
     let mut stores = Vec::new(alloc);
     for _ in 0..partitions {

@@ -1,1 +1,2 @@
 pub mod OwnStore
+pub mod MadeIn

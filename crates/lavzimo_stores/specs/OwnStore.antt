@@ -30,6 +30,11 @@ is_own_sure (store.Unnamed s) = false
 abbrev pub own_path : {R : Type 0} → OwnStore R → Option (List ℕ)
 own_path s = None
 
+-- the path by which its file is made, before what tells apart who makes it; one in memory has no file
+abbrev pub file_of : {R : Type 0} → OwnStore R → Option (List ℕ)
+file_of (store.Memory s) = None
+file_of (store.Unnamed s) = Some s.path
+
 -- as many frames are told as are held
 pub has_held : {R : Type 0} (s : OwnStore R) → HasHeld (own_told s) (own_held s)
 has_held (store.Memory s) = refl

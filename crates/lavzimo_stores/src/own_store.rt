@@ -20,7 +20,8 @@ pub enum OwnStore<R> {
 }
 
 impl<R: Files<File = File> + Drop> SpillStore for OwnStore<R> {
-    ghost use Rattle.lavzimo_stores.specs.OwnStore.{has_held, is_own_sure, own_faults, own_held, own_path, own_told, sure_never_failed};
+    ghost use Rattle.lavzimo_stores.specs.OwnStore.{has_held, is_own_sure, own_faults, own_held};
+    ghost use Rattle.lavzimo_stores.specs.OwnStore.{own_path, own_told, sure_never_failed};
 
     ghost told = { own_told };
 

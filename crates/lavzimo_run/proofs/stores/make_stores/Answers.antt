@@ -1,5 +1,5 @@
-use Rattle.std.proofs.Common.{option_map, arith, rules}
-use Rattle.lavzimo_run.proofs.StoreFacts.{made-more, made-none, none-mapped}
+use Rattle.std.proofs.Common.{◌+◌, option_map, arith, rules}
+use Rattle.lavzimo_run.proofs.StoreFacts.{made-in-more, made-in-none, made-more, made-none, none-mapped}
 use Rattle.lavzimo_run.proofs.stores.make_stores.Goals as goal
 
 pub loop-init : goal.loop-init
@@ -8,6 +8,7 @@ loop-init g c =
     record {
       made = made-none store.held store.told store.faults store.sure store.path (option_map (λ f. f.now) c.args.folder) c.new-stores.result.items c.new-stores.ensures.items;
       number = omega arith;
+      folders = made-in-none (option_map (λ f. f.now) c.args.folder) _;
     }
 
 pub loop-preserved : goal.loop-preserved
@@ -23,4 +24,9 @@ loop-preserved g c =
             sure = λ none. c.in_ok-make.ensures.sure (none-mapped (λ f. f.now) c.args.folder none);
           });
       number = search rules;
+      folders = made-in-more (option_map (λ f. f.now) c.args.folder) c.loop.counter _ _ _ c.loop.invariant.folders c.in_ok-make.ensures.folder;
     }
+
+pub returns-in_err-push-clause-folders : goal.returns-in_err-push-clause-folders
+returns-in_err-push-clause-folders g c =
+    (c.loop.counter + 1, made-in-more (option_map (λ f. f.now) c.args.folder) c.loop.counter _ _ _ c.loop.invariant.folders c.in_ok-make.ensures.folder)
