@@ -15,6 +15,9 @@ from trial_runs import is_answer, made_input, program_of, run
 # Some of these files have more than a megabyte, which several threads read in parts and look over in pieces.
 LEAST_ROWS, MOST_ROWS = 20_000, 250_000
 
+# Few groups, or so many that a partition's lines are made in several pieces.
+KEYS = [3000, 20_000]
+
 
 def random_actions(chance, workers):
     """A list of letters for each worker, every other with a star behind it; or one list with a star, which is every worker's."""
@@ -52,7 +55,7 @@ def main():
     with tempfile.TemporaryDirectory() as folder:
         path, spills = os.path.join(folder, "in.csv"), os.path.join(folder, "spills")
         os.mkdir(spills)
-        due = made_input(path, chance.randint(LEAST_ROWS, MOST_ROWS), 3000, seed)
+        due = made_input(path, chance.randint(LEAST_ROWS, MOST_ROWS), chance.choice(KEYS), seed)
         for number in range(runs):
             options = random_options(chance, spills)
             words = [word for name, value in options.items() for word in (f"--{name}", str(value))]

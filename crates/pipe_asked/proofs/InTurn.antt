@@ -17,8 +17,8 @@ use Rattle.pipe_global.specs.Finishing.{GivesGroups, GivesOwnPieces, GivesPieces
 use Rattle.pipe_global.specs.Partition.{PartitionSeen}
 use Rattle.pipe_asked.specs.Given.{HasRows, IsSource, is_used_up, KeepsSource, SourceSeen}
 use Rattle.pipe_asked.specs.Sources.{is_over, KeepsAsked, LeavesOthers}
-use Rattle.pipe_asked.specs.Stacking.{alone, GivesNextPieces, HasGivenWhole, IsWholeOfChunks, IsWholeOfGroups}
-use Rattle.pipe_asked.specs.Wholes.{AreAlike}
+use Rattle.pipe_asked.specs.Stacking.{alone, GivesNextPieces, HasGivenWhole, IsWholeOfChunks}
+use Rattle.pipe_asked.specs.Wholes.{AreAlike, IsWholeOfGroups}
 use Rattle.pipe_asked.proofs.Asking.{asked-one}
 use Rattle.pipe_asked.proofs.ChunkFacts.{given-chunk}
 use Rattle.pipe_asked.proofs.Joined.{IsJoining, joining-all, joining-more}

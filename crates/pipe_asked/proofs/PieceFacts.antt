@@ -25,9 +25,8 @@ use Rattle.pipe_groups.proofs.PiecesFacts.{pieces-stacked}
 use Rattle.pipe_keyed.specs.Tables.{Table}
 use Rattle.pipe_global.specs.Finishing.{GivesOwnPieces, GivesPieces, GivesPlaced, HasNoFault, own_rows, StandFor}
 use Rattle.pipe_global.specs.Partition.{PartitionSeen}
-use Rattle.pipe_asked.specs.Stacking.{IsWholeOfGroups}
 use Rattle.pipe_asked.specs.Tasks.{GaveKept}
-use Rattle.pipe_asked.specs.Wholes.{AreAlike}
+use Rattle.pipe_asked.specs.Wholes.{AreAlike, IsWholeOfGroups}
 
 -- ---- frames of groups
 

@@ -13,9 +13,7 @@ use Rattle.pipe_model.specs.Query.{QueryTree}
 use Rattle.pipe_model.specs.Rows.{HaveDistinctPlaces}
 use Rattle.pipe_groups.specs.declared.placed_groups.PlacedGroups.{PlacedGroups}
 use Rattle.pipe_groups.specs.Given.{IsFrameOfGroups}
-use Rattle.pipe_groups.specs.Groups.{Group}
 use Rattle.pipe_groups.specs.Pieces.{PiecesSeen}
-use Rattle.pipe_groups.specs.Shape.{Shape}
 use Rattle.pipe_asked.specs.Given.{frame_of_keys, HasGivenNext, HasRows, joined_frames, SourceSeen}
 use Rattle.pipe_asked.specs.Sources.{ArePlacedParts, chunks_left, GroupSourceSeen, HasAllRows, source_query}
 
@@ -33,13 +31,6 @@ pub record IsOfFields {W : Type 0} (Is : W → FrameData → Type 0) (fields : L
   pub frame : FrameData
   pub is : Is whole frame
   pub fits : FitsSchema fields frame
-
--- a whole is that of a frame with a row for each group, in order
-pub record IsWholeOfGroups {W : Type 0} (Is : W → FrameData → Type 0) (s : Shape) (gs : List Group)
-    (whole : W) : Type 0 where
-  pub frame : FrameData
-  pub is : Is whole frame
-  pub groups : IsFrameOfGroups s gs frame
 
 -- a whole is that of the chunks that are left in a source, below one another
 pub record IsWholeOfChunks {W : Type 0} (Is : W → FrameData → Type 0) (s : GroupSourceSeen) (whole : W)

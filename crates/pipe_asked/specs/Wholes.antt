@@ -6,6 +6,9 @@ use Rattle.pipe_columns.specs.Row.{Row}
 use Rattle.pipe_aggs.specs.QueryTrees.{query_tree}
 use Rattle.pipe_model.specs.Answer.{answer_of}
 use Rattle.pipe_model.specs.Output.{output_schema}
+use Rattle.pipe_groups.specs.Given.{IsFrameOfGroups}
+use Rattle.pipe_groups.specs.Groups.{Group}
+use Rattle.pipe_groups.specs.Shape.{Shape}
 use Rattle.pipe_asked.specs.Given.{HasRows, SourceSeen}
 
 -- two wholes are those of frames of the same fields
@@ -15,6 +18,13 @@ pub record AreAlike {W : Type 0} (Is : W → FrameData → Type 0) (whole more :
   pub is : Is whole frame
   pub other_is : Is more other
   pub fields : fields_of other.columns ≡ fields_of frame.columns
+
+-- a whole is that of a frame with a row for each group, in order
+pub record IsWholeOfGroups {W : Type 0} (Is : W → FrameData → Type 0) (s : Shape) (gs : List Group)
+    (whole : W) : Type 0 where
+  pub frame : FrameData
+  pub is : Is whole frame
+  pub groups : IsFrameOfGroups s gs frame
 
 -- a whole is that of a frame of the query's columns, which is the answer over the rows that a source
 -- stands for

@@ -4,8 +4,7 @@ ghost use Rattle.std.specs.Prelude.{◌≡◌, ◌<◌, [], IfOk, List, OnOk, �
 ghost use Rattle.pipe_columns.specs.declared.schema.Field.{Field};
 ghost use Rattle.pipe_columns.specs.Frame.{AllHaveHeight, fields_of, frame_of, FrameData, stacked};
 ghost use Rattle.pipe_lines.specs.Lines.{joined_texts, lines_of};
-ghost use Rattle.pipe_asked.specs.Stacking.{IsWholeOfGroups};
-ghost use Rattle.pipe_asked.specs.Wholes.{AreAlike};
+ghost use Rattle.pipe_asked.specs.Wholes.{AreAlike, IsWholeOfGroups};
 
 use crate::stacking::put_below;
 use pipe_columns::{DataFrame, Schema};

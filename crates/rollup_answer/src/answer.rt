@@ -1,6 +1,6 @@
 //! The answers to what words ask for.
 
-ghost use Rattle.std.specs.Prelude.{◌≡◌, ◌<◌, IfErr, IfOk, IfSome, IsErrOf, None, Some};
+ghost use Rattle.std.specs.Prelude.{◌≡◌, ◌<◌, ◌≤◌, IfErr, IfOk, IfSome, IsErrOf, None, Some};
 ghost use Rattle.std.specs.Io.KnownBytes.{Appends};
 ghost use Rattle.pipe_aggs.specs.Faults.{first_fault};
 ghost use Rattle.pipe_aggs.specs.QueryTrees.{query_tree};
@@ -90,6 +90,8 @@ pub(crate) fn answer_save<I: InputFiles, O: Output, H: Threads + Sync>(
         → IsBegun (saves (query_tree question.query) question.first question.files.items)
         (I.told input.old) (O.told output.old) (O.told output.new)) }
     ensures untouched { IfSome result (λ f. IsBefore f → output.new ≡ output.old) }
+    ensures told { I.told input.new ≡ I.told input.old }
+    ensures later { I.faults input.old ≤ I.faults input.new }
 {
     let SaveQuestion {
         query,
@@ -118,6 +120,8 @@ fn roll_question<I: InputFiles>(
     ensures tried { TriedFront (I.tried input.old) (I.tried input.new) question.now.files.items }
     ensures cause { IsErrOf result roll_error.Input
         → Rose (I.faults input.old) (I.faults input.new) }
+    ensures told { I.told input.new ≡ I.told input.old }
+    ensures later { I.faults input.old ≤ I.faults input.new }
 {
     match question.query.check(alloc) {
         Ok(mut checked) => {
@@ -154,6 +158,8 @@ pub(crate) fn answer_roll<I: InputFiles, O: Output>(
         (query_tree question.now.query) question.now.keep.items question.now.files.items)
         (I.told input.old) (O.told output.old) (O.told output.new)) }
     ensures untouched { IfSome result (λ f. IsBefore f → output.new ≡ output.old) }
+    ensures told { I.told input.new ≡ I.told input.old }
+    ensures later { I.faults input.old ≤ I.faults input.new }
 {
     match roll_question(alloc, hash_keys, question, input) {
         Ok(frame) => write_frame(alloc, output, &frame),

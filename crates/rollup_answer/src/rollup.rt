@@ -1,6 +1,6 @@
 //! One command on saved states, from its words to the bytes of its output.
 
-ghost use Rattle.std.specs.Prelude.{◌≡◌, ◌≢◌, ◌<◌, ◌⊎◌, IfSome, IsSome, IsTrue, None, Some};
+ghost use Rattle.std.specs.Prelude.{◌≡◌, ◌≢◌, ◌<◌, ◌≤◌, ◌⊎◌, IfSome, IsSome, IsTrue, None, Some};
 ghost use Rattle.pipe_columns.specs.Causes.{Rose};
 ghost use Rattle.pipe_io.specs.Tried.{TriedFront};
 ghost use Rattle.rollup_words.specs.Asked.{asked, files_asked, is_refused};
@@ -49,6 +49,8 @@ fn run<I: InputFiles, O: Output, H: Threads + Sync>(
     ensures untouched { IfSome result (λ f. IsBefore f → output.new ≡ output.old) }
     ensures refused { EndsRefused (asked words.now) result }
     ensures unread { IsTrue (is_refused (asked words.now)) → input.new ≡ input.old }
+    ensures told { I.told input.new ≡ I.told input.old }
+    ensures later { I.faults input.old ≤ I.faults input.new }
 {
     match read_request(alloc, words) {
         Ok(Request::Save(question)) => {
@@ -98,6 +100,11 @@ pub fn run_rollup<I: InputFiles, O: Output, E: Output, H: Threads + Sync>(
     ensures tried { TriedFront (I.tried input.old) (I.tried input.new)
         (files_asked (asked words.now)) }
     ensures unread { IsTrue (is_refused (asked words.now)) → input.new ≡ input.old }
+
+    // What the input tells stays, and its faults don't fall: so what is asked next is of the same
+    // files.
+    ensures told { I.told input.new ≡ I.told input.old }
+    ensures later { I.faults input.old ≤ I.faults input.new }
 
     // Whatever the input tells, refused words end the run, and no others do.
     ensures refuses { IsRefusalOf (asked words.now) result }

@@ -1,6 +1,6 @@
 //! Chunks that are read in rounds, and fed to a state in the making.
 
-ghost use Rattle.std.specs.Prelude.{◌≡◌, ◌<◌, [], IfErr, IfOk, IfSome, IsErrOf, None};
+ghost use Rattle.std.specs.Prelude.{◌≡◌, ◌<◌, ◌≤◌, [], IfErr, IfOk, IfSome, IsErrOf, None};
 ghost use Rattle.pipe_columns.specs.Causes.{Rose};
 ghost use Rattle.pipe_csv.specs.declared.csv_error.CsvError.TheVariants as csv_error;
 ghost use Rattle.pipe_io.specs.Tried.{TriedFront};
@@ -47,6 +47,8 @@ pub(crate) fn feed_left<'a, I: InputFiles, H: Threads + Sync>(
     ensures failed { IsErrOf result csv_error.Input
         → Rose (I.faults input.old) (I.faults input.new) }
     ensures tried { TriedFront (I.tried input.old) (I.tried input.new) reader.old.names }
+    ensures told { I.told input.new ≡ I.told input.old }
+    ensures later { I.faults input.old ≤ I.faults input.new }
 {
     let mut saving = saving;
     for _ in 0..MOST {

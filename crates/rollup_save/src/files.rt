@@ -1,6 +1,6 @@
 //! The text of the state of files.
 
-ghost use Rattle.std.specs.Prelude.{◌≡◌, ◌<◌, IfErr, IfOk, IfSome, IsErrOf, None, OnOk};
+ghost use Rattle.std.specs.Prelude.{◌≡◌, ◌<◌, ◌≤◌, IfErr, IfOk, IfSome, IsErrOf, None, OnOk};
 ghost use Rattle.pipe_aggs.specs.Faults.{first_fault};
 ghost use Rattle.pipe_aggs.specs.QueryTrees.{query_tree};
 ghost use Rattle.pipe_columns.specs.Causes.{Rose};
@@ -59,6 +59,11 @@ pub fn save_files<I: InputFiles, H: Threads + Sync>(
     // Files are begun in the order of their names, each once at most for each time that it is
     // named.
     ensures tried { TriedFront (I.tried input.old) (I.tried input.new) names.items }
+
+    // What the input tells stays, and its faults don't fall: so what is saved next is of the same
+    // files.
+    ensures told { I.told input.new ≡ I.told input.old }
+    ensures later { I.faults input.old ≤ I.faults input.new }
 {
     let Narrowed {
         schema,

@@ -1,6 +1,6 @@
 //! The state of the chunks that a reader has left.
 
-ghost use Rattle.std.specs.Prelude.{◌≡◌, ◌<◌, IfErr, IfOk, IfSome, IsErrOf};
+ghost use Rattle.std.specs.Prelude.{◌≡◌, ◌<◌, ◌≤◌, IfErr, IfOk, IfSome, IsErrOf};
 ghost use Rattle.pipe_aggs.specs.QueryTrees.{query_tree};
 ghost use Rattle.pipe_columns.specs.Causes.{Rose};
 ghost use Rattle.pipe_csv.specs.declared.csv_error.CsvError.TheVariants as csv_error;
@@ -42,6 +42,8 @@ pub fn save_left<'a, I: InputFiles, H: Threads + Sync>(
     ensures failed { IsErrOf result csv_error.Input
         → Rose (I.faults input.old) (I.faults input.new) }
     ensures tried { TriedFront (I.tried input.old) (I.tried input.new) reader.old.names }
+    ensures told { I.told input.new ≡ I.told input.old }
+    ensures later { I.faults input.old ≤ I.faults input.new }
 {
     let saving = Saving::new(alloc, query, first)?;
     let saving = feed_left(rt, alloc, saving, input, reader, most, threads)?;

@@ -1,6 +1,6 @@
 //! The text of the state of the chunks that a reader has left.
 
-ghost use Rattle.std.specs.Prelude.{◌≡◌, ◌<◌, IfErr, IfOk, IfSome, IsErrOf, None};
+ghost use Rattle.std.specs.Prelude.{◌≡◌, ◌<◌, ◌≤◌, IfErr, IfOk, IfSome, IsErrOf, None};
 ghost use Rattle.pipe_aggs.specs.Faults.{first_fault};
 ghost use Rattle.pipe_aggs.specs.QueryTrees.{query_tree};
 ghost use Rattle.pipe_columns.specs.Causes.{Rose};
@@ -54,6 +54,8 @@ fn text_left<'a, I: InputFiles, H: Threads + Sync>(
     ensures failed { IsErrOf result csv_error.Input
         → Rose (I.faults input.old) (I.faults input.new) }
     ensures tried { TriedFront (I.tried input.old) (I.tried input.new) reader.old.names }
+    ensures told { I.told input.new ≡ I.told input.old }
+    ensures later { I.faults input.old ≤ I.faults input.new }
 {
     let most = threads.saturating_mul(CHUNKS_OF_THREAD);
     let file = save_left(rt, alloc, query, first, input, reader, most, threads)?;
@@ -81,6 +83,8 @@ pub(crate) fn text_by<I: InputFiles, H: Threads + Sync>(
     ensures failed { IsErrOf result csv_error.Input
         → Rose (I.faults input.old) (I.faults input.new) }
     ensures tried { TriedFront (I.tried input.old) (I.tried input.new) reader.old.names }
+    ensures told { I.told input.new ≡ I.told input.old }
+    ensures later { I.faults input.old ≤ I.faults input.new }
 {
     let mut checked = checked_of(alloc, query)?;
     checked.hash_under(hash_keys);
