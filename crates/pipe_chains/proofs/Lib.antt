@@ -1,5 +1,6 @@
 pub mod HashFacts
 pub mod LastIndex
 pub mod Walks
-mod LeadFacts
+mod AlongFacts
 mod LinkFacts
+mod SlotFacts
