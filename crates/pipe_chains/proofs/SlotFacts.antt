@@ -1,19 +1,21 @@
 -- Entries of one lead have one slot: the chain of the slot has them all.
-use Rattle.std.proofs.Common.{◌≡◌, ℕ, zero, suc, ◌<◌, ◌≤◌, ◌==◌, Bool, true, false, List, length, map, take, get_or, Option, Some, None, refl, sym, ap, ◌∙◌, arith, eqb-true, eq-eqb, true≢false, cond}
-use Rattle.std.proofs.lemmas.List.{get_or-map, get_or-take, get_or_push, length-map, length-take-le, take-take, take_all}
-use Rattle.std.proofs.lemmas.Bool.{cases_Bool}
+use Rattle.std.proofs.Common.{◌≡◌, ℕ, zero, suc, ◌<◌, ◌≤◌, ◌≢◌, ◌==◌, Bool, true, false, List, length, map, take, get_or, Some, refl, sym, ap, ◌∙◌, arith, eqb-true, eq-eqb, true≢false, cond}
+use Rattle.std.proofs.lemmas.List.{get_or-map, get_or-take, length-map, length-take-le, take-take}
 use Rattle.std.proofs.Math.Seq.{take-suc}
 use Rattle.pipe_chains.specs.Chains.{last_of}
 use Rattle.pipe_chains.specs.Layout.{entry_of}
-use Rattle.pipe_chains.proofs.LastIndex.{IsLast, last-front, last_index-push, none-last, some-last}
+use Rattle.pipe_chains.proofs.LastIndex.{last-front, last_index-push, none-last, some-last}
 
 module _ (slot : ℕ → ℕ) (leads : List ℕ) (lead : ℕ) where
+  unlike : (x : ℕ) → x ≢ lead → (x == lead) ≡ false
+  unlike x e = by (x == lead) refl where
+    by : (b : Bool) → (x == lead) ≡ b → (x == lead) ≡ false
+    by true q = absurd (e (eqb-true x lead q))
+    by false q = q
+
   -- what has another slot has another lead
   fails : (x : ℕ) → (slot x == slot lead) ≡ false → (x == lead) ≡ false
-  fails x e = by (x == lead) refl where
-    by : (b : Bool) → (x == lead) ≡ b → (x == lead) ≡ false
-    by true q = absurd (true≢false (sym (eq-eqb (slot x) (slot lead) (ap slot (eqb-true x lead q))) ∙ e))
-    by false q = q
+  fails x e = unlike x (λ q. true≢false (sym (eq-eqb (slot x) (slot lead) (ap slot q)) ∙ e))
 
   module _ (below : ℕ) (within : below ≤ length leads) where
     slots-length : length (take below (map slot leads)) ≡ below
@@ -58,7 +60,7 @@ module _ (slot : ℕ → ℕ) (leads : List ℕ) (lead : ℕ) where
       ∙ ap (λ b. cond b (Some (length (take i leads))) (last_of lead (take i leads))) (eq-eqb (get_or leads i 0) lead e)
       ∙ ap Some (length-take-le i leads (omega arith))
 
-  pub last-before : (i : ℕ) → i < length leads → (get_or leads i 0 == lead) ≡ false → last_of lead (take (suc i) leads) ≡ last_of lead (take i leads)
+  pub last-before : (i : ℕ) → i < length leads → get_or leads i 0 ≢ lead → last_of lead (take (suc i) leads) ≡ last_of lead (take i leads)
   last-before i l e =
       ap (last_of lead) (take-suc leads i 0 l) ∙ last_index-push (λ x. x == lead) (take i leads) (get_or leads i 0)
-      ∙ ap (λ b. cond b (Some (length (take i leads))) (last_of lead (take i leads))) e
+      ∙ ap (λ b. cond b (Some (length (take i leads))) (last_of lead (take i leads))) (unlike (get_or leads i 0) e)

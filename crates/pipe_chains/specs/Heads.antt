@@ -1,5 +1,5 @@
 -- Of the proofs alone: the heads of chains.
-use Rattle.std.specs.Prelude.{◌≡◌, ◌-◌, ℕ, List, bit_and, fold, length, slice_index}
+use Rattle.std.specs.Prelude.{◌≡◌, ◌-◌, ℕ, bit_and, fold, length, slice_index}
 use Rattle.std.specs.Hash as fed
 use Rattle.std.specs.Hash.FoldHasher.{finish, write}
 use Rattle.std.specs.declared.hash.FoldHasher.{FoldHasher}

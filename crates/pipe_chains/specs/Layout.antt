@@ -32,9 +32,10 @@ pub record IsChained (slot told : ℕ → ℕ) (links : List Link) : Type 0 wher
 abbrev pub AreLinked : Heads → List Link → Type 0
 AreLinked heads links = IsChained (slot_of heads) (told_at heads) links
 
--- the entry that is told, if any, has the slot of a lead
-abbrev pub HasSlot : (ℕ → ℕ) → ℕ → List Link → ℕ → Type 0
-HasSlot slot lead links told = (i : ℕ) → told ≡ suc i → slot (slice_index (leads_of links) i) ≡ slot lead
+-- what is told is none, or an entry whose lead has the slot of a lead
+pub record IsOfSlot (slot : ℕ → ℕ) (links : List Link) (lead told : ℕ) : Type 0 where
+  pub within : told ≤ length links
+  pub same : (i : ℕ) → told ≡ suc i → slot (slice_index (leads_of links) i) ≡ slot lead
 
 -- chains as contracts see them: there are two heads for each entry, and the number of one and 1 have 32
 -- bits

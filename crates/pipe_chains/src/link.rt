@@ -3,7 +3,7 @@
 ghost use Rattle.std.specs.Prelude.{◌≡◌, ◌+◌, ◌≤◌, ◌<◌, ◌∷◌, ◌++◌, ◌^◌, [], length, take};
 ghost use Rattle.pipe_chains.specs.Chains.{last_of};
 ghost use Rattle.pipe_chains.specs.Heads.{AreClear, slot_of};
-ghost use Rattle.pipe_chains.specs.Layout.{AreLinked, HasSlot, leads_of, marks_of};
+ghost use Rattle.pipe_chains.specs.Layout.{AreLinked, IsOfSlot, leads_of, marks_of};
 
 use crate::heads::Heads;
 
@@ -28,12 +28,11 @@ impl Link {
     }
 }
 
-/// The last entry of a lead among so many. The last of these has the slot of the lead.
+/// The last entry of a lead among so many, the last of which has its slot.
 #[inline(always)]
 pub(crate) fn along(heads: &Heads, links: &[Link], told: u32, lead: u64) -> Option<usize>
     requires linked { AreLinked heads.now links.now }
-    requires within { told ≤ length links.now }
-    requires slot { HasSlot (slot_of heads.now) lead links.now told }
+    requires slot { IsOfSlot (slot_of heads.now) links.now lead told }
     ensures { result ≡ last_of lead (take told (leads_of links.now)) }
 {
     let mut told = told;

@@ -1,4 +1,4 @@
-use Rattle.std.proofs.Common.{◌≡◌, take, drop, ◌++◌}
+use Rattle.std.proofs.Common.{◌≡◌, take}
 use Rattle.pipe_chains.specs.Layout.{leads_of, marks_of}
 use Rattle.pipe_chains.proofs.link.lead_all.Given as goal
 

@@ -1,4 +1,4 @@
-use Rattle.std.proofs.Common.{arith, rules}
+use Rattle.std.proofs.Common.{rules}
 use Rattle.pipe_chains.specs.Heads.{slot_in}
 use Rattle.pipe_chains.proofs.heads.Heads.slot.Goals as goal
 
