@@ -5,7 +5,7 @@ ghost use Rattle.pipe_chains.specs.Chains.{last_of};
 
 use crate::heads::Heads;
 use crate::link::{Link, along, lead_all, link_all, link_to};
-use crate::widen::widen;
+use crate::widen::see_to_heads;
 use std::alloc::{AllocError, Global};
 use std::hash::RandomState;
 use std::marker::Model;
@@ -132,9 +132,7 @@ impl Chains {
             return Err(AllocError);
         }
         let entries = self.links.len() + additional;
-        if self.heads.told.len() / 2 < entries {
-            widen(&mut self.heads, self.links.as_mut_slice(), entries)?;
-        }
+        see_to_heads(&mut self.heads, self.links.as_mut_slice(), entries)?;
         self.links.reserve(additional)
     }
 
