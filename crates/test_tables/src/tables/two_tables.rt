@@ -135,11 +135,6 @@ impl TwoTables {
         self.table.len()
     }
 
-    /// The first table.
-    pub(crate) fn into_first(self) -> AggHashTable {
-        self.table
-    }
-
     /// Both tables, without the rows that are left.
     pub(crate) fn into_tables(self) -> (AggHashTable, AggHashTable)
         ensures shape { result.1.shape ≡ result.0.shape }

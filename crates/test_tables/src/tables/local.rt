@@ -13,8 +13,8 @@ ghost use Rattle.pipe_tables.specs.Buffers.{is_taken_lent, with_none};
 ghost use Rattle.pipe_tables.specs.LocalTable.{NoneWaits, with_buffers, local_with_row};
 ghost use Rattle.pipe_keyed.specs.Tables.{TakesOne};
 
-use crate::asked::{NUMBERS, are_columns, chunk_of_numbers, counting, hold};
-use crate::tables::table_tests::given;
+use crate::asked::{NUMBERS, are_columns, chunk_of_numbers, counting};
+use crate::tables::given::given;
 use pipe_aggs::{CheckedQuery, Query};
 use pipe_columns::DataChunk;
 use pipe_groups::encode_row;
@@ -206,49 +206,8 @@ fn emptied(table: &mut ThreadLocalTable) -> Result<bool, AllocError>
 }
 
 /// Whether a local table gives nothing.
-fn gives_none(table: &mut ThreadLocalTable) -> Result<bool, Fail> {
+fn gives_none(table: &mut ThreadLocalTable) -> Result<bool, AllocError> {
     Ok(table.finalize(&mut None)?.is_none())
-}
-
-/// Whether a local table of the rows of a chunk, from whose buffers each row leaves at once, gives
-/// nothing.
-fn all_leave(
-    alloc: Global,
-    query: &CheckedQuery<'_>,
-    chunk: &DataChunk,
-    left: &mut Vec<usize>,
-) -> Result<bool, Fail> {
-    let mut table = fed(alloc, query, &limits_of(1), chunk, left)?;
-    let gives = gives_none(&mut table);
-    drop(table);
-    gives
-}
-
-/// Whether it does so, and the row of 2 left alone.
-fn leaves_at_once(
-    alloc: Global,
-    query: &CheckedQuery<'_>,
-    chunk: &DataChunk,
-) -> Result<bool, Fail> {
-    let mut left = Vec::new(alloc);
-    let leave = all_leave(alloc, query, chunk, &mut left)?;
-    Ok(leave && left.as_slice() == [0, 1, 0].as_slice())
-}
-
-fn leaves_of_query(alloc: Global, query: &Query) -> Result<bool, Fail> {
-    let chunk = chunk_of_numbers(alloc, NUMBERS, false, &KEYS, &KEYS)?;
-    match query.check(alloc) {
-        Ok(checked) => leaves_at_once(alloc, &checked, &chunk),
-        Err(_) => Err("Query::check wants memory".into()),
-    }
-}
-
-#[test]
-fn full_buffers_leave(rt: HostRuntime) -> Result<(), Fail> {
-    let query = counting(rt.alloc(), NUMBERS, 1)?;
-    let leaves = leaves_of_query(rt.alloc(), &query);
-    drop(query);
-    hold(leaves)
 }
 
 /// Whether what waits is the row of 2, and none waits then.
@@ -265,20 +224,21 @@ fn has_ones(table: &mut AggHashTable) -> Result<bool, AllocError> {
     Ok(are_columns(&frame, &[&[1], &[2]]))
 }
 
-/// Whether the row of 2 waits in a local table, and those of 1 are held.
+/// Whether the row of 2 waits in a local table, which gives nothing itself, and those of 1 are held.
 fn holds_ones(mut table: ThreadLocalTable) -> Result<bool, AllocError>
     requires buffers { 0 < length table.buffers.rows }
     requires room { TakesOne table.table }
 {
     let emptied = is_emptied(&mut table);
+    let none = gives_none(&mut table);
     let mut held = table.into_inner_map();
     let ones = has_ones(&mut held);
     drop(held);
-    Ok(emptied? && ones?)
+    Ok(emptied? && none? && ones?)
 }
 
 /// Whether no row leaves a local table of the rows of a chunk, the row of 2 waits, and those of 1 are held.
-fn waits(alloc: Global, query: &CheckedQuery<'_>, chunk: &DataChunk) -> Result<bool, Fail> {
+fn waits_over(alloc: Global, query: &CheckedQuery<'_>, chunk: &DataChunk) -> Result<bool, Fail> {
     let mut left = Vec::new(alloc);
     let table = fed(alloc, query, &limits_of(2), chunk, &mut left)?;
     let stay = left.as_slice() == [0, 0, 0].as_slice();
@@ -286,10 +246,18 @@ fn waits(alloc: Global, query: &CheckedQuery<'_>, chunk: &DataChunk) -> Result<b
     Ok(holds_ones(table)? && stay)
 }
 
-pub(crate) fn waits_of_query(alloc: Global, query: &Query) -> Result<bool, Fail> {
+fn waits_of_query(alloc: Global, query: &Query) -> Result<bool, Fail> {
     let chunk = chunk_of_numbers(alloc, NUMBERS, false, &KEYS, &KEYS)?;
     match query.check(alloc) {
-        Ok(checked) => waits(alloc, &checked, &chunk),
+        Ok(checked) => waits_over(alloc, &checked, &chunk),
         Err(_) => Err("Query::check wants memory".into()),
     }
+}
+
+/// Whether the row of 2 waits in a local table.
+pub(crate) fn waits(alloc: Global) -> Result<bool, Fail> {
+    let query = counting(alloc, NUMBERS, 1)?;
+    let waits = waits_of_query(alloc, &query);
+    drop(query);
+    waits
 }

@@ -6,7 +6,7 @@ use Rattle.pipe_aggs.specs.QueryTrees.{query_tree}
 use Rattle.pipe_model.specs.Query.{QueryTree}
 use Rattle.pipe_model.specs.Rows.{chunk_rows, row_of}
 use Rattle.pipe_tables.proofs.ChunkValues.{chunk-values}
-use Rattle.test_tables.proofs.tables.local_tests.fed.Goals as goal
+use Rattle.test_tables.proofs.tables.local.fed.Goals as goal
 
 -- how many rows there are
 count : (q : QueryTree) (frame : FrameData) (rows : List Row) → rows ≡ chunk_rows q 0 frame → length rows ≡ frame.height

@@ -17,7 +17,7 @@ use Rattle.pipe_tables.specs.After.{IsAfter, waiting_of}
 use Rattle.pipe_tables.specs.LocalTable.{Local, local_with_row}
 use Rattle.pipe_keyed.specs.Tables.{TakesOne}
 use Rattle.pipe_tables.proofs.AfterFacts.{after-next, after-none, after-room}
-use Rattle.test_tables.proofs.tables.local_tests.fed_rows.Goals as goal
+use Rattle.test_tables.proofs.tables.local.fed_rows.Goals as goal
 
 pub loop-row-init : goal.loop-row-init
 loop-row-init c =

@@ -3,7 +3,7 @@ use Rattle.std.proofs.lemmas.List.Elements.{All-nil, All-replicate}
 use Rattle.pipe_spill.specs.SpillRow.{IsRow}
 use Rattle.pipe_spill.specs.declared.spill_row.SpillRow.{SpillRow}
 use Rattle.pipe_groups.proofs.HoldFacts.{holds-none}
-use Rattle.test_tables.proofs.tables.local_tests.take_none.Goals as goal
+use Rattle.test_tables.proofs.tables.local.take_none.Goals as goal
 
 pub combine-combined-requires-clause-other_none_waits : goal.combine-combined-requires-clause-other_none_waits
 combine-combined-requires-clause-other_none_waits c = rw c.in_ok-other.ensures.rows (All-replicate (λ (rows : List SpillRow). rows ≡ []) _ [] refl)

@@ -3,58 +3,12 @@
 ghost use Rattle.std.specs.Prelude.{◌≡◌};
 ghost use Rattle.pipe_keyed.specs.Tables.{HoldFewTogether};
 
-use crate::asked::{NUMBERS, chunk_of_numbers, counting, hold};
+use crate::asked::hold;
+use crate::tables::joined::{join, tables_of};
 use crate::tables::two_tables::TwoTables;
-use pipe_aggs::{CheckedQuery, Query};
 use pipe_tables::{AggHashTable, LentEnd};
 use std::alloc::{AllocError, Global};
 use std::test::Fail;
-
-/// Joins a table with another. It is asked again where memory was wanting.
-pub(crate) fn join(table: &mut AggHashTable, other: &mut AggHashTable) -> Result<(), AllocError>
-    requires shape { other.old.shape ≡ table.old.shape }
-    requires few { HoldFewTogether table.old other.old }
-{
-    match table.combine(other) {
-        Ok(()) => Ok(()),
-        Err(AllocError) => table.combine(other),
-    }
-}
-
-/// Two tables of a limit, and rows of keys.
-fn tables_over(
-    alloc: Global,
-    query: &CheckedQuery<'_>,
-    limit: Option<usize>,
-    keys: &[i128],
-) -> Result<TwoTables, Fail> {
-    let chunk = chunk_of_numbers(alloc, NUMBERS, false, keys, keys)?;
-    TwoTables::new(alloc, query, limit, &chunk)
-}
-
-fn tables_of_query(
-    alloc: Global,
-    query: &Query,
-    limit: Option<usize>,
-    keys: &[i128],
-) -> Result<TwoTables, Fail> {
-    match query.check(alloc) {
-        Ok(checked) => tables_over(alloc, &checked, limit, keys),
-        Err(_) => Err("Query::check wants memory".into()),
-    }
-}
-
-/// Two tables of a limit, which count rows, and rows of keys.
-pub(crate) fn tables_of(
-    alloc: Global,
-    limit: Option<usize>,
-    keys: &[i128],
-) -> Result<TwoTables, Fail> {
-    let query = counting(alloc, NUMBERS, 1)?;
-    let tables = tables_of_query(alloc, &query, limit, keys);
-    drop(query);
-    tables
-}
 
 /// Whether the rows of 1, 2, 1 come to a table of limit 0 as they should. Room for the row of 2 lets it
 /// no more in.

@@ -5,9 +5,8 @@ ghost use Rattle.pipe_aggs.specs.QueryTrees.{query_tree};
 ghost use Rattle.pipe_groups.specs.Holds.{HoldFewer};
 ghost use Rattle.pipe_groups.specs.Shape.{shape_of};
 
-use crate::asked::{NUMBERS, are_columns, chunk_of_numbers, hold, query_of};
 use crate::tables::test_rows::are_taken;
-use pipe_aggs::{AExpr, CheckedQuery, IRAggExpr, Node, Query};
+use pipe_aggs::CheckedQuery;
 use pipe_columns::{DataChunk, DataFrame};
 use pipe_tables::AggHashTable;
 use std::alloc::{AllocError, Global};
@@ -54,41 +53,4 @@ pub(crate) fn frame_of(
     let frame = frame_after(alloc, &mut table, query, chunk, order, slice);
     drop(table);
     frame
-}
-
-/// Whether a table of all rows of a chunk, in an order, gives these columns of numbers.
-pub(crate) fn gives_columns(
-    alloc: Global,
-    query: &CheckedQuery<'_>,
-    chunk: &DataChunk,
-    order: &[usize],
-    due: &[&[i128]],
-) -> Result<bool, Fail> {
-    let frame = frame_of(alloc, query, chunk, order, &mut None)?;
-    let are = are_columns(&frame, due);
-    drop(frame);
-    Ok(are)
-}
-
-/// The mean of v by k, which is one sum and one count.
-fn means(alloc: Global) -> Result<Query, Fail> {
-    let aggs = vec![in alloc; AExpr::Agg(IRAggExpr::Mean(Node(1)))]?;
-    query_of(alloc, NUMBERS, 1, aggs)
-}
-
-/// Whether the mean of three rows of one key is right.
-fn is_mean(alloc: Global, query: &Query) -> Result<bool, Fail> {
-    let chunk = chunk_of_numbers(alloc, NUMBERS, false, &[5, 5, 5], &[1, 2, 6])?;
-    match query.check(alloc) {
-        Ok(checked) => gives_columns(alloc, &checked, &chunk, &[0, 1, 2], &[&[5], &[9], &[3]]),
-        Err(_) => Err("no query".into()),
-    }
-}
-
-#[test]
-fn a_mean(rt: HostRuntime) -> Result<(), Fail> {
-    let query = means(rt.alloc())?;
-    let is = is_mean(rt.alloc(), &query);
-    drop(query);
-    hold(is)
 }

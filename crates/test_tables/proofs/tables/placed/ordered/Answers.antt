@@ -3,7 +3,7 @@ use Rattle.std.specs.List.{IsDistinct}
 use Rattle.std.specs.Ordering.{eq_by_cmp}
 use Rattle.pipe_columns.specs.Place.{place_cmp}
 use Rattle.pipe_columns.specs.declared.place.Place.{Place}
-use Rattle.test_tables.proofs.tables.placed_tests.ordered.Goals as goal
+use Rattle.test_tables.proofs.tables.placed.ordered.Goals as goal
 
 abbrev at : ℕ → ℕ → Place
 at chunk row = record { chunk = chunk; row = row }

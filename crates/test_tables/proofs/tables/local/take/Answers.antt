@@ -10,7 +10,7 @@ use Rattle.pipe_spill.proofs.SpilledRows.{spilled_is_row}
 use Rattle.pipe_groups.specs.Shape.{Shape}
 use Rattle.pipe_tables.specs.Buffers.{is_taken_lent}
 use Rattle.pipe_tables.specs.LocalTable.{local_with_row}
-use Rattle.test_tables.proofs.tables.local_tests.take.Goals as goal
+use Rattle.test_tables.proofs.tables.local.take.Goals as goal
 
 pub insert-requires-clause-typed : goal.insert-requires-clause-typed
 insert-requires-clause-typed c =

@@ -1,0 +1,208 @@
+//! Two tables of one query that are asked together. A call that wants memory is made again.
+
+ghost use Rattle.std.specs.Prelude.{◌≡◌};
+ghost use Rattle.pipe_keyed.specs.Tables.{HoldFewTogether};
+
+use crate::asked::{NUMBERS, chunk_of_numbers, counting, has_numbers};
+use crate::tables::given::given;
+use crate::tables::placed::ordered;
+use crate::tables::two_tables::TwoTables;
+use pipe_aggs::{CheckedQuery, Query};
+use pipe_columns::Place;
+use pipe_tables::{AggHashTable, LentEnd};
+use std::alloc::{AllocError, Global};
+use std::test::Fail;
+
+/// Joins a table with another. It is asked again where memory was wanting.
+pub(crate) fn join(table: &mut AggHashTable, other: &mut AggHashTable) -> Result<(), AllocError>
+    requires shape { other.old.shape ≡ table.old.shape }
+    requires few { HoldFewTogether table.old other.old }
+{
+    match table.combine(other) {
+        Ok(()) => Ok(()),
+        Err(AllocError) => table.combine(other),
+    }
+}
+
+/// Two tables of a limit, and rows of keys.
+fn tables_over(
+    alloc: Global,
+    query: &CheckedQuery<'_>,
+    limit: Option<usize>,
+    keys: &[i128],
+) -> Result<TwoTables, Fail> {
+    let chunk = chunk_of_numbers(alloc, NUMBERS, false, keys, keys)?;
+    TwoTables::new(alloc, query, limit, &chunk)
+}
+
+fn tables_of_query(
+    alloc: Global,
+    query: &Query,
+    limit: Option<usize>,
+    keys: &[i128],
+) -> Result<TwoTables, Fail> {
+    match query.check(alloc) {
+        Ok(checked) => tables_over(alloc, &checked, limit, keys),
+        Err(_) => Err("Query::check wants memory".into()),
+    }
+}
+
+/// Two tables of a limit, which count rows, and rows of keys.
+pub(crate) fn tables_of(
+    alloc: Global,
+    limit: Option<usize>,
+    keys: &[i128],
+) -> Result<TwoTables, Fail> {
+    let query = counting(alloc, NUMBERS, 1)?;
+    let tables = tables_of_query(alloc, &query, limit, keys);
+    drop(query);
+    tables
+}
+
+/// Puts a row into the first table, again where memory was wanting.
+fn is_put(tables: &mut TwoTables) -> bool {
+    tables.put() == LentEnd::Done || tables.put() == LentEnd::Done
+}
+
+/// Puts a row into the second table, again where memory was wanting.
+fn is_put_other(tables: &mut TwoTables) -> bool {
+    tables.put_other() == LentEnd::Done || tables.put_other() == LentEnd::Done
+}
+
+/// Puts the rows of 1, 2, 3 into the first table, and those of 2, 3, 4 into the second. Room for the
+/// rows of the first is made before.
+fn are_put(tables: &mut TwoTables) -> bool {
+    (tables.reserve().is_ok() || tables.reserve().is_ok())
+        && is_put(tables)
+        && is_put(tables)
+        && is_put(tables)
+        && is_put_other(tables)
+        && is_put_other(tables)
+        && is_put_other(tables)
+}
+
+/// The keys of the rows, the last one first.
+const KEYS: [i128; 6] = [4, 3, 2, 3, 2, 1];
+
+/// Two tables, of which the first holds 1, 2, 3 and the second 2, 3, 4.
+fn two_tables(alloc: Global) -> Result<TwoTables, Fail> {
+    let mut tables = tables_of(alloc, None, &KEYS)?;
+    if are_put(&mut tables) {
+        Ok(tables)
+    } else {
+        drop(tables);
+        Err("TwoTables::put wants memory".into())
+    }
+}
+
+/// Whether a table gives these keys with these counts.
+fn gives(table: &mut AggHashTable, keys: &[i128], counts: &[i128]) -> Result<bool, AllocError> {
+    let frame = given(table, &mut None)?;
+    Ok(has_numbers(&frame, 0, keys) && has_numbers(&frame, 1, counts))
+}
+
+/// Whether a table with the rows of another one counts all.
+fn counts_all(table: &mut AggHashTable, other: &mut AggHashTable) -> Result<bool, AllocError>
+    requires shape { other.old.shape ≡ table.old.shape }
+    requires few { HoldFewTogether table.old other.old }
+{
+    join(table, other)?;
+    gives(table, &[1, 2, 3, 4], &[1, 2, 2, 1])
+}
+
+/// Takes the odd keys of another table in, which are those of partition 0 of 2, again where memory
+/// was wanting.
+fn take_odd(table: &mut AggHashTable, other: &mut AggHashTable) -> Result<(), AllocError>
+    requires shape { other.old.shape ≡ table.old.shape }
+    requires few { HoldFewTogether table.old other.old }
+{
+    match table.combine_on_partition(0, 2, other) {
+        Ok(()) => Ok(()),
+        Err(AllocError) => table.combine_on_partition(0, 2, other),
+    }
+}
+
+/// Whether a table with the odd keys of another one counts those, and the other one the rest.
+fn counts_odd(table: &mut AggHashTable, other: &mut AggHashTable) -> Result<bool, AllocError>
+    requires shape { other.old.shape ≡ table.old.shape }
+    requires few { HoldFewTogether table.old other.old }
+{
+    take_odd(table, other)?;
+    Ok(gives(table, &[1, 2, 3], &[1, 1, 2])? && gives(other, &[2, 4], &[1, 1])?)
+}
+
+/// The first places of a table's groups, asked for again where memory was wanting.
+fn firsts_of(table: &mut AggHashTable) -> Result<Vec<Place>, AllocError> {
+    match table.finalize_placed() {
+        Ok(placed) => Ok(placed.firsts.into_vec()),
+        Err(AllocError) => Ok(table.finalize_placed()?.firsts.into_vec()),
+    }
+}
+
+/// The first rows of 1, 2, 3.
+const FIRSTS: [Place; 3] = [
+    Place { chunk: 0, row: 5 },
+    Place { chunk: 0, row: 4 },
+    Place { chunk: 0, row: 3 },
+];
+
+/// Whether a table has the first rows of 1, 2, 3.
+fn has_firsts(table: &mut AggHashTable) -> Result<bool, AllocError> {
+    let firsts = firsts_of(table)?;
+    Ok(firsts.as_slice() == FIRSTS.as_slice())
+}
+
+/// Whether the second and the third of a table's groups, in an order of first rows, are as is due.
+fn is_ordered(alloc: Global, table: &mut AggHashTable) -> Result<bool, Fail> {
+    let frame = given(table, &mut None)?;
+    let some = ordered(alloc, frame, &mut Some((1, 2)))?;
+    Ok(has_numbers(&some, 0, &[1, 3]) && has_numbers(&some, 1, &[1, 2]))
+}
+
+/// Whether some groups of a table with the rows of another one are as is due, in an order of first rows.
+fn is_ordered_with(
+    alloc: Global,
+    table: &mut AggHashTable,
+    other: &mut AggHashTable,
+) -> Result<bool, Fail>
+    requires shape { other.old.shape ≡ table.old.shape }
+    requires few { HoldFewTogether table.old other.old }
+{
+    join(table, other)?;
+    is_ordered(alloc, table)
+}
+
+/// What is asked of two tables, and whether it is as is due.
+#[derive(Clone, Copy)]
+pub(crate) enum Asked {
+    Join,
+    Take,
+    Firsts,
+    Order,
+}
+
+fn answers(
+    alloc: Global,
+    table: &mut AggHashTable,
+    other: &mut AggHashTable,
+    asked: Asked,
+) -> Result<bool, Fail>
+    requires shape { other.old.shape ≡ table.old.shape }
+    requires few { HoldFewTogether table.old other.old }
+{
+    match asked {
+        Asked::Join => Ok(counts_all(table, other)?),
+        Asked::Take => Ok(counts_odd(table, other)?),
+        Asked::Firsts => Ok(has_firsts(table)?),
+        Asked::Order => is_ordered_with(alloc, table, other),
+    }
+}
+
+/// Whether two tables, of which the first holds 1, 2, 3 and the second 2, 3, 4, answer as is due.
+pub(crate) fn answer(alloc: Global, asked: Asked) -> Result<bool, Fail> {
+    let (mut table, mut other) = two_tables(alloc)?.into_tables();
+    let answer = answers(alloc, &mut table, &mut other, asked);
+    drop(table);
+    drop(other);
+    answer
+}
