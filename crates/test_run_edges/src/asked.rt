@@ -16,23 +16,31 @@ fn add(arena: &mut Arena, expr: AExpr) -> Result<(), Fail> {
     }
 }
 
+/// Puts a field of numbers behind others.
+fn put_field(alloc: Global, fields: &mut Vec<Field>, name: &str) -> Result<(), Fail> {
+    let name = Text::new(alloc, name)?;
+    let dtype = DataType::Int64;
+    Ok(fields.push(Field { name, dtype })?)
+}
+
 /// The columns k and v of numbers.
 fn schema_of(alloc: Global) -> Result<Schema, Fail> {
     let mut fields = Vec::new(alloc);
-    for name in ["k", "v"] {
-        let name = Text::new(alloc, name)?;
-        let dtype = DataType::Int64;
-        fields.push(Field { name, dtype })?;
-    }
+    put_field(alloc, &mut fields, "k")?;
+    put_field(alloc, &mut fields, "v")?;
     Ok(Schema::new(fields))
+}
+
+/// Adds the column of a name.
+fn add_column(alloc: Global, arena: &mut Arena, name: &str) -> Result<(), Fail> {
+    let name = Text::new(alloc, name)?;
+    add(arena, AExpr::Column(name))
 }
 
 /// Puts the sum of v by k into a query of nothing.
 fn fill(alloc: Global, query: &mut Query) -> Result<(), Fail> {
-    query.schema = schema_of(alloc)?;
-    for name in ["k", "v"] {
-        add(&mut query.arena, AExpr::Column(Text::new(alloc, name)?))?;
-    }
+    add_column(alloc, &mut query.arena, "k")?;
+    add_column(alloc, &mut query.arena, "v")?;
     add(&mut query.arena, AExpr::Agg(IRAggExpr::Sum(Node(1))))?;
     query.keys.push(Node(0))?;
     Ok(query.aggs.push(Node(2))?)
@@ -41,7 +49,7 @@ fn fill(alloc: Global, query: &mut Query) -> Result<(), Fail> {
 /// The sum of v by k.
 pub(crate) fn sum_query(alloc: Global) -> Result<Query, Fail> {
     let mut query = Query {
-        schema: Schema::new(Vec::new(alloc)),
+        schema: schema_of(alloc)?,
         arena: Arena::new(alloc),
         keys: Vec::new(alloc),
         aggs: Vec::new(alloc),

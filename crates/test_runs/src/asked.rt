@@ -16,23 +16,31 @@ fn add(arena: &mut Arena, expr: AExpr) -> Result<(), Fail> {
     }
 }
 
+/// Puts a field of numbers behind others.
+fn put_field(alloc: Global, fields: &mut Vec<Field>, name: &str) -> Result<(), Fail> {
+    let name = Text::new(alloc, name)?;
+    let dtype = DataType::Int64;
+    Ok(fields.push(Field { name, dtype })?)
+}
+
 /// The columns k and v of numbers.
 fn schema_of(alloc: Global) -> Result<Schema, Fail> {
     let mut fields = Vec::new(alloc);
-    for name in ["k", "v"] {
-        let name = Text::new(alloc, name)?;
-        let dtype = DataType::Int64;
-        fields.push(Field { name, dtype })?;
-    }
+    put_field(alloc, &mut fields, "k")?;
+    put_field(alloc, &mut fields, "v")?;
     Ok(Schema::new(fields))
+}
+
+/// Adds the column of a name.
+fn add_column(alloc: Global, arena: &mut Arena, name: &str) -> Result<(), Fail> {
+    let name = Text::new(alloc, name)?;
+    add(arena, AExpr::Column(name))
 }
 
 /// Puts the sum of v by k into a query of nothing.
 fn fill(alloc: Global, query: &mut Query) -> Result<(), Fail> {
-    query.schema = schema_of(alloc)?;
-    for name in ["k", "v"] {
-        add(&mut query.arena, AExpr::Column(Text::new(alloc, name)?))?;
-    }
+    add_column(alloc, &mut query.arena, "k")?;
+    add_column(alloc, &mut query.arena, "v")?;
     add(&mut query.arena, AExpr::Agg(IRAggExpr::Sum(Node(1))))?;
     query.keys.push(Node(0))?;
     Ok(query.aggs.push(Node(2))?)
@@ -46,10 +54,10 @@ fn fill_with_literal(query: &mut Query) -> Result<(), Fail> {
     Ok(query.keys.push(Node(0))?)
 }
 
-/// A query of nothing.
-fn empty_query(alloc: Global) -> Query {
+/// A query of nothing over some columns.
+fn empty_query(alloc: Global, schema: Schema) -> Query {
     Query {
-        schema: Schema::new(Vec::new(alloc)),
+        schema,
         arena: Arena::new(alloc),
         keys: Vec::new(alloc),
         aggs: Vec::new(alloc),
@@ -60,7 +68,7 @@ fn empty_query(alloc: Global) -> Query {
 
 /// The sum of v by k.
 pub(crate) fn sum_query(alloc: Global) -> Result<Query, Fail> {
-    let mut query = empty_query(alloc);
+    let mut query = empty_query(alloc, schema_of(alloc)?);
     match fill(alloc, &mut query) {
         Ok(()) => Ok(query),
         Err(fail) => {
@@ -72,7 +80,7 @@ pub(crate) fn sum_query(alloc: Global) -> Result<Query, Fail> {
 
 /// A query over no column, by a literal.
 pub(crate) fn literal_query(alloc: Global) -> Result<Query, Fail> {
-    let mut query = empty_query(alloc);
+    let mut query = empty_query(alloc, Schema::new(Vec::new(alloc)));
     match fill_with_literal(&mut query) {
         Ok(()) => Ok(query),
         Err(fail) => {

@@ -19,14 +19,29 @@ fn add(arena: &mut Arena, expr: AExpr) -> Result<Node, Fail> {
     }
 }
 
+/// Puts a field behind others.
+fn put_field(
+    alloc: Global,
+    fields: &mut Vec<Field>,
+    name: &str,
+    dtype: DataType,
+) -> Result<(), Fail> {
+    let name = Text::new(alloc, name)?;
+    Ok(fields.push(Field { name, dtype })?)
+}
+
 /// The columns k, which is of a type, and v.
 fn schema_of(alloc: Global, dtype: DataType) -> Result<Schema, Fail> {
     let mut fields = Vec::new(alloc);
-    for (name, dtype) in [("k", dtype), ("v", DataType::Int64)] {
-        let name = Text::new(alloc, name)?;
-        fields.push(Field { name, dtype })?;
-    }
+    put_field(alloc, &mut fields, "k", dtype)?;
+    put_field(alloc, &mut fields, "v", DataType::Int64)?;
     Ok(Schema::new(fields))
+}
+
+/// Adds the column of a name.
+fn add_column(alloc: Global, arena: &mut Arena, name: &str) -> Result<Node, Fail> {
+    let name = Text::new(alloc, name)?;
+    add(arena, AExpr::Column(name))
 }
 
 /// Adds an aggregate by a name to those of a query.
@@ -38,13 +53,10 @@ fn add_named(alloc: Global, query: &mut Query, agg: IRAggExpr, name: &str) -> Re
 }
 
 /// Puts the sum, the first, the mean and the number of v by k into a query of nothing.
-fn fill(alloc: Global, query: &mut Query, dtype: DataType) -> Result<(), Fail> {
-    query.schema = schema_of(alloc, dtype)?;
-    query.keys.push(Node(0))?;
-    for name in ["k", "v"] {
-        add(&mut query.arena, AExpr::Column(Text::new(alloc, name)?))?;
-    }
-    let v = Node(1);
+fn fill(alloc: Global, query: &mut Query) -> Result<(), Fail> {
+    let k = add_column(alloc, &mut query.arena, "k")?;
+    let v = add_column(alloc, &mut query.arena, "v")?;
+    query.keys.push(k)?;
     add_named(alloc, query, IRAggExpr::Sum(v), WORDS[1])?;
     add_named(alloc, query, IRAggExpr::First(v), WORDS[2])?;
     add_named(alloc, query, IRAggExpr::Mean(v), WORDS[3])?;
@@ -55,14 +67,14 @@ fn fill(alloc: Global, query: &mut Query, dtype: DataType) -> Result<(), Fail> {
 /// order, and every third has a slice.
 pub(crate) fn query_of(alloc: Global, dtype: DataType, number: usize) -> Result<Query, Fail> {
     let mut query = Query {
-        schema: Schema::new(Vec::new(alloc)),
+        schema: schema_of(alloc, dtype)?,
         arena: Arena::new(alloc),
         keys: Vec::new(alloc),
         aggs: Vec::new(alloc),
         slice: if number % 3 == 0 { Some((1, 3)) } else { None },
         maintain_order: number % 2 == 0,
     };
-    match fill(alloc, &mut query, dtype) {
+    match fill(alloc, &mut query) {
         Ok(()) => Ok(query),
         Err(fail) => {
             drop(query);
