@@ -6,7 +6,7 @@ use crate::tables::given::frame_of;
 use crate::tables::hiding::{KEYS, TWICE, are_hashed, joined_counts};
 use crate::tables::joined::{Asked, answer};
 use crate::tables::local::waits;
-use pipe_aggs::{AExpr, IRAggExpr, Node, Query};
+use pipe_aggs::Query;
 use pipe_columns::{AnyValue, DataChunk, DataFrame, DataType, Place};
 use pipe_spill::{SpillRow, Values, encode_key};
 use pipe_tables::{LocalEnd, SpillPartitions};
@@ -27,17 +27,8 @@ fn rows_with_texts(alloc: Global) -> Result<DataChunk, Fail> {
     )
 }
 
-/// The first and the last text by place, and how many rows there are.
-fn firsts_and_lasts(alloc: Global) -> Result<Query, Fail> {
-    let aggs = vec![in alloc;
-        AExpr::Agg(IRAggExpr::First(Node(1))),
-        AExpr::Agg(IRAggExpr::Last(Node(1))),
-        AExpr::Len,
-    ]?;
-    query_of(alloc, TEXTS, 1, aggs)
-}
-
-/// The answer to that query over rows that are lent in another order.
+/// The first and the last text by place, and how many rows there are, of rows that are lent in another
+/// order.
 fn texts_and_counts(alloc: Global, query: &Query) -> Result<DataFrame, Fail> {
     let chunk = rows_with_texts(alloc)?;
     match query.check(alloc) {
@@ -57,7 +48,7 @@ fn has_firsts_and_lasts(frame: &DataFrame) -> bool {
 
 #[test]
 fn first_and_last_texts(rt: HostRuntime) -> Result<(), Fail> {
-    let query = firsts_and_lasts(rt.alloc())?;
+    let query = query_of(rt.alloc(), TEXTS, 1, true)?;
     let frame = texts_and_counts(rt.alloc(), &query);
     drop(query);
     let frame = frame?;

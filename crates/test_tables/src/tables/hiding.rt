@@ -4,7 +4,7 @@
 ghost use Rattle.std.specs.Prelude.{◌≡◌};
 ghost use Rattle.pipe_keyed.specs.Tables.{HoldFewTogether};
 
-use crate::asked::{chunk_of, counting, has_numbers};
+use crate::asked::{chunk_of, has_numbers, query_of};
 use crate::tables::given::given;
 use crate::tables::joined::join;
 use crate::tables::two_tables::TwoTables;
@@ -57,7 +57,7 @@ fn tables_of_query(alloc: Global, query: &Query) -> Result<TwoTables, Fail> {
 
 /// Two tables, and the rows.
 fn tables(alloc: Global) -> Result<TwoTables, Fail> {
-    let query = counting(alloc, INTEGERS, 2)?;
+    let query = query_of(alloc, INTEGERS, 2, false)?;
     let tables = tables_of_query(alloc, &query);
     drop(query);
     tables

@@ -3,7 +3,7 @@
 ghost use Rattle.std.specs.Prelude.{◌≡◌};
 ghost use Rattle.pipe_keyed.specs.Tables.{HoldFewTogether};
 
-use crate::asked::{NUMBERS, chunk_of_numbers, counting, has_numbers};
+use crate::asked::{NUMBERS, chunk_of_numbers, has_numbers, query_of};
 use crate::tables::given::given;
 use crate::tables::placed::ordered;
 use crate::tables::two_tables::TwoTables;
@@ -53,7 +53,7 @@ pub(crate) fn tables_of(
     limit: Option<usize>,
     keys: &[i128],
 ) -> Result<TwoTables, Fail> {
-    let query = counting(alloc, NUMBERS, 1)?;
+    let query = query_of(alloc, NUMBERS, 1, false)?;
     let tables = tables_of_query(alloc, &query, limit, keys);
     drop(query);
     tables

@@ -13,7 +13,7 @@ ghost use Rattle.pipe_tables.specs.Buffers.{is_taken_lent, with_none};
 ghost use Rattle.pipe_tables.specs.LocalTable.{NoneWaits, with_buffers, local_with_row};
 ghost use Rattle.pipe_keyed.specs.Tables.{TakesOne};
 
-use crate::asked::{NUMBERS, are_columns, chunk_of_numbers, counting};
+use crate::asked::{NUMBERS, are_columns, chunk_of_numbers, query_of};
 use crate::tables::given::given;
 use pipe_aggs::{CheckedQuery, Query};
 use pipe_columns::DataChunk;
@@ -256,7 +256,7 @@ fn waits_of_query(alloc: Global, query: &Query) -> Result<bool, Fail> {
 
 /// Whether the row of 2 waits in a local table.
 pub(crate) fn waits(alloc: Global) -> Result<bool, Fail> {
-    let query = counting(alloc, NUMBERS, 1)?;
+    let query = query_of(alloc, NUMBERS, 1, false)?;
     let waits = waits_of_query(alloc, &query);
     drop(query);
     waits
