@@ -3,9 +3,9 @@
 
 use crate::asked::{chunk_of, has_numbers, has_texts, hold, numbers, query_of, texts};
 use crate::tables::given::frame_of;
-use crate::tables::hiding::{KEYS, TWICE, are_hashed, joined_counts};
 use crate::tables::joined::{Asked, answer};
 use crate::tables::local::waits;
+use crate::tables::rows::{FEW, HIDDEN_FIRST, HIDDEN_OTHER, are_hashed};
 use pipe_aggs::Query;
 use pipe_columns::{AnyValue, DataChunk, DataFrame, DataType, Place};
 use pipe_spill::{SpillRow, Values, encode_key};
@@ -59,22 +59,22 @@ fn first_and_last_texts(rt: HostRuntime) -> Result<(), Fail> {
 
 #[test]
 fn tables_that_are_joined(rt: HostRuntime) -> Result<(), Fail> {
-    hold(answer(rt.alloc(), Asked::Join))
+    hold(answer(rt.alloc(), &FEW, Asked::Join))
 }
 
 #[test]
 fn a_partition_that_is_taken(rt: HostRuntime) -> Result<(), Fail> {
-    hold(answer(rt.alloc(), Asked::Take))
+    hold(answer(rt.alloc(), &FEW, Asked::Take))
 }
 
 #[test]
 fn first_places(rt: HostRuntime) -> Result<(), Fail> {
-    hold(answer(rt.alloc(), Asked::Firsts))
+    hold(answer(rt.alloc(), &FEW, Asked::Firsts))
 }
 
 #[test]
 fn groups_by_first_row(rt: HostRuntime) -> Result<(), Fail> {
-    hold(answer(rt.alloc(), Asked::Order))
+    hold(answer(rt.alloc(), &FEW, Asked::Order))
 }
 
 /// A row of key 1.
@@ -131,10 +131,10 @@ fn rows_that_wait(rt: HostRuntime) -> Result<(), Fail> {
 #[test]
 fn a_table_that_hides_takes_one_that_does_not(rt: HostRuntime) -> Result<(), Fail> {
     hold(Ok(are_hashed()))?;
-    hold(joined_counts(rt.alloc(), KEYS))
+    hold(answer(rt.alloc(), &HIDDEN_FIRST, Asked::Join))
 }
 
 #[test]
 fn a_table_takes_one_that_hides(rt: HostRuntime) -> Result<(), Fail> {
-    hold(joined_counts(rt.alloc(), TWICE))
+    hold(answer(rt.alloc(), &HIDDEN_OTHER, Asked::Join))
 }

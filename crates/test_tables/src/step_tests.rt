@@ -5,6 +5,7 @@ ghost use Rattle.pipe_keyed.specs.Tables.{HoldFewTogether};
 
 use crate::asked::hold;
 use crate::tables::joined::{join, tables_of};
+use crate::tables::rows::LIMITED;
 use crate::tables::two_tables::TwoTables;
 use pipe_tables::{AggHashTable, LentEnd};
 use std::alloc::{AllocError, Global};
@@ -27,7 +28,7 @@ fn are_limited(tables: &mut TwoTables) -> Result<bool, AllocError> {
 
 /// Two tables, of which the first holds 1 and the second 2.
 fn limited(alloc: Global) -> Result<TwoTables, Fail> {
-    let mut tables = tables_of(alloc, Some(0), &[2, 2, 1, 2, 1])?;
+    let mut tables = tables_of(alloc, &LIMITED)?;
     match are_limited(&mut tables) {
         Ok(true) => Ok(tables),
         _ => {

@@ -3,9 +3,10 @@
 ghost use Rattle.std.specs.Prelude.{◌≡◌};
 ghost use Rattle.pipe_keyed.specs.Tables.{HoldFewTogether};
 
-use crate::asked::{NUMBERS, chunk_of_numbers, has_numbers, query_of};
+use crate::asked::{chunk_of_numbers, has_numbers, query_of};
 use crate::tables::given::given;
 use crate::tables::placed::ordered;
+use crate::tables::rows::Rows;
 use crate::tables::two_tables::TwoTables;
 use pipe_aggs::{CheckedQuery, Query};
 use pipe_columns::Place;
@@ -24,70 +25,58 @@ pub(crate) fn join(table: &mut AggHashTable, other: &mut AggHashTable) -> Result
     }
 }
 
-/// Two tables of a limit, and rows of keys.
-fn tables_over(
-    alloc: Global,
-    query: &CheckedQuery<'_>,
-    limit: Option<usize>,
-    keys: &[i128],
-) -> Result<TwoTables, Fail> {
-    let chunk = chunk_of_numbers(alloc, NUMBERS, false, keys, keys)?;
-    TwoTables::new(alloc, query, limit, &chunk)
+fn tables_over(alloc: Global, query: &CheckedQuery<'_>, rows: &Rows) -> Result<TwoTables, Fail> {
+    let chunk = chunk_of_numbers(alloc, rows.types, false, rows.k, rows.v)?;
+    TwoTables::new(alloc, query, rows.limit, &chunk)
 }
 
-fn tables_of_query(
-    alloc: Global,
-    query: &Query,
-    limit: Option<usize>,
-    keys: &[i128],
-) -> Result<TwoTables, Fail> {
+fn tables_of_query(alloc: Global, query: &Query, rows: &Rows) -> Result<TwoTables, Fail> {
     match query.check(alloc) {
-        Ok(checked) => tables_over(alloc, &checked, limit, keys),
+        Ok(checked) => tables_over(alloc, &checked, rows),
         Err(_) => Err("Query::check wants memory".into()),
     }
 }
 
-/// Two tables of a limit, which count rows, and rows of keys.
-pub(crate) fn tables_of(
-    alloc: Global,
-    limit: Option<usize>,
-    keys: &[i128],
-) -> Result<TwoTables, Fail> {
-    let query = query_of(alloc, NUMBERS, 1, false)?;
-    let tables = tables_of_query(alloc, &query, limit, keys);
+/// Two tables that count rows, and rows that are left for them.
+pub(crate) fn tables_of(alloc: Global, rows: &Rows) -> Result<TwoTables, Fail> {
+    let query = query_of(alloc, rows.types, rows.keys, false)?;
+    let tables = tables_of_query(alloc, &query, rows);
     drop(query);
     tables
 }
 
-/// Puts a row into the first table, again where memory was wanting.
-fn is_put(tables: &mut TwoTables) -> bool {
-    tables.put() == LentEnd::Done || tables.put() == LentEnd::Done
+/// Puts some of the rows that are left into the first table, each again where memory was wanting.
+fn are_put(tables: &mut TwoTables, count: usize) -> bool {
+    for _row in 0..count {
+        if tables.put() != LentEnd::Done && tables.put() != LentEnd::Done {
+            return false;
+        }
+    }
+    true
 }
 
-/// Puts a row into the second table, again where memory was wanting.
-fn is_put_other(tables: &mut TwoTables) -> bool {
-    tables.put_other() == LentEnd::Done || tables.put_other() == LentEnd::Done
+/// Puts some of the rows that are left into the second table.
+fn are_put_other(tables: &mut TwoTables, count: usize) -> bool {
+    for _row in 0..count {
+        if tables.put_other() != LentEnd::Done && tables.put_other() != LentEnd::Done {
+            return false;
+        }
+    }
+    true
 }
 
-/// Puts the rows of 1, 2, 3 into the first table, and those of 2, 3, 4 into the second. Room for the
-/// rows of the first is made before.
-fn are_put(tables: &mut TwoTables) -> bool {
-    (tables.reserve().is_ok() || tables.reserve().is_ok())
-        && is_put(tables)
-        && is_put(tables)
-        && is_put(tables)
-        && is_put_other(tables)
-        && is_put_other(tables)
-        && is_put_other(tables)
+/// Puts all rows into the tables.
+fn are_filled(tables: &mut TwoTables, rows: &Rows) -> bool {
+    let is_made = !rows.is_made || tables.reserve().is_ok() || tables.reserve().is_ok();
+    is_made
+        && are_put(tables, rows.first)
+        && are_put_other(tables, rows.k.len().saturating_sub(rows.first))
 }
 
-/// The keys of the rows, the last one first.
-const KEYS: [i128; 6] = [4, 3, 2, 3, 2, 1];
-
-/// Two tables, of which the first holds 1, 2, 3 and the second 2, 3, 4.
-fn two_tables(alloc: Global) -> Result<TwoTables, Fail> {
-    let mut tables = tables_of(alloc, None, &KEYS)?;
-    if are_put(&mut tables) {
+/// Two tables that hold rows.
+fn filled(alloc: Global, rows: &Rows) -> Result<TwoTables, Fail> {
+    let mut tables = tables_of(alloc, rows)?;
+    if are_filled(&mut tables, rows) {
         Ok(tables)
     } else {
         drop(tables);
@@ -95,19 +84,28 @@ fn two_tables(alloc: Global) -> Result<TwoTables, Fail> {
     }
 }
 
-/// Whether a table gives these keys with these counts.
-fn gives(table: &mut AggHashTable, keys: &[i128], counts: &[i128]) -> Result<bool, AllocError> {
+/// Whether a table gives these keys, and their counts in a column.
+fn gives(
+    table: &mut AggHashTable,
+    column: usize,
+    keys: &[i128],
+    counts: &[i128],
+) -> Result<bool, AllocError> {
     let frame = given(table, &mut None)?;
-    Ok(has_numbers(&frame, 0, keys) && has_numbers(&frame, 1, counts))
+    Ok(has_numbers(&frame, 0, keys) && has_numbers(&frame, column, counts))
 }
 
 /// Whether a table with the rows of another one counts all.
-fn counts_all(table: &mut AggHashTable, other: &mut AggHashTable) -> Result<bool, AllocError>
+fn counts_all(
+    table: &mut AggHashTable,
+    other: &mut AggHashTable,
+    rows: &Rows,
+) -> Result<bool, AllocError>
     requires shape { other.old.shape ≡ table.old.shape }
     requires few { HoldFewTogether table.old other.old }
 {
     join(table, other)?;
-    gives(table, &[1, 2, 3, 4], &[1, 2, 2, 1])
+    gives(table, rows.keys, rows.due.0, rows.due.1)
 }
 
 /// Takes the odd keys of another table in, which are those of partition 0 of 2, again where memory
@@ -128,7 +126,7 @@ fn counts_odd(table: &mut AggHashTable, other: &mut AggHashTable) -> Result<bool
     requires few { HoldFewTogether table.old other.old }
 {
     take_odd(table, other)?;
-    Ok(gives(table, &[1, 2, 3], &[1, 1, 2])? && gives(other, &[2, 4], &[1, 1])?)
+    Ok(gives(table, 1, &[1, 2, 3], &[1, 1, 2])? && gives(other, 1, &[2, 4], &[1, 1])?)
 }
 
 /// The first places of a table's groups, asked for again where memory was wanting.
@@ -185,23 +183,24 @@ fn answers(
     alloc: Global,
     table: &mut AggHashTable,
     other: &mut AggHashTable,
+    rows: &Rows,
     asked: Asked,
 ) -> Result<bool, Fail>
     requires shape { other.old.shape ≡ table.old.shape }
     requires few { HoldFewTogether table.old other.old }
 {
     match asked {
-        Asked::Join => Ok(counts_all(table, other)?),
+        Asked::Join => Ok(counts_all(table, other, rows)?),
         Asked::Take => Ok(counts_odd(table, other)?),
         Asked::Firsts => Ok(has_firsts(table)?),
         Asked::Order => is_ordered_with(alloc, table, other),
     }
 }
 
-/// Whether two tables, of which the first holds 1, 2, 3 and the second 2, 3, 4, answer as is due.
-pub(crate) fn answer(alloc: Global, asked: Asked) -> Result<bool, Fail> {
-    let (mut table, mut other) = two_tables(alloc)?.into_tables();
-    let answer = answers(alloc, &mut table, &mut other, asked);
+/// Whether two tables that hold rows answer as is due.
+pub(crate) fn answer(alloc: Global, rows: &Rows, asked: Asked) -> Result<bool, Fail> {
+    let (mut table, mut other) = filled(alloc, rows)?.into_tables();
+    let answer = answers(alloc, &mut table, &mut other, rows, asked);
     drop(table);
     drop(other);
     answer
