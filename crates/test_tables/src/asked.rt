@@ -5,9 +5,6 @@ use pipe_columns::{AnyValue, Column, DataChunk, DataFrame, DataType, Field, Sche
 use std::alloc::{AllocError, Global};
 use std::test::Fail;
 
-/// Two columns of numbers.
-pub(crate) const NUMBERS: [DataType; 2] = [DataType::Int64, DataType::Int64];
-
 /// Fails a test where what it asks isn't so.
 pub(crate) fn hold(answer: Result<bool, Fail>) -> Result<(), Fail> {
     match answer {
@@ -190,19 +187,6 @@ pub(crate) fn has_numbers(frame: &DataFrame, column: usize, numbers: &[i128]) ->
         Some(column) => are_numbers(column.values(), numbers),
         None => false,
     }
-}
-
-/// Whether a frame has these columns of numbers, and no other.
-pub(crate) fn are_columns(frame: &DataFrame, due: &[&[i128]]) -> bool {
-    if frame.columns().len() != due.len() {
-        return false;
-    }
-    for at in 0..due.len() {
-        if !has_numbers(frame, at, due[at]) {
-            return false;
-        }
-    }
-    true
 }
 
 /// Whether values are these texts.

@@ -1,61 +1,15 @@
 //! Calls that want memory: `rt try --test --fail-alloc N` refuses the allocation of number N. A
 //! refused call is made again, and then each row counts once.
 
-use crate::asked::{chunk_of, has_numbers, has_texts, hold, numbers, query_of, texts};
-use crate::tables::given::frame_of;
+use crate::asked::hold;
 use crate::tables::joined::{Asked, answer};
 use crate::tables::local::waits;
 use crate::tables::rows::{FEW, HIDDEN_FIRST, HIDDEN_OTHER, are_hashed};
-use pipe_aggs::Query;
-use pipe_columns::{AnyValue, DataChunk, DataFrame, DataType, Place};
+use pipe_columns::{AnyValue, DataType, Place};
 use pipe_spill::{SpillRow, Values, encode_key};
 use pipe_tables::{LocalEnd, SpillPartitions};
 use std::alloc::{AllocError, Global};
 use std::test::Fail;
-
-const TEXTS: [DataType; 2] = [DataType::Int64, DataType::String];
-
-/// Rows of the keys 1, 1, 2, 1, each with a text.
-fn rows_with_texts(alloc: Global) -> Result<DataChunk, Fail> {
-    let keys = numbers(alloc, &[1, 1, 2, 1])?;
-    chunk_of(
-        alloc,
-        TEXTS,
-        false,
-        keys,
-        texts(alloc, &["p", "q", "r", "s"])?,
-    )
-}
-
-/// The first and the last text by place, and how many rows there are, of rows that are lent in another
-/// order.
-fn texts_and_counts(alloc: Global, query: &Query) -> Result<DataFrame, Fail> {
-    let chunk = rows_with_texts(alloc)?;
-    match query.check(alloc) {
-        Ok(checked) => frame_of(alloc, &checked, &chunk, &[1, 3, 2, 0], &mut None),
-        Err(_) => Err("Query::check wants memory".into()),
-    }
-}
-
-/// Whether a frame has the keys, their first and last texts and their counts.
-fn has_firsts_and_lasts(frame: &DataFrame) -> bool {
-    frame.columns().len() == 4
-        && has_numbers(frame, 0, &[1, 2])
-        && has_texts(frame, 1, &["p", "r"])
-        && has_texts(frame, 2, &["s", "r"])
-        && has_numbers(frame, 3, &[3, 1])
-}
-
-#[test]
-fn first_and_last_texts(rt: HostRuntime) -> Result<(), Fail> {
-    let query = query_of(rt.alloc(), TEXTS, 1, true)?;
-    let frame = texts_and_counts(rt.alloc(), &query);
-    drop(query);
-    let frame = frame?;
-    let has = has_firsts_and_lasts(&frame);
-    drop(frame);
-    hold(Ok(has))
-}
 
 #[test]
 fn tables_that_are_joined(rt: HostRuntime) -> Result<(), Fail> {

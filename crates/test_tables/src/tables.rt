@@ -5,5 +5,4 @@ pub(crate) mod joined;
 pub(crate) mod local;
 mod placed;
 pub(crate) mod rows;
-mod test_rows;
 pub(crate) mod two_tables;

@@ -13,10 +13,10 @@ ghost use Rattle.pipe_tables.specs.Buffers.{is_taken_lent, with_none};
 ghost use Rattle.pipe_tables.specs.LocalTable.{NoneWaits, with_buffers, local_with_row};
 ghost use Rattle.pipe_keyed.specs.Tables.{TakesOne};
 
-use crate::asked::{NUMBERS, are_columns, chunk_of_numbers, query_of};
+use crate::asked::{chunk_of, has_numbers, has_texts, numbers, query_of, texts};
 use crate::tables::given::given;
 use pipe_aggs::{CheckedQuery, Query};
-use pipe_columns::DataChunk;
+use pipe_columns::{DataChunk, DataFrame, DataType};
 use pipe_groups::encode_row;
 use pipe_inputs::ChunkRows;
 use pipe_plan::{Limits, SinkKind};
@@ -25,8 +25,14 @@ use pipe_tables::{AggHashTable, LentLocalEnd, ThreadLocalTable};
 use std::alloc::{AllocError, Global};
 use std::test::Fail;
 
-/// Rows of the keys 1, 2, 1.
-const KEYS: [i128; 3] = [1, 2, 1];
+/// The types of the columns.
+const TYPES: [DataType; 2] = [DataType::Int64, DataType::String];
+
+/// Rows of the keys 1, 2, 1, each with a text.
+fn rows_with_texts(alloc: Global) -> Result<DataChunk, Fail> {
+    let keys = numbers(alloc, &[1, 2, 1])?;
+    chunk_of(alloc, TYPES, false, keys, texts(alloc, &["p", "q", "r"])?)
+}
 
 /// One partition, and one key that is held.
 fn limits_of(buffer_size: usize) -> Limits
@@ -218,10 +224,19 @@ fn is_emptied(table: &mut ThreadLocalTable) -> Result<bool, AllocError>
     Ok(table.waiting(0) == 1 && emptied(table)? && table.waiting(0) == 0)
 }
 
+/// Whether a frame has the two rows of 1, with the first and the last text.
+fn are_ones(frame: &DataFrame) -> bool {
+    frame.columns().len() == 4
+        && has_numbers(frame, 0, &[1])
+        && has_texts(frame, 1, &["p"])
+        && has_texts(frame, 2, &["r"])
+        && has_numbers(frame, 3, &[2])
+}
+
 /// Whether a table holds the two rows of 1.
 fn has_ones(table: &mut AggHashTable) -> Result<bool, AllocError> {
     let frame = given(table, &mut None)?;
-    Ok(are_columns(&frame, &[&[1], &[2]]))
+    Ok(are_ones(&frame))
 }
 
 /// Whether the row of 2 waits in a local table, which gives nothing itself, and those of 1 are held.
@@ -247,7 +262,7 @@ fn waits_over(alloc: Global, query: &CheckedQuery<'_>, chunk: &DataChunk) -> Res
 }
 
 fn waits_of_query(alloc: Global, query: &Query) -> Result<bool, Fail> {
-    let chunk = chunk_of_numbers(alloc, NUMBERS, false, &KEYS, &KEYS)?;
+    let chunk = rows_with_texts(alloc)?;
     match query.check(alloc) {
         Ok(checked) => waits_over(alloc, &checked, &chunk),
         Err(_) => Err("Query::check wants memory".into()),
@@ -256,7 +271,7 @@ fn waits_of_query(alloc: Global, query: &Query) -> Result<bool, Fail> {
 
 /// Whether the row of 2 waits in a local table.
 pub(crate) fn waits(alloc: Global) -> Result<bool, Fail> {
-    let query = query_of(alloc, NUMBERS, 1, false)?;
+    let query = query_of(alloc, TYPES, 1, true)?;
     let waits = waits_of_query(alloc, &query);
     drop(query);
     waits
