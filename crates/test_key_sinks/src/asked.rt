@@ -20,35 +20,37 @@ fn add(arena: &mut Arena, expr: AExpr) -> Result<Node, Fail> {
     }
 }
 
-/// The columns k, v and t.
+/// Puts a field behind others.
+fn put_field(
+    alloc: Global,
+    fields: &mut Vec<Field>,
+    name: &str,
+    dtype: DataType,
+) -> Result<(), Fail> {
+    let name = Text::new(alloc, name)?;
+    Ok(fields.push(Field { name, dtype })?)
+}
+
+/// The columns k, which is of a type, v and t.
 fn schema_of(alloc: Global, dtype: DataType) -> Result<Schema, Fail> {
     let mut fields = Vec::new(alloc);
-    for (name, dtype) in [
-        ("k", dtype),
-        ("v", DataType::Int64),
-        ("t", DataType::String),
-    ] {
-        let name = Text::new(alloc, name)?;
-        fields.push(Field { name, dtype })?;
-    }
+    put_field(alloc, &mut fields, "k", dtype)?;
+    put_field(alloc, &mut fields, "v", DataType::Int64)?;
+    put_field(alloc, &mut fields, "t", DataType::String)?;
     Ok(Schema::new(fields))
 }
 
-/// Adds the columns k, v and t, which are nodes 0, 1 and 2.
-fn add_columns(alloc: Global, arena: &mut Arena) -> Result<(), Fail> {
-    for name in ["k", "v", "t"] {
-        add(arena, AExpr::Column(Text::new(alloc, name)?))?;
-    }
-    Ok(())
+/// Adds the column of a name.
+fn add_column(alloc: Global, arena: &mut Arena, name: &str) -> Result<Node, Fail> {
+    let name = Text::new(alloc, name)?;
+    add(arena, AExpr::Column(name))
 }
 
 /// Adds an aggregate by a name to those of a query.
 fn add_named(alloc: Global, query: &mut Query, agg: IRAggExpr, name: &str) -> Result<(), Fail> {
     let node = add(&mut query.arena, AExpr::Agg(agg))?;
-    let alias = add(
-        &mut query.arena,
-        AExpr::Alias(node, Text::new(alloc, name)?),
-    )?;
+    let name = Text::new(alloc, name)?;
+    let alias = add(&mut query.arena, AExpr::Alias(node, name))?;
     Ok(query.aggs.push(alias)?)
 }
 
@@ -73,11 +75,12 @@ fn add_of_numbers(alloc: Global, query: &mut Query) -> Result<(), Fail> {
     add_named(alloc, query, IRAggExpr::Count(t, false), WORDS[4])
 }
 
-/// Puts columns, a key of a type and aggregates into a query without them.
-fn fill(alloc: Global, query: &mut Query, dtype: DataType, texts: bool) -> Result<(), Fail> {
-    query.schema = schema_of(alloc, dtype)?;
-    query.keys.push(Node(0))?;
-    add_columns(alloc, &mut query.arena)?;
+/// Puts a key and aggregates into a query without them.
+fn fill(alloc: Global, query: &mut Query, texts: bool) -> Result<(), Fail> {
+    let k = add_column(alloc, &mut query.arena, "k")?;
+    add_column(alloc, &mut query.arena, "v")?;
+    add_column(alloc, &mut query.arena, "t")?;
+    query.keys.push(k)?;
     if texts {
         return add_of_texts(alloc, query);
     }
@@ -87,14 +90,14 @@ fn fill(alloc: Global, query: &mut Query, dtype: DataType, texts: bool) -> Resul
 /// The query of a case, whose key is of a type.
 pub(crate) fn query_of(alloc: Global, dtype: DataType, case: &Case) -> Result<Query, Fail> {
     let mut query = Query {
-        schema: Schema::new(Vec::new(alloc)),
+        schema: schema_of(alloc, dtype)?,
         arena: Arena::new(alloc),
         keys: Vec::new(alloc),
         aggs: Vec::new(alloc),
         slice: case.slice,
         maintain_order: case.keeps_order,
     };
-    match fill(alloc, &mut query, dtype, case.texts) {
+    match fill(alloc, &mut query, case.texts) {
         Ok(()) => Ok(query),
         Err(fail) => {
             drop(query);

@@ -1,4 +1,4 @@
-//! The table of cases, each by its number.
+//! What sinks are tried with.
 
 /// How a chunk comes to a sink: by itself, or with its column of keys, whose flag says that it is sorted
 /// or not.
@@ -21,28 +21,24 @@ pub(crate) struct Case {
     pub(crate) way: Way,
 }
 
-const SLICES: [Option<(i64, usize)>; 3] = [None, Some((1, 3)), Some((0, 18446744073709551615))];
+/// Two sinks of two partitions, which take the chunks in turn and are combined.
+pub(crate) const TWO_SINKS: Case = Case {
+    slice: None,
+    keeps_order: false,
+    texts: false,
+    partitions: 2,
+    sinks: 2,
+    first: 0,
+    way: Way::Whole,
+};
 
-const WAYS: [Way; 3] = [Way::Whole, Way::Sorted(true), Way::Sorted(false)];
-
-const PARTITIONS: [usize; 3] = [1, 2, 7];
-
-const SINKS: [u32; 3] = [1, 2, 3];
-
-const FIRSTS: [u32; 3] = [0, 1, 2];
-
-/// How many cases there are.
-pub(crate) const COUNT: usize = 972;
-
-/// The case of a number.
-pub(crate) fn case_of(number: usize) -> Case {
-    Case {
-        slice: SLICES[number % 3],
-        keeps_order: number / 3 % 2 == 1,
-        texts: number / 6 % 2 == 1,
-        partitions: PARTITIONS[number / 12 % 3],
-        sinks: SINKS[number / 36 % 3],
-        first: FIRSTS[number / 108 % 3],
-        way: WAYS[number / 324 % 3],
-    }
-}
+/// Three sinks of seven partitions, which keep order and texts, under a slice.
+pub(crate) const THREE_SINKS: Case = Case {
+    slice: Some((1, 3)),
+    keeps_order: true,
+    texts: true,
+    partitions: 7,
+    sinks: 3,
+    first: 2,
+    way: Way::Sorted(true),
+};

@@ -4,13 +4,12 @@ ghost use Rattle.std.specs.Prelude.{◌≡◌};
 ghost use Rattle.pipe_sinks.specs.Runs.{purpose_of};
 
 use crate::asked::{HEIGHTS, chunk_at, query_of};
-use crate::cases::{COUNT, Case, Way, case_of};
+use crate::cases::{Case, Way};
 use crate::turn_sink::TurnSink;
 use pipe_aggs::{CheckedQuery, Query};
 use pipe_columns::{Column, DataChunk, DataFrame, DataType};
 use pipe_sinks::SoleKey;
 use std::alloc::{AllocError, Global};
-use std::process::Abort;
 use std::test::Fail;
 use test_plain::{are_chunks, plain_answer};
 
@@ -212,17 +211,4 @@ pub(crate) fn agrees<S: SoleKey>(alloc: Global, case: &Case) -> Result<bool, Fai
     let agrees = agrees_on_query::<S>(alloc, &query, case);
     drop(query);
     agrees
-}
-
-/// Asserts that the sinks give what the plain program answers, in every seventh case from one on.
-pub(crate) fn assert_agree<S: SoleKey>(
-    rt: &(impl Abort + Alloc<A = Global>),
-    from: usize,
-) -> Result<(), Fail> {
-    for number in from..COUNT {
-        if number % 7 == from {
-            assert!(rt; agrees::<S>(rt.alloc(), &case_of(number))?, "{number}");
-        }
-    }
-    Ok(())
 }

@@ -1,5 +1,4 @@
-//! Trials of the sinks for one key beside the plain program, over a table of kinds of keys, slices,
-//! orders, partitions and turns.
+//! Trials of the sinks for one key beside the plain program, by kinds of keys, orders and turns.
 #![tactic(auto)]
 
 #[cfg(test)]
@@ -11,8 +10,8 @@ mod compared;
 #[cfg(test)]
 mod key_column;
 #[cfg(test)]
+mod kind_tests;
+#[cfg(test)]
 mod memory_tests;
 #[cfg(test)]
 mod turn_sink;
-#[cfg(test)]
-mod twin_tests;

@@ -1,22 +1,11 @@
 //! Calls that want memory: `rt try --test --fail-alloc N` refuses the allocation of number N. A
 //! refused call is made again, and then each row counts once.
 
-use crate::cases::{Case, Way};
+use crate::cases::{Case, TWO_SINKS, Way};
 use crate::compared::agrees;
 use pipe_sinks::{NumberKey, SoleKey, TextKey};
 use std::alloc::Global;
 use std::test::Fail;
-
-/// Two sinks of two partitions, which take the chunks in turn and are combined.
-const TWO_SINKS: Case = Case {
-    slice: None,
-    keeps_order: false,
-    texts: false,
-    partitions: 2,
-    sinks: 2,
-    first: 0,
-    way: Way::Whole,
-};
 
 /// Whether sinks give what the plain program answers, with order kept and without it.
 fn agree_in_each_order<S: SoleKey>(alloc: Global, texts: bool, way: Way) -> Result<bool, Fail> {

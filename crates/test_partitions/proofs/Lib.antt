@@ -1,2 +1,1 @@
 mod PlannedFacts
-mod RoundFacts

@@ -1,10 +1,9 @@
-//! The groups of a partition to which one worker's plan brought its rows, at once and behind a get that
-//! failed.
+//! The groups of a partition to which one worker's plan brought its rows, behind a get that failed.
 
 ghost use Rattle.std.specs.Prelude.{IsTrue};
 ghost use Rattle.pipe_global.specs.Finishing.{CanFinish};
 
-use crate::finish::{Asks, gives, gives_sum, is_sum};
+use crate::finish::{Asks, gives, is_sum};
 use crate::plan_tests::stores_of;
 use pipe_columns::Place;
 use pipe_global::{BatchError, ClosedPartition};
@@ -13,20 +12,6 @@ use pipe_spill::MemoryStore;
 use pipe_tables::AggHashTable;
 use std::alloc::Global;
 use std::test::Fail;
-
-/// One call gives the groups.
-struct AtOnce;
-
-impl Asks<MemoryStore> for AtOnce {
-    fn gives(
-        &self,
-        alloc: Global,
-        closed: &mut ClosedPartition<MemoryStore>,
-        local: &mut AggHashTable,
-    ) -> bool {
-        gives_sum(alloc, closed, local)
-    }
-}
 
 /// Whether a call tells that a get failed.
 fn tells_fault(
@@ -75,13 +60,6 @@ impl Asks<MemoryStore> for AfterFault {
     ) -> bool {
         tells_fault(alloc, closed, local) && gives_placed(alloc, closed, local)
     }
-}
-
-#[test]
-fn groups_of_one_worker_by_its_plan(rt: HostRuntime) -> Result<(), Fail> {
-    let stores = stores_of(rt.alloc(), &[])?;
-    assert!(rt; gives(&rt, rt.alloc(), stores, &AtOnce)?);
-    Ok(())
 }
 
 #[test]

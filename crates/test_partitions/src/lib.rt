@@ -17,5 +17,3 @@ mod memory_tests;
 mod plan_tests;
 #[cfg(test)]
 mod planned;
-#[cfg(test)]
-mod round_tests;

@@ -1,84 +1,93 @@
-//! What runs are asked: a query of one key, and chunks of rows.
+//! What runs are asked: the sum of v by k, and chunks of the columns k and v.
 
 use pipe_aggs::{AExpr, Arena, IRAggExpr, Node, Query};
 use pipe_columns::{AnyValue, Column, DataChunk, DataFrame, DataType, Field, Schema, Text};
 use std::alloc::Global;
 use std::test::Fail;
 
-/// A key: a number or a text.
-#[derive(Clone, Copy)]
-pub(crate) enum Key {
-    Number(i128),
-    Word(&'static str),
-}
+/// A key and a value.
+pub(crate) type Pair = (i128, i128);
 
 /// Adds an expression whose children are there.
-fn add(arena: &mut Arena, expr: AExpr) -> Result<Node, Fail> {
+fn add(arena: &mut Arena, expr: AExpr) -> Result<(), Fail> {
     match arena.add(expr) {
-        Ok(node) => Ok(node),
+        Ok(_) => Ok(()),
         Err(_) => Err("Arena::add wants memory".into()),
     }
 }
 
-/// The groups of k, which is of a type, with the sum of the numbers v or alone.
-pub(crate) fn query_of(alloc: Global, dtype: DataType, sums: bool) -> Result<Query, Fail> {
-    let (k, v) = (Text::new(alloc, "k")?, Text::new(alloc, "v")?);
-    let mut arena = Arena::new(alloc);
-    let key = add(&mut arena, AExpr::Column(k.try_clone(alloc)?))?;
-    let input = add(&mut arena, AExpr::Column(v.try_clone(alloc)?))?;
-    let mut aggs = Vec::new(alloc);
-    if sums {
-        aggs.push(add(&mut arena, AExpr::Agg(IRAggExpr::Sum(input)))?)?;
-    }
-    let value = Field {
-        name: v,
-        dtype: DataType::Int64,
-    };
-    Ok(Query {
-        schema: Schema::new(vec![in alloc; Field { name: k, dtype }, value]?),
-        arena,
-        keys: vec![in alloc; key]?,
-        aggs,
-        slice: None,
-        maintain_order: false,
-    })
+/// Puts a field of numbers behind others.
+fn put_field(alloc: Global, fields: &mut Vec<Field>, name: &str) -> Result<(), Fail> {
+    let name = Text::new(alloc, name)?;
+    let dtype = DataType::Int64;
+    Ok(fields.push(Field { name, dtype })?)
 }
 
-fn column_of(
+/// The columns k and v of numbers.
+fn schema_of(alloc: Global) -> Result<Schema, Fail> {
+    let mut fields = Vec::new(alloc);
+    put_field(alloc, &mut fields, "k")?;
+    put_field(alloc, &mut fields, "v")?;
+    Ok(Schema::new(fields))
+}
+
+/// Adds the column of a name.
+fn add_column(alloc: Global, arena: &mut Arena, name: &str) -> Result<(), Fail> {
+    let name = Text::new(alloc, name)?;
+    add(arena, AExpr::Column(name))
+}
+
+/// Puts the sum of v by k into a query of nothing.
+fn fill(alloc: Global, query: &mut Query) -> Result<(), Fail> {
+    add_column(alloc, &mut query.arena, "k")?;
+    add_column(alloc, &mut query.arena, "v")?;
+    add(&mut query.arena, AExpr::Agg(IRAggExpr::Sum(Node(1))))?;
+    query.keys.push(Node(0))?;
+    Ok(query.aggs.push(Node(2))?)
+}
+
+/// The sum of v by k.
+pub(crate) fn sum_query(alloc: Global) -> Result<Query, Fail> {
+    let mut query = Query {
+        schema: schema_of(alloc)?,
+        arena: Arena::new(alloc),
+        keys: Vec::new(alloc),
+        aggs: Vec::new(alloc),
+        slice: None,
+        maintain_order: false,
+    };
+    match fill(alloc, &mut query) {
+        Ok(()) => Ok(query),
+        Err(fail) => {
+            drop(query);
+            Err(fail)
+        }
+    }
+}
+
+/// Puts a column of the keys or of the values of rows behind others.
+fn put_column(
     alloc: Global,
+    columns: &mut Vec<Column>,
     name: &str,
-    dtype: DataType,
-    values: Vec<AnyValue>,
-) -> Result<Column, Fail> {
-    match Column::new(Text::new(alloc, name)?, dtype, false, values) {
-        Some(column) => Ok(column),
+    rows: &[Pair],
+) -> Result<(), Fail> {
+    let mut values = Vec::new(alloc);
+    for (k, v) in rows {
+        values.push(AnyValue::Int(if name == "k" { *k } else { *v }))?;
+    }
+    match Column::new(Text::new(alloc, name)?, DataType::Int64, false, values) {
+        Some(column) => Ok(columns.push(column)?),
         None => Err("no column".into()),
     }
 }
 
-/// The value of a key.
-fn value_of(alloc: Global, key: Key) -> Result<AnyValue, Fail> {
-    match key {
-        Key::Number(number) => Ok(AnyValue::Int(number)),
-        Key::Word(word) => Ok(AnyValue::Text(Text::new(alloc, word)?)),
-    }
-}
-
 /// A chunk of rows, with an index that no run looks at.
-pub(crate) fn chunk_of(
-    alloc: Global,
-    dtype: DataType,
-    rows: &[(Key, i128)],
-) -> Result<DataChunk, Fail> {
-    let mut keys = Vec::new(alloc);
-    let mut values = Vec::new(alloc);
-    for (key, value) in rows {
-        keys.push(value_of(alloc, *key)?)?;
-        values.push(AnyValue::Int(*value))?;
-    }
-    let k = column_of(alloc, "k", dtype, keys)?;
-    let v = column_of(alloc, "v", DataType::Int64, values)?;
-    match DataFrame::new(rows.len(), vec![in alloc; k, v]?) {
+fn chunk_of(alloc: Global, rows: &[Pair]) -> Result<DataChunk, Fail> {
+    let mut columns = Vec::new(alloc);
+    put_column(alloc, &mut columns, "k", rows)?;
+    put_column(alloc, &mut columns, "v", rows)?;
+    match DataFrame::new(rows.len(), columns) {
         Some(frame) => Ok(DataChunk {
             chunk_index: 7,
             frame,
@@ -87,25 +96,20 @@ pub(crate) fn chunk_of(
     }
 }
 
-/// So many chunks of the same rows.
-pub(crate) fn chunks_of(
-    alloc: Global,
-    dtype: DataType,
-    count: usize,
-    rows: &[(Key, i128)],
-) -> Result<Vec<DataChunk>, Fail> {
+/// A chunk for each list of rows.
+pub(crate) fn chunks_of(alloc: Global, lists: &[&[Pair]]) -> Result<Vec<DataChunk>, Fail> {
     let mut chunks = Vec::new(alloc);
-    for _chunk in 0..count {
-        chunks.push(chunk_of(alloc, dtype, rows)?)?;
+    for rows in lists {
+        chunks.push(chunk_of(alloc, rows)?)?;
     }
     Ok(chunks)
 }
 
-/// Whether a value is a key.
-pub(crate) fn is_key(value: &AnyValue, key: Key) -> bool {
-    match (value, key) {
-        (AnyValue::Int(value), Key::Number(number)) => *value == number,
-        (AnyValue::Text(value), Key::Word(word)) => value.as_str() == word,
-        _ => false,
+/// Fails a test where what it asks isn't so.
+pub(crate) fn hold(answer: Result<bool, Fail>) -> Result<(), Fail> {
+    match answer {
+        Ok(true) => Ok(()),
+        Ok(false) => Err("it isn't so".into()),
+        Err(fail) => Err(fail),
     }
 }

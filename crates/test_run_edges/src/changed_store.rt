@@ -5,12 +5,13 @@ ghost use Rattle.std.specs.Prelude.{◌≡◌};
 use pipe_spill::{SpillStore, StoreError};
 use std::alloc::Global;
 
-/// What is changed: the lowest bit of a byte, or the frame's length.
+/// What is changed: the lowest bit of a byte, or the frame's length; or no byte comes back.
 #[derive(Clone, Copy)]
 pub(crate) enum Change {
     Bit(usize),
     LastByteCut,
     OneByteMore,
+    NoByte,
 }
 
 /// A store that doesn't tell. It gives its last frame changed.
@@ -46,6 +47,7 @@ fn changed(bytes: &mut Vec<u8>, change: Change) -> Result<(), StoreError> {
         Change::LastByteCut => {
             let _ = bytes.pop();
         }
+        Change::NoByte => bytes.clear(),
         Change::OneByteMore => {
             if bytes.push(0).is_err() {
                 return Err(StoreError::Memory);

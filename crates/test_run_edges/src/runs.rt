@@ -1,118 +1,79 @@
-//! Runs, and what is wanted of their ends.
+//! Runs of the generic sink.
 
-use crate::asked::{Key, is_key};
+use crate::asked::{Pair, chunks_of};
 use pipe_aggs::Query;
-use pipe_columns::{AnyValue, Column, DataChunk, DataFrame};
+use pipe_columns::{AnyValue, Column, DataFrame};
 use pipe_global::OpenGate;
 use pipe_group_by::{GroupByOutput, PipeError, run_group_by};
-use pipe_plan::{Limits, PartitionEvent, SinkKind, SpillAction};
-use pipe_spill::{MemoryStore, SpillStore};
+use pipe_plan::{Limits, SinkKind, SpillAction};
+use pipe_spill::SpillStore;
 use std::alloc::Global;
 use std::sync::Wait;
 use std::test::Fail;
 use std::thread::Threads;
 
-/// The numbers of a run: workers, partitions, spill size, buffer size and payload limit.
-pub(crate) type Numbers = (usize, usize, usize, usize, usize);
-
 /// How a run ended, and its stores.
 pub(crate) type End<S> = (Result<GroupByOutput, PipeError>, Vec<S>);
 
-/// Limits of the generic sink.
-fn limits_of(numbers: Numbers) -> Limits {
-    let (workers, partitions, spill_size, buffer_size, payload_limit) = numbers;
+/// Limits of workers that keep one key, and send each other row at once.
+pub(crate) fn limits_of(sink: SinkKind, workers: usize, partitions: usize) -> Limits {
     Limits {
-        sink: SinkKind::Generic,
+        sink,
         workers,
         partitions,
-        spill_size,
-        buffer_size,
-        payload_limit,
+        spill_size: 0,
+        buffer_size: 1,
+        payload_limit: 0,
     }
 }
 
-/// So many stores in memory.
-pub(crate) fn stores_of(alloc: Global, count: usize) -> Result<Vec<MemoryStore>, Fail> {
-    let mut stores = Vec::new(alloc);
-    for _store in 0..count {
-        stores.push(MemoryStore::new(alloc, Vec::new(alloc)))?;
+/// For each worker a dump behind each of so many turns.
+fn dumps_of(alloc: Global, workers: usize, turns: usize) -> Result<Vec<Vec<SpillAction>>, Fail> {
+    let mut lists = Vec::new(alloc);
+    for _worker in 0..workers {
+        lists.push(Vec::from_elem(alloc, SpillAction::Dump, turns)?)?;
     }
-    Ok(stores)
+    Ok(lists)
 }
 
-/// A run over chunks, each worker with the same actions.
+/// A run over a chunk for each list of rows: behind each of so many turns what waits in a partition is
+/// dumped.
 pub(crate) fn run<S: SpillStore + Drop + Send, H: Threads + Wait + Sync>(
     rt: &H,
     alloc: Global,
     query: &Query,
-    numbers: Numbers,
-    actions: &[SpillAction],
-    chunks: Vec<DataChunk>,
+    workers: usize,
+    turns: usize,
+    lists: &[&[Pair]],
     stores: Vec<S>,
 ) -> Result<End<S>, Fail> {
-    let limits = limits_of(numbers);
-    let mut lists = Vec::new(alloc);
-    for _worker in 0..limits.workers {
-        lists.push(Vec::from_slice(alloc, actions)?)?;
-    }
-    Ok(run_group_by(rt, alloc, chunks, query, &limits, lists, stores, &OpenGate))
+    let limits = limits_of(SinkKind::Generic, workers, stores.len());
+    let actions = dumps_of(alloc, workers, turns)?;
+    let chunks = chunks_of(alloc, lists)?;
+    Ok(run_group_by(
+        rt, alloc, chunks, query, &limits, actions, stores, &OpenGate,
+    ))
 }
 
-/// Whether a column has exactly the keys of groups.
-fn has_keys(column: &Column, groups: &[(Key, i128)]) -> bool {
+/// Whether a column has exactly the keys or the sums of groups.
+fn has_numbers(column: &Column, groups: &[Pair], sums: bool) -> bool {
     let values = column.values();
     if values.len() != groups.len() {
         return false;
     }
     for at in 0..groups.len() {
-        if !is_key(&values[at], groups[at].0) {
+        let (key, sum) = groups[at];
+        if values[at] != AnyValue::Int(if sums { sum } else { key }) {
             return false;
         }
     }
     true
 }
 
-/// Whether a column has exactly the sums of groups.
-fn has_sums(column: &Column, groups: &[(Key, i128)]) -> bool {
-    let values = column.values();
-    if values.len() != groups.len() {
-        return false;
-    }
-    for at in 0..groups.len() {
-        if values[at] != AnyValue::Int(groups[at].1) {
-            return false;
-        }
-    }
-    true
-}
-
-/// Whether a frame has exactly these groups: their keys, and their sums where it has a second column.
-pub(crate) fn has_groups(frame: &DataFrame, groups: &[(Key, i128)]) -> bool {
+/// Whether a frame has exactly these groups.
+pub(crate) fn has_groups(frame: &DataFrame, groups: &[Pair]) -> bool {
     match frame.columns() {
-        [keys] => has_keys(keys, groups),
-        [keys, sums] => has_keys(keys, groups) && has_sums(sums, groups),
+        [keys, sums] => has_numbers(keys, groups, false) && has_numbers(sums, groups, true),
         _ => false,
     }
-}
-
-/// Whether the journals of an output are exactly these.
-pub(crate) fn has_journals(output: &GroupByOutput, wanted: &[&[PartitionEvent]]) -> bool {
-    let journals = output.journals.journals();
-    if journals.len() != wanted.len() {
-        return false;
-    }
-    for at in 0..wanted.len() {
-        if journals[at].events() != wanted[at] {
-            return false;
-        }
-    }
-    true
-}
-
-/// Whether a run was refused with an error, and so many stores came back without a frame.
-pub(crate) fn is_refused(end: &End<MemoryStore>, wanted: &PipeError, stores: usize) -> bool {
-    let Err(error) = &end.0 else {
-        return false;
-    };
-    error == wanted && end.1.len() == stores && end.1.iter().all(|store| store.frames().is_empty())
 }

@@ -1,23 +1,19 @@
 //! Stores of which each call fails in turn.
 
-use crate::asked::{Key, chunks_of, query_of};
+use crate::asked::{Pair, hold, sum_query};
 use crate::runs::{End, run};
+use pipe_aggs::Query;
 use pipe_columns::{AnyValue, DataType};
 use pipe_group_by::PipeError;
-use pipe_plan::SpillAction;
 use pipe_spill::{MemoryStore, SpillRow, encode_key, read_frame};
 use std::alloc::{AllocError, Global};
+use std::process::Abort;
 use std::sync::Wait;
 use std::test::Fail;
 use std::thread::Threads;
 
 /// The rows of each of the four chunks.
-const ROWS: [(Key, i128); 4] = [
-    (Key::Number(1), 10),
-    (Key::Number(2), 20),
-    (Key::Number(3), 30),
-    (Key::Number(4), 40),
-];
+const ROWS: [Pair; 4] = [(1, 10), (2, 20), (3, 30), (4, 40)];
 
 /// How many workers there are, which store fails at which of its calls, and how many frames each store
 /// is left with, where that doesn't depend on who comes first.
@@ -38,20 +34,6 @@ const CASES: [Case; 12] = [
     (2, 1, 0, None),
     (2, 1, 1, None),
 ];
-
-/// Two stores, of which one fails at a call.
-fn stores_of(alloc: Global, failing: usize, call: u64) -> Result<Vec<MemoryStore>, Fail> {
-    let mut stores = Vec::new(alloc);
-    for store in 0..2 {
-        let calls = if store == failing {
-            vec![in alloc; call]?
-        } else {
-            Vec::new(alloc)
-        };
-        stores.push(MemoryStore::new(alloc, calls))?;
-    }
-    Ok(stores)
-}
 
 /// Whether a spilled row is one of the run's in a partition: the row of number r has the key r + 1 and
 /// ten times that as its input, and keys lie in the two partitions by turns.
@@ -101,68 +83,121 @@ fn has_frames_of_run(
     })
 }
 
-/// Whether a run ended with the fault of a store, and told frames are as wanted.
-fn is_as_wanted(alloc: Global, end: &End<MemoryStore>, case: &Case) -> Result<bool, AllocError> {
-    let Err(error) = &end.0 else {
+/// Whether stores have frames of the run's rows in their partitions alone, and so many where that is known.
+fn have_frames_of_run(
+    alloc: Global,
+    stores: &[MemoryStore],
+    counts: Option<(usize, usize)>,
+) -> Result<bool, AllocError> {
+    let [first, second] = stores else {
         return Ok(false);
     };
-    let [first, second] = end.1.as_slice() else {
-        return Ok(false);
-    };
-    let (of_first, of_second) = match case.3 {
+    let (of_first, of_second) = match counts {
         Some((of_first, of_second)) => (Some(of_first), Some(of_second)),
         None => (None, None),
     };
     Ok(
-        *error == (PipeError::Store { partition: case.1 })
-            && has_frames_of_run(alloc, first, 0, of_first)?
+        has_frames_of_run(alloc, first, 0, of_first)?
             && has_frames_of_run(alloc, second, 1, of_second)?,
     )
+}
+
+/// Two stores, of which one fails at a call.
+fn stores_of(alloc: Global, failing: usize, call: u64) -> Result<Vec<MemoryStore>, Fail> {
+    let mut stores = Vec::new(alloc);
+    for store in 0..2 {
+        let mut calls = Vec::new(alloc);
+        if store == failing {
+            calls.push(call)?;
+        }
+        stores.push(MemoryStore::new(alloc, calls))?;
+    }
+    Ok(stores)
 }
 
 /// Four chunks, behind each of which what waits in a partition is dumped.
 fn dumping_run<H: Threads + Wait + Sync>(
     rt: &H,
     alloc: Global,
+    query: &Query,
     workers: usize,
-    stores: Vec<MemoryStore>,
+    failing: usize,
+    call: u64,
 ) -> Result<End<MemoryStore>, Fail> {
-    let query = query_of(alloc, DataType::Int64, true)?;
-    let chunks = chunks_of(alloc, DataType::Int64, 4, &ROWS)?;
-    run(
-        rt,
-        alloc,
-        &query,
-        (workers, 2, 0, 1, 0),
-        &[SpillAction::Dump; 4],
-        chunks,
-        stores,
-    )
+    let stores = stores_of(alloc, failing, call)?;
+    run(rt, alloc, query, workers, 4, &[ROWS.as_slice(); 4], stores)
+}
+
+/// Whether a run ends with the fault of its store, and told frames are as wanted.
+fn ends_as_wanted<H: Threads + Wait + Sync>(
+    rt: &H,
+    alloc: Global,
+    query: &Query,
+    case: &Case,
+) -> Result<bool, Fail> {
+    let (workers, failing, call, counts) = *case;
+    let end = dumping_run(rt, alloc, query, workers, failing, call)?;
+    let tells = match &end.0 {
+        Err(PipeError::Store { partition }) => *partition == failing,
+        _ => false,
+    };
+    Ok(tells && have_frames_of_run(alloc, &end.1, counts)?)
+}
+
+/// The first case that doesn't end as is wanted, or how many there are.
+fn first_apart<H: Threads + Wait + Sync>(
+    rt: &H,
+    alloc: Global,
+    query: &Query,
+) -> Result<usize, Fail> {
+    for number in 0..CASES.len() {
+        if !ends_as_wanted(rt, alloc, query, &CASES[number])? {
+            return Ok(number);
+        }
+    }
+    Ok(CASES.len())
+}
+
+/// Fails a test where a case doesn't end as is wanted.
+fn assert_ended(rt: &impl Abort, first: Result<usize, Fail>) -> Result<(), Fail> {
+    let number = first?;
+    assert!(rt; number == CASES.len(), "{number}");
+    Ok(())
 }
 
 #[test]
 fn each_call_of_each_store_fails(rt: HostRuntime) -> Result<(), Fail> {
-    let alloc = rt.alloc();
-    for case in CASES {
-        let (workers, failing, call, _) = case;
-        let stores = stores_of(alloc, failing, call)?;
-        let end = dumping_run(&rt, alloc, workers, stores)?;
-        assert!(rt;
-            is_as_wanted(alloc, &end, &case)?,
-            "{workers} {failing} {call}"
-        );
-    }
-    Ok(())
+    let query = sum_query(rt.alloc())?;
+    let first = first_apart(&rt, rt.alloc(), &query);
+    drop(query);
+    assert_ended(&rt, first)
 }
 
-/// Without a fault the groups are whole.
+/// Whether a run of which no call fails is answered.
+fn is_answered<H: Threads + Wait + Sync>(
+    rt: &H,
+    alloc: Global,
+    query: &Query,
+    workers: usize,
+) -> Result<bool, Fail> {
+    let end = dumping_run(rt, alloc, query, workers, 2, 0)?;
+    Ok(end.0.is_ok())
+}
+
+/// Whether it is with one worker and with two.
+fn are_answered<H: Threads + Wait + Sync>(
+    rt: &H,
+    alloc: Global,
+    query: &Query,
+) -> Result<bool, Fail> {
+    Ok(is_answered(rt, alloc, query, 1)? && is_answered(rt, alloc, query, 2)?)
+}
+
+/// Without a fault the run is answered.
 #[test]
 fn no_call_fails(rt: HostRuntime) -> Result<(), Fail> {
-    let alloc = rt.alloc();
-    for workers in [1, 2] {
-        let stores = stores_of(alloc, 2, 0)?;
-        let end = dumping_run(&rt, alloc, workers, stores)?;
-        assert!(rt; end.0.is_ok(), "{workers}");
-    }
-    Ok(())
+    let query = sum_query(rt.alloc())?;
+    let are = are_answered(&rt, rt.alloc(), &query);
+    drop(query);
+    hold(are)
 }

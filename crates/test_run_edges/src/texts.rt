@@ -4,13 +4,13 @@ ghost use Rattle.std.specs.Prelude.{◌≡◌, IfOk};
 ghost use Rattle.pipe_aggs.specs.QueryTrees.{query_tree};
 ghost use Rattle.pipe_model.specs.Output.{output_schema};
 
-use crate::asked::{Key, chunks_of, query_of};
-use crate::runs::stores_of;
+use crate::asked::{Pair, chunks_of};
+use crate::runs::limits_of;
 use pipe_aggs::Query;
-use pipe_columns::{DataType, Schema};
+use pipe_columns::Schema;
 use pipe_global::OpenGate;
 use pipe_group_by::{GroupByRun, PipeError, TextOutput};
-use pipe_plan::{Limits, SinkKind};
+use pipe_plan::{SinkKind, SpillAction};
 use pipe_spill::MemoryStore;
 use pipe_writers::{CsvLines, copy_schema};
 use std::alloc::Global;
@@ -19,27 +19,10 @@ use std::test::Fail;
 use std::thread::Threads;
 
 /// The rows of each of two chunks. The keys lie in two partitions by turns.
-const ROWS: [(Key, i128); 4] = [
-    (Key::Number(1), 10),
-    (Key::Number(2), 20),
-    (Key::Number(3), 30),
-    (Key::Number(4), 40),
-];
+const ROWS: [Pair; 4] = [(1, 10), (2, 20), (3, 30), (4, 40)];
 
 /// What a run of two workers and two partitions gives of them, partition by partition.
-pub(crate) const LINES: &str = "1,20\n3,60\n2,40\n4,80\n";
-
-/// Limits of two workers that keep no row back.
-pub(crate) fn limits_of(sink: SinkKind, workers: usize) -> Limits {
-    Limits {
-        sink,
-        workers,
-        partitions: 2,
-        spill_size: 0,
-        buffer_size: 1,
-        payload_limit: 0,
-    }
-}
+const LINES: &str = "1,20\n3,60\n2,40\n4,80\n";
 
 /// The columns that a query gives.
 fn output_of(alloc: Global, query: &Query) -> Result<Schema, Fail>
@@ -51,24 +34,52 @@ fn output_of(alloc: Global, query: &Query) -> Result<Schema, Fail>
     }
 }
 
-/// A run of the query over the chunks, which it has taken.
-fn fed<'a, H: Threads + Wait + Sync>(
+/// No action for so many workers.
+fn no_actions(alloc: Global, workers: usize) -> Result<Vec<Vec<SpillAction>>, Fail> {
+    let mut lists = Vec::new(alloc);
+    for _worker in 0..workers {
+        lists.push(Vec::new(alloc))?;
+    }
+    Ok(lists)
+}
+
+/// Two stores in memory.
+fn two_stores(alloc: Global) -> Result<Vec<MemoryStore>, Fail> {
+    let mut stores = Vec::new(alloc);
+    for _store in 0..2 {
+        stores.push(MemoryStore::new(alloc, Vec::new(alloc)))?;
+    }
+    Ok(stores)
+}
+
+/// A run of two partitions before its first chunk.
+fn begun<'a, H: Wait>(
     rt: &H,
     alloc: Global,
     query: &'a Query,
-    limits: &Limits,
+    sink: SinkKind,
+    workers: usize,
 ) -> Result<GroupByRun<'a, MemoryStore>, Fail>
     ensures { IfOk result (λ r. r.setting.query ≡ query.now) }
 {
-    let chunks = chunks_of(alloc, DataType::Int64, 2, &ROWS)?;
-    let stores = stores_of(alloc, 2)?;
-    let mut actions = Vec::new(alloc);
-    for _worker in 0..limits.workers {
-        actions.push(Vec::new(alloc))?;
+    let limits = limits_of(sink, workers, 2);
+    let actions = no_actions(alloc, workers)?;
+    let stores = two_stores(alloc)?;
+    match GroupByRun::begin(rt, alloc, query, &limits, actions, stores) {
+        Ok(run) => Ok(run),
+        Err(_) => Err("GroupByRun::begin wants memory".into()),
     }
-    let Ok(run) = GroupByRun::begin(rt, alloc, query, limits, actions, stores) else {
-        return Err("GroupByRun::begin wants memory".into());
-    };
+}
+
+/// The run over the chunks, which it has taken.
+fn fed<'a, H: Threads + Wait + Sync>(
+    rt: &H,
+    alloc: Global,
+    run: GroupByRun<'a, MemoryStore>,
+) -> Result<GroupByRun<'a, MemoryStore>, Fail>
+    ensures { IfOk result (λ r. r.setting ≡ run.entry.setting) }
+{
+    let chunks = chunks_of(alloc, &[ROWS.as_slice(); 2])?;
     match run.feed(rt, alloc, &OpenGate, chunks) {
         Ok(run) => Ok(run),
         Err(_) => Err("GroupByRun::feed wants memory".into()),
@@ -79,11 +90,13 @@ fn fed<'a, H: Threads + Wait + Sync>(
 pub(crate) fn given<H: Threads + Wait + Sync>(
     rt: &H,
     alloc: Global,
-    limits: &Limits,
+    query: &Query,
+    sink: SinkKind,
+    workers: usize,
 ) -> Result<(Result<TextOutput, PipeError>, usize), Fail> {
-    let query = query_of(alloc, DataType::Int64, true)?;
-    let lines = CsvLines::new(output_of(alloc, &query)?, false);
-    let run = fed(rt, alloc, &query, limits)?;
+    let lines = CsvLines::new(output_of(alloc, query)?, false);
+    let run = begun(rt, alloc, query, sink, workers)?;
+    let run = fed(rt, alloc, run)?;
     let (output, stores) = run.finish_text(rt, alloc, &OpenGate, &lines);
     Ok((output, stores.len()))
 }

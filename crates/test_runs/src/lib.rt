@@ -1,9 +1,13 @@
-//! Tests of workers and of runs, by their public functions alone.
+//! Tests of runs by their public functions alone: threads, rounds and refusals.
 #![tactic(auto)]
 
 #[cfg(test)]
-mod generic;
+mod asked;
 #[cfg(test)]
-mod typed;
+mod refusal_tests;
 #[cfg(test)]
-mod workers;
+mod round_tests;
+#[cfg(test)]
+mod runs;
+#[cfg(test)]
+mod thread_tests;

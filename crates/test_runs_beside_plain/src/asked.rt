@@ -12,46 +12,75 @@ const HEIGHTS: [usize; 6] = [3, 0, 4, 1, 5, 2];
 const WORDS: [&str; 5] = ["", "b", "a\0", "a", "ab"];
 
 /// Adds an expression whose children are there.
-pub(crate) fn add(arena: &mut Arena, expr: AExpr) -> Result<(), Fail> {
+fn add(arena: &mut Arena, expr: AExpr) -> Result<Node, Fail> {
     match arena.add(expr) {
-        Ok(_) => Ok(()),
+        Ok(node) => Ok(node),
         Err(_) => Err("Arena::add wants memory".into()),
     }
+}
+
+/// Puts a field behind others.
+fn put_field(
+    alloc: Global,
+    fields: &mut Vec<Field>,
+    name: &str,
+    dtype: DataType,
+) -> Result<(), Fail> {
+    let name = Text::new(alloc, name)?;
+    Ok(fields.push(Field { name, dtype })?)
+}
+
+/// The columns k, which is of a type, and v.
+fn schema_of(alloc: Global, dtype: DataType) -> Result<Schema, Fail> {
+    let mut fields = Vec::new(alloc);
+    put_field(alloc, &mut fields, "k", dtype)?;
+    put_field(alloc, &mut fields, "v", DataType::Int64)?;
+    Ok(Schema::new(fields))
+}
+
+/// Adds the column of a name.
+fn add_column(alloc: Global, arena: &mut Arena, name: &str) -> Result<Node, Fail> {
+    let name = Text::new(alloc, name)?;
+    add(arena, AExpr::Column(name))
+}
+
+/// Adds an aggregate by a name to those of a query.
+fn add_named(alloc: Global, query: &mut Query, agg: IRAggExpr, name: &str) -> Result<(), Fail> {
+    let node = add(&mut query.arena, AExpr::Agg(agg))?;
+    let name = Text::new(alloc, name)?;
+    let alias = add(&mut query.arena, AExpr::Alias(node, name))?;
+    Ok(query.aggs.push(alias)?)
+}
+
+/// Puts the sum, the first, the mean and the number of v by k into a query of nothing.
+fn fill(alloc: Global, query: &mut Query) -> Result<(), Fail> {
+    let k = add_column(alloc, &mut query.arena, "k")?;
+    let v = add_column(alloc, &mut query.arena, "v")?;
+    query.keys.push(k)?;
+    add_named(alloc, query, IRAggExpr::Sum(v), WORDS[1])?;
+    add_named(alloc, query, IRAggExpr::First(v), WORDS[2])?;
+    add_named(alloc, query, IRAggExpr::Mean(v), WORDS[3])?;
+    add_named(alloc, query, IRAggExpr::Count(v, false), WORDS[4])
 }
 
 /// The sum, the first, the mean and the number of v by k, which is of a type. Every other number keeps
 /// order, and every third has a slice.
 pub(crate) fn query_of(alloc: Global, dtype: DataType, number: usize) -> Result<Query, Fail> {
-    let (k, v) = (Text::new(alloc, "k")?, Text::new(alloc, "v")?);
-    let mut arena = Arena::new(alloc);
-    add(&mut arena, AExpr::Column(k.try_clone(alloc)?))?;
-    add(&mut arena, AExpr::Column(v.try_clone(alloc)?))?;
-    let aggregates = vec![in alloc;
-        IRAggExpr::Sum(Node(1)),
-        IRAggExpr::First(Node(1)),
-        IRAggExpr::Mean(Node(1)),
-        IRAggExpr::Count(Node(1), false),
-    ]?;
-    let mut aggs = Vec::new(alloc);
-    for (at, aggregate) in aggregates.into_iter().enumerate() {
-        let name = WORDS[(at + 1) % WORDS.len()];
-        let node = Node(arena.len());
-        add(&mut arena, AExpr::Agg(aggregate))?;
-        aggs.push(Node(arena.len()))?;
-        add(&mut arena, AExpr::Alias(node, Text::new(alloc, name)?))?;
-    }
-    let value = Field {
-        name: v,
-        dtype: DataType::Int64,
-    };
-    Ok(Query {
-        schema: Schema::new(vec![in alloc; Field { name: k, dtype }, value]?),
-        arena,
-        keys: vec![in alloc; Node(0)]?,
-        aggs,
+    let mut query = Query {
+        schema: schema_of(alloc, dtype)?,
+        arena: Arena::new(alloc),
+        keys: Vec::new(alloc),
+        aggs: Vec::new(alloc),
         slice: if number % 3 == 0 { Some((1, 3)) } else { None },
         maintain_order: number % 2 == 0,
-    })
+    };
+    match fill(alloc, &mut query) {
+        Ok(()) => Ok(query),
+        Err(fail) => {
+            drop(query);
+            Err(fail)
+        }
+    }
 }
 
 /// The key of a row: every seventh is null.
@@ -66,14 +95,33 @@ fn key_of(alloc: Global, dtype: DataType, row: usize) -> Result<AnyValue, Fail> 
     Ok(AnyValue::Int(number as i128))
 }
 
-pub(crate) fn column_of(
+/// The value of a row in the column k or v: of v every fifth is null.
+fn value_of(alloc: Global, name: &str, dtype: DataType, row: usize) -> Result<AnyValue, Fail> {
+    if name == "k" {
+        return key_of(alloc, dtype, row);
+    }
+    Ok(if row % 5 == 4 {
+        AnyValue::Null
+    } else {
+        AnyValue::Int(row as i128)
+    })
+}
+
+/// Puts the column k or v of so many rows from one on behind others.
+fn put_column(
     alloc: Global,
+    columns: &mut Vec<Column>,
     name: &str,
     dtype: DataType,
-    values: Vec<AnyValue>,
-) -> Result<Column, Fail> {
+    first: usize,
+    height: usize,
+) -> Result<(), Fail> {
+    let mut values = Vec::new(alloc);
+    for row in 0..height {
+        values.push(value_of(alloc, name, dtype, first.wrapping_add(row))?)?;
+    }
     match Column::new(Text::new(alloc, name)?, dtype, false, values) {
-        Some(column) => Ok(column),
+        Some(column) => Ok(columns.push(column)?),
         None => Err("no column".into()),
     }
 }
@@ -85,20 +133,10 @@ fn chunk_of(
     first: usize,
     height: usize,
 ) -> Result<DataChunk, Fail> {
-    let mut keys = Vec::new(alloc);
-    let mut values = Vec::new(alloc);
-    for row in 0..height {
-        let row = first.wrapping_add(row);
-        keys.push(key_of(alloc, dtype, row)?)?;
-        values.push(if row % 5 == 4 {
-            AnyValue::Null
-        } else {
-            AnyValue::Int(row as i128)
-        })?;
-    }
-    let k = column_of(alloc, "k", dtype, keys)?;
-    let v = column_of(alloc, "v", DataType::Int64, values)?;
-    match DataFrame::new(height, vec![in alloc; k, v]?) {
+    let mut columns = Vec::new(alloc);
+    put_column(alloc, &mut columns, "k", dtype, first, height)?;
+    put_column(alloc, &mut columns, "v", DataType::Int64, first, height)?;
+    match DataFrame::new(height, columns) {
         Some(frame) => Ok(DataChunk {
             chunk_index: 4294967295,
             frame,

@@ -2,11 +2,11 @@
 
 use crate::asked::{chunks_of, count_chunks, query_of};
 use crate::cases::{actions_of, limits_of};
-use pipe_aggs::Query;
+use pipe_aggs::{CheckedQuery, Query};
 use pipe_columns::{Column, DataFrame, DataType};
 use pipe_global::OpenGate;
 use pipe_group_by::{GroupByOutput, GroupByRun, PipeError, run_group_by};
-use pipe_plan::{Limits, SinkKind};
+use pipe_plan::SinkKind;
 use pipe_spill::MemoryStore;
 use std::alloc::Global;
 use std::sync::Wait;
@@ -21,8 +21,19 @@ pub(crate) enum Feeds {
     Rounds(usize),
 }
 
+/// A kind of sink, the type of the key, and how the chunks come.
+#[derive(Clone, Copy)]
+pub(crate) struct Kind {
+    pub(crate) sink: SinkKind,
+    pub(crate) dtype: DataType,
+    pub(crate) feeds: Feeds,
+}
+
+/// How a run ended.
+type End = Result<GroupByOutput, PipeError>;
+
 /// So many stores in memory.
-pub(crate) fn stores_of(alloc: Global, count: usize) -> Result<Vec<MemoryStore>, Fail> {
+fn stores_of(alloc: Global, count: usize) -> Result<Vec<MemoryStore>, Fail> {
     let mut stores = Vec::new(alloc);
     for _store in 0..count {
         stores.push(MemoryStore::new(alloc, Vec::new(alloc)))?;
@@ -36,7 +47,7 @@ fn is_same(left: &Column, right: &Column) -> bool {
 }
 
 /// Whether two frames are the same.
-pub(crate) fn are_same(left: &DataFrame, right: &DataFrame) -> bool {
+fn are_same(left: &DataFrame, right: &DataFrame) -> bool {
     let (left_columns, right_columns) = (left.columns(), right.columns());
     if left.height() != right.height() || left_columns.len() != right_columns.len() {
         return false;
@@ -49,6 +60,20 @@ pub(crate) fn are_same(left: &DataFrame, right: &DataFrame) -> bool {
     true
 }
 
+/// What the plain program answers to a checked query.
+fn plain_over(
+    alloc: Global,
+    query: &CheckedQuery<'_>,
+    dtype: DataType,
+    partitions: usize,
+) -> Result<DataFrame, Fail> {
+    let chunks = chunks_of(alloc, dtype, 0, count_chunks())?;
+    if partitions == 0 || !are_chunks(&chunks, query) {
+        return Err("chunks that don't fit".into());
+    }
+    Ok(plain_answer(alloc, &chunks, query, partitions)?)
+}
+
 /// What the plain program answers.
 fn plain_of(
     alloc: Global,
@@ -56,14 +81,43 @@ fn plain_of(
     dtype: DataType,
     partitions: usize,
 ) -> Result<DataFrame, Fail> {
-    let Ok(checked) = query.check(alloc) else {
-        return Err("a query with a fault".into());
-    };
-    let chunks = chunks_of(alloc, dtype, 0, count_chunks())?;
-    if partitions == 0 || !are_chunks(&chunks, &checked) {
-        return Err("chunks that don't fit".into());
+    match query.check(alloc) {
+        Ok(checked) => plain_over(alloc, &checked, dtype, partitions),
+        Err(_) => Err("a query with a fault".into()),
     }
-    Ok(plain_answer(alloc, &chunks, &checked, partitions)?)
+}
+
+/// A run of a row of the table before its first chunk.
+fn begun<'a, H: Wait>(
+    rt: &H,
+    alloc: Global,
+    query: &'a Query,
+    sink: SinkKind,
+    number: usize,
+) -> Result<GroupByRun<'a, MemoryStore>, Fail> {
+    let limits = limits_of(number, sink);
+    let lists = actions_of(alloc, number, limits.workers)?;
+    let stores = stores_of(alloc, limits.partitions)?;
+    match GroupByRun::begin(rt, alloc, query, &limits, lists, stores) {
+        Ok(run) => Ok(run),
+        Err(_) => Err("a run was not begun".into()),
+    }
+}
+
+/// The run with the chunks from one on, at most so many.
+fn fed<'a, H: Threads + Wait + Sync>(
+    rt: &H,
+    alloc: Global,
+    run: GroupByRun<'a, MemoryStore>,
+    dtype: DataType,
+    from: usize,
+    most: usize,
+) -> Result<GroupByRun<'a, MemoryStore>, Fail> {
+    let chunks = chunks_of(alloc, dtype, from, most)?;
+    match run.feed(rt, alloc, &OpenGate, chunks) {
+        Ok(run) => Ok(run),
+        Err(_) => Err("a run was not fed".into()),
+    }
 }
 
 /// A run that is fed so many chunks a round.
@@ -71,27 +125,35 @@ fn run_in_rounds<H: Threads + Wait + Sync>(
     rt: &H,
     alloc: Global,
     query: &Query,
-    dtype: DataType,
+    kind: Kind,
     number: usize,
-    limits: &Limits,
     most: usize,
-) -> Result<Result<GroupByOutput, PipeError>, Fail> {
-    let lists = actions_of(alloc, number, limits.workers)?;
-    let stores = stores_of(alloc, limits.partitions)?;
-    let mut run = match GroupByRun::begin(rt, alloc, query, limits, lists, stores) {
-        Ok(run) => run,
-        Err((error, _stores)) => return Ok(Err(error)),
-    };
+) -> Result<End, Fail> {
+    let mut run = begun(rt, alloc, query, kind.sink, number)?;
     let mut from: usize = 0;
     for _round in 0..count_chunks() {
-        let chunks = chunks_of(alloc, dtype, from, most)?;
+        run = fed(rt, alloc, run, kind.dtype, from, most)?;
         from = from.wrapping_add(most);
-        run = match run.feed(rt, alloc, &OpenGate, chunks) {
-            Ok(run) => run,
-            Err((error, _stores)) => return Ok(Err(error)),
-        };
     }
     let (ended, _stores) = run.finish(rt, alloc, &OpenGate);
+    Ok(ended)
+}
+
+/// A run over all chunks at once.
+fn run_at_once<H: Threads + Wait + Sync>(
+    rt: &H,
+    alloc: Global,
+    query: &Query,
+    kind: Kind,
+    number: usize,
+) -> Result<End, Fail> {
+    let limits = limits_of(number, kind.sink);
+    let lists = actions_of(alloc, number, limits.workers)?;
+    let stores = stores_of(alloc, limits.partitions)?;
+    let chunks = chunks_of(alloc, kind.dtype, 0, count_chunks())?;
+    let (ended, _stores) = run_group_by(
+        rt, alloc, chunks, query, &limits, lists, stores, &OpenGate,
+    );
     Ok(ended)
 }
 
@@ -100,39 +162,46 @@ fn run_of<H: Threads + Wait + Sync>(
     rt: &H,
     alloc: Global,
     query: &Query,
-    dtype: DataType,
+    kind: Kind,
     number: usize,
-    limits: &Limits,
-    feeds: Feeds,
-) -> Result<Result<GroupByOutput, PipeError>, Fail> {
-    match feeds {
-        Feeds::Rounds(most) => run_in_rounds(rt, alloc, query, dtype, number, limits, most),
-        Feeds::AtOnce => {
-            let lists = actions_of(alloc, number, limits.workers)?;
-            let stores = stores_of(alloc, limits.partitions)?;
-            let chunks = chunks_of(alloc, dtype, 0, count_chunks())?;
-            let (ended, _stores) = run_group_by(
-                rt, alloc, chunks, query, limits, lists, stores, &OpenGate,
-            );
-            Ok(ended)
-        }
+) -> Result<End, Fail> {
+    match kind.feeds {
+        Feeds::Rounds(most) => run_in_rounds(rt, alloc, query, kind, number, most),
+        Feeds::AtOnce => run_at_once(rt, alloc, query, kind, number),
     }
+}
+
+/// Whether a run was answered by a frame.
+fn is_answered_by(ended: &End, frame: &DataFrame) -> bool {
+    match ended {
+        Ok(output) => are_same(&output.frame, frame),
+        Err(_) => false,
+    }
+}
+
+/// Whether a run of a query answers as the plain program does.
+fn agrees_on<H: Threads + Wait + Sync>(
+    rt: &H,
+    alloc: Global,
+    query: &Query,
+    kind: Kind,
+    number: usize,
+) -> Result<bool, Fail> {
+    let partitions = limits_of(number, kind.sink).partitions;
+    let plain = plain_of(alloc, query, kind.dtype, partitions)?;
+    let ended = run_of(rt, alloc, query, kind, number)?;
+    Ok(is_answered_by(&ended, &plain))
 }
 
 /// Whether a run of a row of the table answers as the plain program does.
 pub(crate) fn agrees<H: Threads + Wait + Sync>(
     rt: &H,
     alloc: Global,
-    sink: SinkKind,
-    dtype: DataType,
+    kind: Kind,
     number: usize,
-    feeds: Feeds,
 ) -> Result<bool, Fail> {
-    let query = query_of(alloc, dtype, number)?;
-    let limits = limits_of(number, sink);
-    let plain = plain_of(alloc, &query, dtype, limits.partitions)?;
-    match run_of(rt, alloc, &query, dtype, number, &limits, feeds)? {
-        Ok(output) => Ok(are_same(&output.frame, &plain)),
-        Err(_) => Ok(false),
-    }
+    let query = query_of(alloc, kind.dtype, number)?;
+    let agrees = agrees_on(rt, alloc, &query, kind, number);
+    drop(query);
+    agrees
 }

@@ -6,8 +6,6 @@ mod asked;
 #[cfg(test)]
 mod cases;
 #[cfg(test)]
-mod chosen_tests;
-#[cfg(test)]
 mod compared;
 #[cfg(test)]
 mod trial_tests;

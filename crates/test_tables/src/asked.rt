@@ -1,12 +1,9 @@
 //! What tests ask: queries over the columns k and v, and chunks of them.
 
-use pipe_aggs::{AExpr, Arena, Node, Query};
+use pipe_aggs::{AExpr, Arena, IRAggExpr, Node, Query};
 use pipe_columns::{AnyValue, Column, DataChunk, DataFrame, DataType, Field, Schema, Text};
 use std::alloc::{AllocError, Global};
 use std::test::Fail;
-
-/// Two columns of numbers.
-pub(crate) const NUMBERS: [DataType; 2] = [DataType::Int64, DataType::Int64];
 
 /// Fails a test where what it asks isn't so.
 pub(crate) fn hold(answer: Result<bool, Fail>) -> Result<(), Fail> {
@@ -24,72 +21,77 @@ fn added(arena: &mut Arena, expr: AExpr) -> Result<Node, Fail> {
     }
 }
 
+/// Puts a field behind others.
+fn put_field(
+    alloc: Global,
+    fields: &mut Vec<Field>,
+    name: &str,
+    dtype: DataType,
+) -> Result<(), AllocError> {
+    let name = Text::new(alloc, name)?;
+    Ok(fields.push(Field { name, dtype })?)
+}
+
 /// The columns k and v.
 fn schema_of(alloc: Global, types: [DataType; 2]) -> Result<Schema, AllocError> {
     let mut fields = Vec::new(alloc);
-    for (name, dtype) in [("k", types[0]), ("v", types[1])] {
-        let name = Text::new(alloc, name)?;
-        fields.push(Field { name, dtype })?;
-    }
+    put_field(alloc, &mut fields, "k", types[0])?;
+    put_field(alloc, &mut fields, "v", types[1])?;
     Ok(Schema::new(fields))
 }
 
-/// Adds the columns k and v, of which the first few are keys.
-fn add_columns(
-    alloc: Global,
-    arena: &mut Arena,
-    count: usize,
-    keys: &mut Vec<Node>,
-) -> Result<(), Fail> {
-    for name in ["k", "v"] {
-        let column = added(arena, AExpr::Column(Text::new(alloc, name)?))?;
-        if keys.len() < count {
-            keys.push(column)?;
-        }
+/// Adds the column of a name.
+fn add_column(alloc: Global, arena: &mut Arena, name: &str) -> Result<Node, Fail> {
+    let name = Text::new(alloc, name)?;
+    added(arena, AExpr::Column(name))
+}
+
+/// Adds an aggregate by a name to those of a query.
+fn add_named(alloc: Global, query: &mut Query, agg: AExpr, name: &str) -> Result<(), Fail> {
+    let value = added(&mut query.arena, agg)?;
+    let name = Text::new(alloc, name)?;
+    let alias = added(&mut query.arena, AExpr::Alias(value, name))?;
+    Ok(query.aggs.push(alias)?)
+}
+
+/// Puts keys and aggregates into a query without them.
+fn fill(alloc: Global, query: &mut Query, keys: usize, ends: bool) -> Result<(), Fail> {
+    let k = add_column(alloc, &mut query.arena, "k")?;
+    let v = add_column(alloc, &mut query.arena, "v")?;
+    query.keys.push(k)?;
+    if keys == 2 {
+        query.keys.push(v)?;
     }
-    Ok(())
-}
-
-/// Adds an aggregate by a name.
-fn named_agg(alloc: Global, arena: &mut Arena, agg: AExpr, name: &str) -> Result<Node, Fail> {
-    let value = added(arena, agg)?;
-    added(arena, AExpr::Alias(value, Text::new(alloc, name)?))
-}
-
-/// Adds aggregates, three at most, by the names a, b and c.
-fn named_aggs(alloc: Global, arena: &mut Arena, aggs: Vec<AExpr>) -> Result<Vec<Node>, Fail> {
-    let mut named = Vec::new(alloc);
-    for (agg, name) in aggs.into_iter().zip(["a", "b", "c"]) {
-        named.push(named_agg(alloc, arena, agg, name)?)?;
+    if ends {
+        add_named(alloc, query, AExpr::Agg(IRAggExpr::First(v)), "a")?;
+        add_named(alloc, query, AExpr::Agg(IRAggExpr::Last(v)), "b")?;
     }
-    Ok(named)
+    add_named(alloc, query, AExpr::Len, "c")
 }
 
-/// A query over the columns k and v, which are nodes 0 and 1, and of which the first `keys` are the
-/// keys. Its aggregates, three at most, are named a, b and c.
+/// A query over the columns k and v, of which the first one or both are keys: the first and the last v,
+/// where these ends are asked for, and how many rows there are.
 pub(crate) fn query_of(
     alloc: Global,
     types: [DataType; 2],
     keys: usize,
-    aggs: Vec<AExpr>,
+    ends: bool,
 ) -> Result<Query, Fail> {
-    let mut arena = Arena::new(alloc);
-    let mut keys_of_query = Vec::new(alloc);
-    add_columns(alloc, &mut arena, keys, &mut keys_of_query)?;
-    let named = named_aggs(alloc, &mut arena, aggs)?;
-    Ok(Query {
+    let mut query = Query {
         schema: schema_of(alloc, types)?,
-        arena,
-        keys: keys_of_query,
-        aggs: named,
+        arena: Arena::new(alloc),
+        keys: Vec::new(alloc),
+        aggs: Vec::new(alloc),
         slice: None,
         maintain_order: false,
-    })
-}
-
-/// A query of how many rows there are by the first `keys` of the columns.
-pub(crate) fn counting(alloc: Global, types: [DataType; 2], keys: usize) -> Result<Query, Fail> {
-    query_of(alloc, types, keys, vec![in alloc; AExpr::Len]?)
+    };
+    match fill(alloc, &mut query, keys, ends) {
+        Ok(()) => Ok(query),
+        Err(fail) => {
+            drop(query);
+            Err(fail)
+        }
+    }
 }
 
 /// The value of a number: -1 stands for a null.
@@ -185,19 +187,6 @@ pub(crate) fn has_numbers(frame: &DataFrame, column: usize, numbers: &[i128]) ->
         Some(column) => are_numbers(column.values(), numbers),
         None => false,
     }
-}
-
-/// Whether a frame has these columns of numbers, and no other.
-pub(crate) fn are_columns(frame: &DataFrame, due: &[&[i128]]) -> bool {
-    if frame.columns().len() != due.len() {
-        return false;
-    }
-    for at in 0..due.len() {
-        if !has_numbers(frame, at, due[at]) {
-            return false;
-        }
-    }
-    true
 }
 
 /// Whether values are these texts.

@@ -1,13 +1,13 @@
-//! Tests of groups and tables, by their public functions alone.
+//! Tests of tables, by their public functions alone.
 #![tactic(auto)]
 
 #[cfg(test)]
 mod asked;
 #[cfg(test)]
-mod groups;
-#[cfg(test)]
 mod memory_tests;
 #[cfg(test)]
-mod sinks;
+mod state_tests;
+#[cfg(test)]
+mod step_tests;
 #[cfg(test)]
 mod tables;

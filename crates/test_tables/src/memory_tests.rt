@@ -1,139 +1,94 @@
-//! Tables of which one hides keys that have one hash and the other doesn't: they are joined, and a call
-//! that wants memory is made again.
+//! Calls that want memory: `rt try --test --fail-alloc N` refuses the allocation of number N. A
+//! refused call is made again, and then each row counts once.
 
-ghost use Rattle.std.specs.Prelude.{◌≡◌};
-ghost use Rattle.pipe_keyed.specs.Tables.{HoldFewTogether};
-
-use crate::asked::{chunk_of, counting, has_numbers, hold};
-use crate::tables::step_tests::join;
-use crate::tables::table_tests::given;
-use crate::tables::two_tables::TwoTables;
-use pipe_aggs::{CheckedQuery, Query};
-use pipe_columns::{AnyValue, DataChunk, DataType};
-use pipe_tables::{AggHashTable, LentEnd};
+use crate::asked::hold;
+use crate::tables::joined::{Asked, answer};
+use crate::tables::local::waits;
+use crate::tables::rows::{FEW, HIDDEN_FIRST, HIDDEN_OTHER, are_hashed};
+use pipe_columns::{AnyValue, DataType, Place};
+use pipe_spill::{SpillRow, Values, encode_key};
+use pipe_tables::{LocalEnd, SpillPartitions};
 use std::alloc::{AllocError, Global};
 use std::test::Fail;
 
-const INTEGERS: [DataType; 2] = [DataType::Int8, DataType::UInt64];
+#[test]
+fn tables_that_are_joined(rt: HostRuntime) -> Result<(), Fail> {
+    hold(answer(rt.alloc(), &FEW, Asked::Join))
+}
 
-/// A number of type UInt64 whose code, at the end of a key of 9 to 16 bytes, makes the hash 0.
-const HASHED_TO_ZERO: i128 = 0x157c_4a7f_b979_379e;
+#[test]
+fn a_partition_that_is_taken(rt: HostRuntime) -> Result<(), Fail> {
+    hold(answer(rt.alloc(), &FEW, Asked::Take))
+}
 
-/// How many keys there are, which are more than may stand in one chain, and how many of them come
-/// twice.
-const KEYS: usize = 36;
+#[test]
+fn first_places(rt: HostRuntime) -> Result<(), Fail> {
+    hold(answer(rt.alloc(), &FEW, Asked::Firsts))
+}
 
-const TWICE: usize = 4;
+#[test]
+fn groups_by_first_row(rt: HostRuntime) -> Result<(), Fail> {
+    hold(answer(rt.alloc(), &FEW, Asked::Order))
+}
 
-/// Rows of the keys, of which the first few come again behind them.
-fn rows_of_one_hash(alloc: Global) -> Result<DataChunk, Fail> {
-    let mut k = Vec::new(alloc);
-    let mut v = Vec::new(alloc);
-    for row in 0..KEYS + TWICE {
-        k.push(AnyValue::Int((row % KEYS) as i128))?;
-        v.push(AnyValue::Int(HASHED_TO_ZERO))?;
+/// A row of key 1.
+fn row_of(alloc: Global, row: u32) -> Result<SpillRow, AllocError> {
+    Ok(SpillRow {
+        place: Place { chunk: 0, row },
+        key: encode_key(alloc, &[AnyValue::Int(1)], &[DataType::Int64])?,
+        values: Values::new(Vec::new(alloc)),
+    })
+}
+
+/// Puts a row into buffers, again where memory was wanting.
+fn put_into(buffers: &mut SpillPartitions, row: SpillRow) -> LocalEnd {
+    match buffers.insert(row) {
+        LocalEnd::Memory(row) => buffers.insert(row),
+        end => end,
     }
-    chunk_of(alloc, INTEGERS, false, k, v)
 }
 
-fn tables_over(alloc: Global, query: &CheckedQuery<'_>) -> Result<TwoTables, Fail> {
-    let chunk = rows_of_one_hash(alloc)?;
-    TwoTables::new(alloc, query, None, &chunk)
+/// Whether a row stays in the buffers.
+fn stays(buffers: &mut SpillPartitions, row: SpillRow) -> bool {
+    matches!(put_into(buffers, row), LocalEnd::Done)
 }
 
-fn tables_of_query(alloc: Global, query: &Query) -> Result<TwoTables, Fail> {
-    match query.check(alloc) {
-        Ok(checked) => tables_over(alloc, &checked),
-        Err(_) => Err("Query::check wants memory".into()),
-    }
-}
-
-/// Two tables, and the rows.
-fn tables(alloc: Global) -> Result<TwoTables, Fail> {
-    let query = counting(alloc, INTEGERS, 2)?;
-    let tables = tables_of_query(alloc, &query);
-    drop(query);
-    tables
-}
-
-/// Puts some of the rows that are left into the first table, each again where memory was wanting.
-fn are_put(tables: &mut TwoTables, rows: usize) -> bool {
-    for _row in 0..rows {
-        if tables.put() != LentEnd::Done && tables.put() != LentEnd::Done {
-            return false;
+/// Whether a row makes two rows of partition 0 leave, of which the first one has number 0.
+fn two_leave(buffers: &mut SpillPartitions, row: SpillRow) -> bool {
+    match put_into(buffers, row) {
+        LocalEnd::Payload(0, payload) => {
+            payload.rows.len() == 2 && payload.rows[0].place.row == 0
         }
-    }
-    true
-}
-
-/// Puts some of the rows that are left into the second table.
-fn are_put_other(tables: &mut TwoTables, rows: usize) -> bool {
-    for _row in 0..rows {
-        if tables.put_other() != LentEnd::Done && tables.put_other() != LentEnd::Done {
-            return false;
-        }
-    }
-    true
-}
-
-/// Two tables, of which the first has so many of the rows, and the second the others.
-fn tables_with(alloc: Global, first: usize) -> Result<TwoTables, Fail> {
-    let mut tables = tables(alloc)?;
-    let rest = (KEYS + TWICE).saturating_sub(first);
-    if are_put(&mut tables, first) && are_put_other(&mut tables, rest) {
-        Ok(tables)
-    } else {
-        drop(tables);
-        Err("a row was not taken".into())
+        _ => false,
     }
 }
 
-/// The keys in order, and how often each comes.
-fn due(alloc: Global) -> Result<(Vec<i128>, Vec<i128>), AllocError> {
-    let mut keys = Vec::new(alloc);
-    let mut counts = Vec::new(alloc);
-    for key in 0..KEYS {
-        keys.push(key as i128)?;
-        counts.push(if key < TWICE { 2 } else { 1 })?;
-    }
-    Ok((keys, counts))
+/// Whether of two rows in a buffer of two the first stays, and both leave with the second.
+fn leave_by_two(alloc: Global, buffers: &mut SpillPartitions) -> Result<bool, AllocError> {
+    let stays = stays(buffers, row_of(alloc, 0)?);
+    Ok(two_leave(buffers, row_of(alloc, 1)?) && stays)
 }
 
-/// Whether a table gives each key with its count.
-fn gives_all(alloc: Global, table: &mut AggHashTable) -> Result<bool, AllocError> {
-    let (keys, counts) = due(alloc)?;
-    let frame = given(table, &mut None)?;
-    Ok(has_numbers(&frame, 0, &keys) && has_numbers(&frame, 2, &counts))
+#[test]
+fn rows_that_overflow(rt: HostRuntime) -> Result<(), Fail> {
+    let mut buffers = SpillPartitions::new(rt.alloc(), 1, 2)?;
+    let leave = leave_by_two(rt.alloc(), &mut buffers);
+    drop(buffers);
+    hold(Ok(leave?))
 }
 
-/// Whether a table with the rows of another one counts all.
-fn counts_all(
-    alloc: Global,
-    table: &mut AggHashTable,
-    other: &mut AggHashTable,
-) -> Result<bool, AllocError>
-    requires shape { other.old.shape ≡ table.old.shape }
-    requires few { HoldFewTogether table.old other.old }
-{
-    join(table, other)?;
-    gives_all(alloc, table)
-}
-
-/// Whether a table of so many of the rows counts all once it is joined with one of the others.
-fn joined_counts(alloc: Global, first: usize) -> Result<bool, Fail> {
-    let (mut table, mut other) = tables_with(alloc, first)?.into_tables();
-    let counts = counts_all(alloc, &mut table, &mut other);
-    drop(table);
-    drop(other);
-    Ok(counts?)
+#[test]
+fn rows_that_wait(rt: HostRuntime) -> Result<(), Fail> {
+    hold(waits(rt.alloc()))
 }
 
 #[test]
 fn a_table_that_hides_takes_one_that_does_not(rt: HostRuntime) -> Result<(), Fail> {
-    hold(joined_counts(rt.alloc(), KEYS))
+    hold(Ok(are_hashed()))?;
+    hold(answer(rt.alloc(), &HIDDEN_FIRST, Asked::Join))
 }
 
 #[test]
 fn a_table_takes_one_that_hides(rt: HostRuntime) -> Result<(), Fail> {
-    hold(joined_counts(rt.alloc(), TWICE))
+    hold(answer(rt.alloc(), &HIDDEN_OTHER, Asked::Join))
 }

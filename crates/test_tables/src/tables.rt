@@ -1,13 +1,8 @@
-//! Tables, local tables and what overflows.
+//! Tables and local tables that are made and fed.
 
-mod key_tests;
-mod local_tests;
-mod memory_tests;
-mod placed_tests;
-mod query_groups_tests;
-mod slice_tests;
-mod state_tests;
-pub(crate) mod step_tests;
-pub(crate) mod table_tests;
-mod test_rows;
+pub(crate) mod given;
+pub(crate) mod joined;
+pub(crate) mod local;
+mod placed;
+pub(crate) mod rows;
 pub(crate) mod two_tables;

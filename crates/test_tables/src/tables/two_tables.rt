@@ -60,6 +60,7 @@ fn few_rows(
     }
     let seen = ChunkRows::new(alloc, query, index, chunk)?;
     let count = seen.len();
+    drop(seen);
     if count > 64 {
         return Err("many rows".into());
     }
@@ -111,7 +112,11 @@ impl TwoTables {
     ) -> Result<TwoTables, Fail> {
         let rows = few_rows(alloc, query, chunk)?;
         let table = AggHashTable::new(alloc, query, limit)?;
-        let other = table.split()?;
+        let Ok(other) = table.split() else {
+            drop(rows);
+            drop(table);
+            return Err("AggHashTable::split wants memory".into());
+        };
         Ok(TwoTables { rows, table, other })
     }
 
@@ -133,11 +138,6 @@ impl TwoTables {
     /// How many keys the first table holds.
     pub(crate) fn held(&self) -> usize {
         self.table.len()
-    }
-
-    /// The first table.
-    pub(crate) fn into_first(self) -> AggHashTable {
-        self.table
     }
 
     /// Both tables, without the rows that are left.

@@ -12,7 +12,7 @@ invariant_of-result c =
       0,
       omega (arith, few),
       fewer_none s c.in_ok-table.table.groups (0 + length rows) c.in_ok-table.ensures.groups (omega (arith, few)),
-      fewer_none s c.in_ok-other.other.groups 4294967295 c.in_ok-other.ensures.groups (omega arith),
+      fewer_none s c.in-Ok.other.groups 4294967295 c.in-Ok.ensures.groups (omega arith),
       rw c.in_ok-table.ensures.shape c.in_ok-rows.ensures.typed,
-      c.in_ok-other.ensures.shape,
+      c.in-Ok.ensures.shape,
     )

@@ -1,4 +1,0 @@
-//! Sinks for one key.
-
-mod sink_tests;
-mod slice_tests;
