@@ -174,19 +174,16 @@ fn are_edges_given<H: Threads + Sync>(
     alloc: Global,
     long_row: &str,
 ) -> Result<bool, AllocError> {
-    Ok(
-        does_give(rt, alloc, &NUMBERED, "k,v\n1,2\n", None, (3, 2), "1")?
-            && does_give(
-                rt,
-                alloc,
-                &NUMBERED,
-                "k,v\n1,2\n3,4\n",
-                None,
-                (3, 2),
-                "TooLarge",
-            )?
-            && does_give(rt, alloc, &NUMBER_AND_TEXT, long_row, None, (3, 2), "1")?,
-    )
+    for (asked, text, due) in [
+        (&NUMBERED, "k,v\n1,2\n", "1"),
+        (&NUMBERED, "k,v\n1,2\n3,4\n", "TooLarge"),
+        (&NUMBER_AND_TEXT, long_row, "1"),
+    ] {
+        if !does_give(rt, alloc, asked, text, None, (3, 2), due)? {
+            return Ok(false);
+        }
+    }
+    Ok(true)
 }
 
 #[test]

@@ -98,9 +98,14 @@ fn are_spent(
     Ok(reader.give_up(alloc).len() == 1 && reader.give_up(alloc).is_empty())
 }
 
+/// Whether that is so of a new reader.
+fn does_spend(alloc: Global, input: &mut Hinted) -> Result<bool, AllocError> {
+    let mut reader = reader_of(alloc, &TEXTS)?;
+    are_spent(alloc, &mut reader, input)
+}
+
 #[test]
 fn texts_in_spent_memory(rt: HostRuntime) -> Result<(), Fail> {
-    let mut reader = reader_of(rt.alloc(), &TEXTS)?;
     let mut input = input_of(rt.alloc(), TEXTS.files, &[], None)?;
-    hold(are_spent(rt.alloc(), &mut reader, &mut input))
+    hold(does_spend(rt.alloc(), &mut input))
 }

@@ -93,7 +93,19 @@ fn do_come<I: InputFiles, H: Threads + Sync>(
     count == ROWS
 }
 
-/// Whether all rows come in order of real files, or of standard input.
+/// Whether all rows come in order to a reader of real files, or of standard input.
+fn do_real_come<H: Files<File = File> + Threads + Sync>(
+    rt: &H,
+    alloc: Global,
+    reader: &mut ChunkReader,
+    stdin: &[u8],
+    threads: usize,
+) -> bool {
+    let mut input = RealFiles::new(rt, stdin);
+    do_come(rt, alloc, reader, &mut input, threads)
+}
+
+/// Whether they come to a new reader.
 fn do_rows_come<H: Files<File = File> + Threads + Sync>(
     rt: &H,
     alloc: Global,
@@ -102,8 +114,7 @@ fn do_rows_come<H: Files<File = File> + Threads + Sync>(
     threads: usize,
 ) -> Result<bool, AllocError> {
     let mut reader = reader_of(alloc, asked)?;
-    let mut input = RealFiles::new(rt, stdin);
-    Ok(do_come(rt, alloc, &mut reader, &mut input, threads))
+    Ok(do_real_come(rt, alloc, &mut reader, stdin, threads))
 }
 
 /// Whether they come, read by any number of threads.
@@ -112,10 +123,11 @@ fn do_all_come<H: Files<File = File> + Threads + Sync>(
     alloc: Global,
     stdin: &[u8],
 ) -> Result<bool, AllocError> {
-    for threads in 1..6 {
-        let come = do_rows_come(rt, alloc, &LARGE, b"", threads)?;
-        if !come || !do_rows_come(rt, alloc, &INPUT, stdin, threads)? {
-            return Ok(false);
+    for asked in [&LARGE, &INPUT] {
+        for threads in 1..6 {
+            if !do_rows_come(rt, alloc, asked, stdin, threads)? {
+                return Ok(false);
+            }
         }
     }
     Ok(stdin.len() > 1 << 20)

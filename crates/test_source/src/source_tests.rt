@@ -5,6 +5,7 @@ use crate::hold::hold;
 use crate::made::{Asked, TWO_FILES, input_of, source_of, source_without_first};
 use crate::read::{NOTHING, is_due, read_source};
 use pipe_columns::DataType;
+use pipe_source::CsvSource;
 use std::alloc::{AllocError, Global};
 use std::test::Fail;
 use std::thread::Threads;
@@ -40,32 +41,41 @@ const BY_NAME: Asked = Asked {
 
 /// Whether sources lose no row where each input call in turn fails.
 fn is_no_row_lost(alloc: Global) -> Result<bool, AllocError> {
-    for call in 0..8 {
-        if !calls_give_three(alloc, &TWO_FILES, &[call])?
-            || !calls_give_three(alloc, &BY_NAME, &[call])?
-        {
-            return Ok(false);
+    for asked in [&TWO_FILES, &BY_NAME] {
+        for call in 0..8 {
+            if !calls_give_three(alloc, asked, &[call])? {
+                return Ok(false);
+            }
         }
     }
     Ok(true)
 }
 
-/// Whether a round of a source gives two chunks of values, by two threads.
+#[test]
+fn sources_lose_no_row(rt: HostRuntime) -> Result<(), Fail> {
+    hold(is_no_row_lost(rt.alloc()))
+}
+
+/// Whether a round of a source gives two chunks, by two threads.
+fn gives_two<H: Threads + Sync>(rt: &H, source: &mut CsvSource<'_, Hinted>) -> bool {
+    match source.get_round(rt, 5, 2) {
+        Ok(chunks) => chunks.len() == 2,
+        Err(_) => false,
+    }
+}
+
+/// Whether that is so of a source of values.
 fn does_round_give<H: Threads + Sync>(
     rt: &H,
     alloc: Global,
     input: &mut Hinted,
 ) -> Result<bool, AllocError> {
     let mut source = source_without_first(alloc, input, &TWO_FILES)?;
-    match source.get_round(rt, 5, 2) {
-        Ok(chunks) => Ok(chunks.len() == 2),
-        Err(_) => Err(AllocError),
-    }
+    Ok(gives_two(rt, &mut source))
 }
 
 #[test]
-fn sources_lose_no_row(rt: HostRuntime) -> Result<(), Fail> {
+fn rounds_give_the_values_of_two_files(rt: HostRuntime) -> Result<(), Fail> {
     let mut input = input_of(rt.alloc(), TWO_FILES.files, &[], None)?;
-    hold(is_no_row_lost(rt.alloc()))?;
     hold(does_round_give(&rt, rt.alloc(), &mut input))
 }
