@@ -89,8 +89,8 @@ fn each_call_of_the_input_fails(rt: HostRuntime) -> Result<(), Fail> {
 }
 
 /// What stands written of a text where a call fails.
-fn written_of(text: &[u8], call: usize) -> &[u8] {
-    &text[..(PIECE * call).min(text.len())]
+fn written_of(text: &[u8], call: u8) -> &[u8] {
+    &text[..(PIECE * usize::from(call)).min(text.len())]
 }
 
 /// Whether a run of which a call of the output fails comes to what is due.
@@ -99,15 +99,17 @@ fn fails_at<H: Alloc<A = Global> + Threads + Wait + Sync>(
     run: &Run<'_>,
     call: u8,
 ) -> Result<bool, AllocError> {
-    let output = written_of(run.output, usize::from(call));
-    let is_whole = output.len() == run.output.len();
+    let output = written_of(run.output, call);
     let failing = Run {
         output_fails: &[u64::from(call)],
-        status: if is_whole { 0 } else { 6 },
+        status: 6,
         output,
-        line: if is_whole { b"" } else { b"output failed\n" },
+        line: b"output failed\n",
         ..*run
     };
+    if output.len() == run.output.len() {
+        return holds_in_memory(rt, run, &OpenGate);
+    }
     holds_in_memory(rt, &failing, &OpenGate)
 }
 
@@ -120,7 +122,7 @@ fn is_told_up_to<H: Alloc<A = Global> + Threads + Wait + Sync>(
         words: &["{"],
         message_fails: &[u64::from(call)],
         status: 3,
-        line: written_of(b"query refused: json\n", usize::from(call)),
+        line: written_of(b"query refused: json\n", call),
         ..NOTHING
     };
     holds_in_memory(rt, &refused, &OpenGate)

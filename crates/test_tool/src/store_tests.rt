@@ -93,36 +93,43 @@ fn holds_over<S: MadeStore, H: Alloc<A = Global> + Threads + Wait + Sync>(
     holds(rt, run, &mut maker, &OpenGate)
 }
 
-/// Whether runs do whose store never fails, whose first or second call fails, and that can't be made.
-fn do_failing_hold<H: Alloc<A = Global> + Threads + Wait + Sync>(
+/// Whether a run over a store in memory of which listed calls fail does.
+fn holds_where<H: Alloc<A = Global> + Threads + Wait + Sync>(
     rt: &H,
+    run: &Run<'_>,
+    failing: &'static [u64],
 ) -> Result<bool, AllocError> {
-    let first = Run {
-        frames: Some(0),
-        ..FAILED
-    };
-    let unmade = Run {
-        status: 10,
-        line: b"out of memory\n",
-        frames: None,
-        ..FAILED
-    };
-    let (whole, one): (FolderStores<MemoryStore>, FolderStores<MemoryStore>) = (
-        FolderStores::new(rt.alloc(), &[]),
-        FolderStores::new(rt.alloc(), &[0]),
-    );
-    let two: FolderStores<MemoryStore> = FolderStores::new(rt.alloc(), &[1]);
+    let maker: FolderStores<MemoryStore> = FolderStores::new(rt.alloc(), failing);
+    holds_over(rt, run, maker)
+}
+
+/// What comes where the first call fails.
+const UNPUT: Run<'static> = Run {
+    frames: Some(0),
+    ..FAILED
+};
+
+/// What comes where the store can't be made.
+const UNMADE: Run<'static> = Run {
+    status: 10,
+    line: b"out of memory\n",
+    frames: None,
+    ..FAILED
+};
+
+/// Whether runs do whose store never fails, whose first or second call fails, and that can't be made.
+fn do_all_hold<H: Alloc<A = Global> + Threads + Wait + Sync>(rt: &H) -> Result<bool, AllocError> {
     Ok(
-        holds_over(rt, &SPILLED, whole)?
-            && holds_over(rt, &first, one)?
-            && holds_over(rt, &FAILED, two)?
-            && holds_in_memory(rt, &unmade, &OpenGate)?,
+        holds_where(rt, &SPILLED, &[])?
+            && holds_where(rt, &UNPUT, &[0])?
+            && holds_where(rt, &FAILED, &[1])?
+            && holds_in_memory(rt, &UNMADE, &OpenGate)?,
     )
 }
 
 #[test]
 fn stores_of_a_folder(rt: HostRuntime) -> Result<(), Fail> {
-    hold(do_failing_hold(&rt))
+    hold(do_all_hold(&rt))
 }
 
 /// What comes where the store gives no byte of its frame back.

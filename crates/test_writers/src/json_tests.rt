@@ -36,11 +36,7 @@ fn has_text(alloc: Global, bytes: &[u8], text: &str) -> bool {
 }
 
 /// Whether a text is written and read back.
-fn is_read_back(
-    alloc: Global,
-    output: &mut MemoryOutput,
-    text: &str,
-) -> Result<bool, AllocError> {
+fn is_read_back(alloc: Global, output: &mut MemoryOutput, text: &str) -> Result<bool, AllocError> {
     Ok(write_line(alloc, output, text)? && has_text(alloc, output.bytes(), text))
 }
 

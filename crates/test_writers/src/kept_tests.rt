@@ -93,11 +93,7 @@ fn sliced(alloc: Global, schema: &Schema, chunk: DataChunk) -> Result<SliceSink,
 }
 
 /// Whether a sink that took another one in gives the second and third row of both.
-fn gives_slice(
-    alloc: Global,
-    schema: &Schema,
-    csv: &mut MemoryOutput,
-) -> Result<bool, AllocError> {
+fn gives_slice(alloc: Global, schema: &Schema, csv: &mut MemoryOutput) -> Result<bool, AllocError> {
     let mut sink = sliced(alloc, schema, chunk_of(alloc, 3, &["c", "d"])?)?;
     let mut other = sliced(alloc, schema, chunk_of(alloc, 0, &["a", "b"])?)?;
     sink.combine(&mut other)?;

@@ -6,7 +6,9 @@ ghost use Rattle.std.specs.Prelude.{◌≡◌};
 
 use crate::fed::{ended, is_written, send_into, sink_into, write_all};
 use crate::hold::hold;
-use crate::made::{chunk_of, csv_sink, csv_writer, frame_of, json_writer, output, texts, three_chunks};
+use crate::made::{
+    chunk_of, csv_sink, csv_writer, frame_of, json_writer, output, texts, three_chunks,
+};
 use pipe_columns::{DataChunk, DataFrame, Schema, SinkResult};
 use pipe_files_sink::{FilesSender, FilesSink};
 use pipe_io::MemoryOutput;
