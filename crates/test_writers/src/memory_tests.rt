@@ -77,31 +77,6 @@ fn memory_for_a_frame(rt: HostRuntime) -> Result<(), Fail> {
     hold(is_json_written(rt.alloc(), &frame, &mut output(rt.alloc(), &[])?))
 }
 
-/// Whether a sender takes the first chunks, its sink the last one and the end, and a sender no further one.
-fn do_both_take<W, H>(
-    sink: &mut FilesSink<W, H>,
-    sender: &mut FilesSender<W, H>,
-    schema: &Schema,
-    first: Vec<DataChunk>,
-    last: DataChunk,
-    late: DataChunk,
-) -> Result<Result<bool, WriteError>, AllocError>
-where
-    W: SinkWriter + Drop,
-    H: Threads + Wait + Copy,
-    requires sink { sink.old.schema ≡ schema.now }
-    requires sender { sender.old.schema ≡ schema.now }
-{
-    send_all(sender, schema, first)?;
-    sink_into(sink, schema, last)?;
-    let end = ended(sink);
-    let is_late = send_into(sender, schema, late)? == SinkResult::Finished;
-    match end {
-        Ok(done) => Ok(Ok(done && is_late)),
-        Err(fault) => Ok(Err(fault)),
-    }
-}
-
 /// A sender takes chunks that fit the schema of its sink.
 fn send_all<W: SinkWriter + Drop, H: Wait>(
     sender: &mut FilesSender<W, H>,
@@ -117,23 +92,53 @@ fn send_all<W: SinkWriter + Drop, H: Wait>(
     Ok(())
 }
 
+/// How a sink ends whose sender takes the first chunks, and which takes the last one itself; and whether its sender
+/// then takes none.
+fn end_of<W, H>(
+    alloc: Global,
+    sink: &mut FilesSink<W, H>,
+    sender: &mut FilesSender<W, H>,
+    schema: &Schema,
+) -> Result<Result<bool, WriteError>, AllocError>
+where
+    W: SinkWriter + Drop,
+    H: Threads + Wait + Copy,
+    requires sink { sink.old.schema ≡ schema.now }
+    requires sender { sender.old.schema ≡ schema.now }
+{
+    send_all(sender, schema, three_chunks(alloc)?)?;
+    sink_into(sink, schema, chunk_of(alloc, 4, &["d"])?)?;
+    let end = ended(sink);
+    if send_into(sender, schema, chunk_of(alloc, 5, &["e"])?)? == SinkResult::Finished {
+        Ok(end)
+    } else {
+        Ok(Ok(false))
+    }
+}
+
+/// The same with a new sender.
+fn end_with_sender<W, H>(
+    alloc: Global,
+    sink: &mut FilesSink<W, H>,
+    schema: &Schema,
+) -> Result<Result<bool, WriteError>, AllocError>
+where
+    W: SinkWriter + Drop,
+    H: Threads + Wait + Copy + Drop,
+    requires { sink.old.schema ≡ schema.now }
+{
+    let mut sender = sink.split()?;
+    end_of(alloc, sink, &mut sender, schema)
+}
+
 /// Whether a sink and its sender write what both took.
-fn do_both_write<H: Threads + Wait + Copy + Send + 'static>(
+fn do_both_write<H: Threads + Wait + Copy + Drop + Send + 'static>(
     rt: H,
     alloc: Global,
     schema: &Schema,
 ) -> Result<bool, AllocError> {
     let mut sink = csv_sink(rt, alloc, output(alloc, &[])?, schema, true, 2)?;
-    let mut sender = sink.split()?;
-    let (last, late) = (chunk_of(alloc, 4, &["d"])?, chunk_of(alloc, 5, &["e"])?);
-    let end = do_both_take(
-        &mut sink,
-        &mut sender,
-        schema,
-        three_chunks(alloc)?,
-        last,
-        late,
-    )?;
+    let end = end_with_sender(alloc, &mut sink, schema)?;
     let told = sink.into_writer().ok_or(AllocError)?.into_output();
     is_written(end, told.bytes(), b"t\na\nc\nb\nd\n")
 }

@@ -93,6 +93,21 @@ where
     Ok(first && none && ended(sink) == Ok(true))
 }
 
+/// Whether that is so of a sink and a new sender.
+fn do_both_end_so<W, H>(
+    alloc: Global,
+    sink: &mut FilesSink<W, H>,
+    schema: &Schema,
+) -> Result<bool, AllocError>
+where
+    W: SinkWriter + Drop,
+    H: Threads + Wait + Copy + Drop,
+    requires { sink.old.schema ≡ schema.now }
+{
+    let mut sender = sink.split()?;
+    do_both_end(alloc, sink, &mut sender, schema)
+}
+
 /// Whether both have written what they took.
 fn do_both_write<H: Threads + Wait + Copy + Drop + Send + 'static>(
     rt: H,
@@ -100,9 +115,7 @@ fn do_both_write<H: Threads + Wait + Copy + Drop + Send + 'static>(
     schema: &Schema,
 ) -> Result<bool, AllocError> {
     let mut sink = csv_sink(rt, alloc, output(alloc, &[])?, schema, true, 1)?;
-    let mut sender = sink.split()?;
-    let end = do_both_end(alloc, &mut sink, &mut sender, schema)?;
-    drop(sender);
+    let end = do_both_end_so(alloc, &mut sink, schema)?;
     let told = sink.into_writer().ok_or(AllocError)?.into_output();
     Ok(end && told.bytes() == b"t\na\nb\n".as_slice())
 }

@@ -50,46 +50,40 @@ where
 fn writes_beside_it<H: Threads + Wait + Copy + Send + 'static>(
     rt: H,
     alloc: Global,
+    schema: &Schema,
     flag: &Arc<AtomicU64, Global>,
     writes: &Arc<AtomicU64, Global>,
 ) -> Result<bool, AllocError> {
-    let schema = texts(alloc)?;
-    let mut sink = csv_sink(rt, alloc, waiting(flag, writes)?, &schema, true, 1)?;
-    goes_on(
-        &mut sink,
-        &schema,
-        blank_rows(alloc, 0, 4096)?,
-        flag,
-        writes,
-    )
+    let mut sink = csv_sink(rt, alloc, waiting(flag, writes)?, schema, true, 1)?;
+    goes_on(&mut sink, schema, blank_rows(alloc, 0, 4096)?, flag, writes)
 }
 
 #[test]
 fn writes_beside(rt: HostRuntime) -> Result<(), Fail> {
-    let flag = shared(rt.alloc(), 0)?;
-    let writes = shared(rt.alloc(), 0)?;
-    hold(writes_beside_it(rt, rt.alloc(), &flag, &writes))
+    let schema = texts(rt.alloc())?;
+    let (flag, writes) = (shared(rt.alloc(), 0)?, shared(rt.alloc(), 0)?);
+    hold(writes_beside_it(rt, rt.alloc(), &schema, &flag, &writes))
 }
 
 /// Whether a sink that is dropped before its end writes nothing, and its sender then takes no chunk.
 fn is_unfinished<H: Threads + Wait + Copy + Send + 'static>(
     rt: H,
     alloc: Global,
+    schema: &Schema,
     flag: &Arc<AtomicU64, Global>,
     writes: &Arc<AtomicU64, Global>,
 ) -> Result<bool, AllocError> {
-    let schema = texts(alloc)?;
-    let mut sink = csv_sink(rt, alloc, waiting(flag, writes)?, &schema, true, 1)?;
-    let mut sender = sink.split()?;
-    sink_into(&mut sink, &schema, chunk_of(alloc, 0, &["a"])?)?;
+    let mut sink = csv_sink(rt, alloc, waiting(flag, writes)?, schema, true, 1)?;
+    sink_into(&mut sink, schema, chunk_of(alloc, 0, &["a"])?)?;
+    let sender = sink.split();
     drop(sink);
-    let answer = send_into(&mut sender, &schema, chunk_of(alloc, 1, &["b"])?)?;
+    let answer = send_into(&mut sender?, schema, chunk_of(alloc, 1, &["b"])?)?;
     Ok(answer == SinkResult::Finished && writes.load(Ordering::SeqCst) == 0)
 }
 
 #[test]
 fn dropped_sink_leaves_the_writing_unfinished(rt: HostRuntime) -> Result<(), Fail> {
-    let flag = shared(rt.alloc(), 1)?;
-    let writes = shared(rt.alloc(), 0)?;
-    hold(is_unfinished(rt, rt.alloc(), &flag, &writes))
+    let schema = texts(rt.alloc())?;
+    let (flag, writes) = (shared(rt.alloc(), 1)?, shared(rt.alloc(), 0)?);
+    hold(is_unfinished(rt, rt.alloc(), &schema, &flag, &writes))
 }
