@@ -1,7 +1,7 @@
 //! A sink for which no thread can be had: its sender keeps all that it takes, and waits for nobody.
 
-use crate::made::{Counting, blank_chunks, output, row_chunks, texts};
-use crate::sinks::{ended, feed_all, hold, is_whole, one_sender, run_one};
+use crate::made::{Counting, blank_chunks, texts};
+use crate::sinks::{ended, feed_all, hold, one_sender, result_of};
 use pipe_columns::{DataChunk, Schema};
 use std::alloc::Global;
 use std::sync::atomic::{AtomicU64, Ordering};
@@ -25,10 +25,10 @@ where
     H: Threads + Wait + Copy + Send + 'static,
 {
     let room = Vec::with_capacity(alloc, 1)?;
-    let (sink, sender) = one_sender(rt, alloc, output, schema, 1, Some(TOO_LARGE))?;
+    let (sink, sender) = one_sender(rt, alloc, output, schema, Some(TOO_LARGE))?;
     let mut sender = sender;
     let kept = feed_all(&mut sender, schema, chunks) && writes.load(Ordering::SeqCst) == 0;
-    let ends = ended(sink, sender, room).result.is_ok();
+    let ends = result_of(ended(sink, sender, room)).is_ok();
     Ok(kept && ends && writes.load(Ordering::SeqCst) != 0)
 }
 
@@ -50,22 +50,4 @@ where
 #[test]
 fn chunks_wait_without_a_thread(rt: HostRuntime) -> Result<(), Fail> {
     hold(keeps_many(rt, rt.alloc()))
-}
-
-/// Whether chunks are written two and two, by their numbers, by a sink without a thread.
-fn writes_in_twos<H>(rt: H, alloc: Global) -> Result<bool, Fail>
-where
-    H: Threads + Wait + Copy + Send + 'static,
-{
-    let schema = texts(alloc)?;
-    let rows = [(3, "c"), (1, "a"), (0, "b"), (2, "d"), (5, "f")];
-    let chunks = row_chunks(alloc, &rows)?;
-    let output = output(alloc, &[])?;
-    let end = run_one(rt, alloc, output, &schema, 2, Some(TOO_LARGE), chunks)?;
-    Ok(is_whole(end, 5, b"t\na\nc\nb\nd\nf\n"))
-}
-
-#[test]
-fn order_without_a_thread(rt: HostRuntime) -> Result<(), Fail> {
-    hold(writes_in_twos(rt, rt.alloc()))
 }

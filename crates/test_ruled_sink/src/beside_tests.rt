@@ -1,7 +1,7 @@
 //! A writer that writes beside its sender.
 
 use crate::made::{Counting, blank_chunks, is_raised, texts};
-use crate::sinks::{ended, feed_all, hold, one_sender};
+use crate::sinks::{ended, feed_all, hold, one_sender, result_of};
 use pipe_columns::{DataChunk, Schema};
 use std::alloc::Global;
 use std::sync::atomic::AtomicU64;
@@ -22,10 +22,10 @@ where
     H: Threads + Wait + Copy + Send + 'static,
 {
     let room = Vec::with_capacity(alloc, 1)?;
-    let (sink, sender) = one_sender(rt, alloc, output, schema, 1, None)?;
+    let (sink, sender) = one_sender(rt, alloc, output, schema, None)?;
     let mut sender = sender;
     let written = feed_all(&mut sender, schema, chunks) && is_raised(writes);
-    Ok(ended(sink, sender, room).result.is_ok() && written)
+    Ok(result_of(ended(sink, sender, room)).is_ok() && written)
 }
 
 /// Whether a sink that counts its writes writes one chunk before it is asked to end.

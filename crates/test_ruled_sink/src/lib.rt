@@ -10,8 +10,6 @@ mod fault_tests;
 #[cfg(test)]
 mod made;
 #[cfg(test)]
-mod order_tests;
-#[cfg(test)]
 mod pair_tests;
 #[cfg(test)]
 mod pairs;

@@ -31,16 +31,6 @@ fn chunk_of(alloc: Global, chunk_index: u32, values: Vec<AnyValue>) -> Result<Da
     Ok(DataChunk { chunk_index, frame })
 }
 
-/// Chunks of a row each, with these numbers and texts.
-pub(crate) fn row_chunks(alloc: Global, rows: &[(u32, &str)]) -> Result<Vec<DataChunk>, Fail> {
-    let mut chunks = Vec::new(alloc);
-    for (number, row) in rows {
-        let values = vec![in alloc; AnyValue::Text(Text::new(alloc, row)?)]?;
-        chunks.push(chunk_of(alloc, *number, values)?)?;
-    }
-    Ok(chunks)
-}
-
 /// A chunk of so many rows without a text.
 fn blank_rows(alloc: Global, chunk_index: u32, rows: usize) -> Result<DataChunk, Fail> {
     let mut values = Vec::new(alloc);

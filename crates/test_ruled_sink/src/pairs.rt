@@ -2,7 +2,7 @@
 
 ghost use Rattle.std.specs.Prelude.{◌≡◌, ◌∷◌, ◌≤◌, [], IfOk, IfSome, vec_capacity};
 
-use crate::sinks::{Ended, feed_all};
+use crate::sinks::{feed_all, result_of};
 use pipe_columns::{DataChunk, Schema};
 use pipe_io::MemoryOutput;
 use pipe_writer::{RuledEnd, RuledFilesSink, RuledSender};
@@ -95,7 +95,7 @@ fn ended<H>(
     first: RuledSender<H>,
     second: RuledSender<H>,
     room: Vec<RuledSender<H>>,
-) -> Ended
+) -> RuledEnd<CsvBatchedWriter<MemoryOutput>>
 where
     H: Threads + Wait + Copy,
     requires senders { sink.senders ≡ 2 }
@@ -111,7 +111,7 @@ where
     sink.finalize(room)
 }
 
-/// How a sink of two senders ends that were given these chunks, each in a thread of its own.
+/// Whether a sink of two senders ends well that were given these chunks, each in a thread of its own.
 pub(crate) fn run_two<H>(
     rt: H,
     alloc: Global,
@@ -119,12 +119,12 @@ pub(crate) fn run_two<H>(
     schema: &Schema,
     chunks: Vec<DataChunk>,
     others: Vec<DataChunk>,
-) -> Result<Ended, Fail>
+) -> Result<bool, Fail>
 where
     H: Threads + Wait + Copy + Send + 'static,
 {
     let room = Vec::with_capacity(alloc, 2)?;
     let (sink, first, second) = two_senders(rt, alloc, output, schema)?;
     let (first, second) = both_fed(&rt, schema, first, chunks, second, others);
-    Ok(ended(sink, first, second, room))
+    Ok(result_of(ended(sink, first, second, room)).is_ok())
 }

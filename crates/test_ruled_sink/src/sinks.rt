@@ -5,7 +5,7 @@ ghost use Rattle.pipe_files_sink.specs.Joined.{IsWritable};
 
 use pipe_columns::{DataChunk, Schema};
 use pipe_io::{MemoryOutput, Output};
-use pipe_writer::{Arrival, RuledEnd, RuledFilesSink, RuledSender};
+use pipe_writer::{RuledEnd, RuledFilesSink, RuledSender};
 use pipe_writers::{CsvBatchedWriter, SinkWriter, WriteError, copy_schema};
 use std::alloc::Global;
 use std::sync::Wait;
@@ -26,21 +26,18 @@ fn one_of<H: Drop>(senders: Vec<RuledSender<H>>) -> Option<RuledSender<H>>
     None
 }
 
-/// A sink of CSV with the names in front, in pieces of so many chunks by their numbers, whose thread
-/// has such a stack, and its one sender.
+/// A sink of CSV with the names in front, in pieces of one chunk, whose thread has such a stack, and its one
+/// sender.
 pub(crate) fn one_sender<O, H>(
     rt: H,
     alloc: Global,
     output: O,
     schema: &Schema,
-    morsels_per_sink: usize,
     stack_size: Option<usize>,
 ) -> Result<Ruled<O, H>, Fail>
 where
     O: Output + Drop + Send + 'static,
     H: Threads + Wait + Copy + Send + 'static,
-    requires some { 0 < morsels_per_sink }
-    requires few { morsels_per_sink ≤ 4096 }
     ensures senders { IfOk result (λ r. r.0.senders ≡ 1) }
     ensures number { IfOk result (λ r. r.1.number ≡ 0) }
     ensures channel { IfOk result (λ r. r.1.channel ≡ r.0.channel) }
@@ -49,7 +46,7 @@ where
 {
     let fields = copy_schema(alloc, schema)?;
     let writer = CsvBatchedWriter::new(alloc, output, fields, true);
-    match RuledFilesSink::with_stack(rt, alloc, writer, true, morsels_per_sink, 1, stack_size) {
+    match RuledFilesSink::with_stack(rt, alloc, writer, true, 1, 1, stack_size) {
         Ok((sink, senders)) => match one_of(senders) {
             Some(sender) => Ok((sink, sender)),
             None => Err("no sender".into()),
@@ -123,68 +120,32 @@ where
     sink.finalize(room)
 }
 
-/// How a sink of CSV in memory ended.
-pub(crate) type Ended = RuledEnd<CsvBatchedWriter<MemoryOutput>>;
+/// How the writing of a sink ended.
+pub(crate) fn result_of<W: Drop>(end: RuledEnd<W>) -> Result<(), WriteError> {
+    let RuledEnd {
+        arrivals: _,
+        result,
+        writer: _,
+    } = end;
+    result
+}
 
-/// How a sink of one sender ends that was given these chunks, and whose thread has such a stack.
+/// How the writing of a sink of one sender ends that was given these chunks.
 pub(crate) fn run_one<H>(
     rt: H,
     alloc: Global,
     output: MemoryOutput,
     schema: &Schema,
-    morsels_per_sink: usize,
-    stack_size: Option<usize>,
     chunks: Vec<DataChunk>,
-) -> Result<Ended, Fail>
+) -> Result<Result<(), WriteError>, Fail>
 where
     H: Threads + Wait + Copy + Send + 'static,
-    requires some { 0 < morsels_per_sink }
-    requires few { morsels_per_sink ≤ 4096 }
 {
     let room = Vec::with_capacity(alloc, 1)?;
-    let (sink, sender) = one_sender(rt, alloc, output, schema, morsels_per_sink, stack_size)?;
+    let (sink, sender) = one_sender(rt, alloc, output, schema, None)?;
     let mut sender = sender;
     feed_all(&mut sender, schema, chunks);
-    Ok(ended(sink, sender, room))
-}
-
-/// Whether arrivals are those of the first chunks of one sender.
-fn are_first(arrivals: &[Arrival]) -> bool {
-    let mut number = 0u64;
-    for arrival in arrivals {
-        if arrival.sender != 0 || arrival.number != number {
-            return false;
-        }
-        number = number.wrapping_add(1);
-    }
-    true
-}
-
-/// Whether a sink has ended well whose sender took so many chunks, with a text.
-pub(crate) fn is_whole(end: Ended, count: usize, text: &[u8]) -> bool {
-    let RuledEnd {
-        arrivals,
-        result,
-        writer,
-    } = end;
-    result.is_ok()
-        && arrivals.len() == count
-        && are_first(arrivals.as_slice())
-        && writer.into_output().bytes() == text
-}
-
-/// Whether a sink tells of a failed output, and has written a front of a text and not all of it.
-pub(crate) fn is_cut(end: Ended, text: &[u8]) -> bool {
-    let RuledEnd {
-        arrivals,
-        result,
-        writer,
-    } = end;
-    let output = writer.into_output();
-    result == Err(WriteError::Output)
-        && are_first(arrivals.as_slice())
-        && output.bytes().len() < text.len()
-        && text.starts_with(output.bytes())
+    Ok(result_of(ended(sink, sender, room)))
 }
 
 /// Fails a test where what it asks isn't so.

@@ -2,30 +2,22 @@
 #![tactic(auto)]
 
 #[cfg(test)]
-mod edge_tests;
-#[cfg(test)]
 mod hinted;
 #[cfg(test)]
-mod long_file;
+mod hold;
+#[cfg(test)]
+mod long_tests;
+#[cfg(test)]
+mod long_texts;
 #[cfg(test)]
 mod made;
 #[cfg(test)]
 mod memory_tests;
 #[cfg(test)]
-mod named_tests;
-#[cfg(test)]
-mod piece_tests;
+mod read;
 #[cfg(test)]
 mod reader_tests;
 #[cfg(test)]
 mod real_tests;
 #[cfg(test)]
-mod round_tests;
-#[cfg(test)]
-mod shown;
-#[cfg(test)]
-mod size_tests;
-#[cfg(test)]
 mod source_tests;
-#[cfg(test)]
-mod spent_tests;

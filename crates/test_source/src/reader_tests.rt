@@ -1,102 +1,111 @@
-//! What single calls give of files in memory, whichever input call fails.
+//! How many rows readers give of files in memory, whichever input call fails, in rounds of any size by any
+//! number of threads; and chunks that are read into the memory of spent ones.
 
-use crate::made::{Asked, Named, PLAIN, THREE_ROWS, TWO_FILES};
-use crate::shown::{Way, check};
+use crate::hinted::Hinted;
+use crate::hold::hold;
+use crate::made::{Asked, PLAIN, TWO_FILES, input_of, reader_of};
+use crate::read::gives;
+use pipe_columns::DataType;
+use pipe_source::ChunkReader;
+use std::alloc::{AllocError, Global};
 use std::test::Fail;
+use std::thread::Threads;
 
-#[test]
-fn three_rows_of_two_files(rt: HostRuntime) -> Result<(), Fail> {
-    let names = &["a.csv", "b.csv", "c.csv"];
-    let asked = Asked { names, ..TWO_FILES };
-    check(&rt, rt.alloc(), &asked, Way::Calls, THREE_ROWS)
+/// Whether rounds of so many chunks give so many rows, by so many threads.
+pub(crate) fn rounds_give<H: Threads + Sync>(
+    rt: &H,
+    alloc: Global,
+    asked: &Asked,
+    failing: &[u64],
+    way: (usize, usize),
+    due: &str,
+) -> Result<bool, AllocError> {
+    let mut input = input_of(alloc, asked.files, failing, None)?;
+    gives(rt, alloc, asked, &mut input, way, due)
 }
 
-/// Each input call in turn fails, and is made again.
-#[test]
-fn no_row_is_lost(rt: HostRuntime) -> Result<(), Fail> {
+/// Both files in chunks of one row, numbered and under their file's name.
+const BY_ONE: Asked = Asked {
+    chunk_size: 1,
+    limit: None,
+    ..TWO_FILES
+};
+
+/// Whether no row is lost where each input call in turn fails, and is made again.
+fn is_no_row_lost<H: Threads + Sync>(rt: &H, alloc: Global) -> Result<bool, AllocError> {
     for call in 0..8 {
-        let failing = Some(call);
-        let asked = Asked {
-            failing,
-            ..TWO_FILES
-        };
-        check(&rt, rt.alloc(), &asked, Way::Calls, THREE_ROWS)?;
+        if !rounds_give(rt, alloc, &BY_ONE, &[call], (3, 2), "4")? {
+            return Ok(false);
+        }
     }
-    Ok(())
+    Ok(true)
 }
 
-/// A text, and what it gives in chunks of two rows.
-const TEXTS: [(&[Named], &str); 12] = [
-    (
-        &[("a", "k,v\n1,5\n2,12x\n")],
-        "Field { file: 1, row: 2, column: 2 }",
-    ),
-    (&[("a", "k,w\n")], "Header { file: 1 }"),
-    (&[("a", "")], "Header { file: 1 }"),
-    (&[("a", "k,v\n1")], "Width { file: 1, row: 1 }"),
-    (&[("a", "k,v\n1,2,3\n")], "Width { file: 1, row: 1 }"),
-    (
-        &[("a", "k,v\n\"1\",5\n\"x\",1\n")],
-        "Field { file: 1, row: 2, column: 1 }",
-    ),
-    (
-        &[("a", "k,v\n1,\"5\n")],
-        "Field { file: 1, row: 1, column: 2 }",
-    ),
-    (&[("a", "k,v\n")], ""),
-    (
-        &[("a", "\u{feff}k,v\r\n1,\r\n\r\n\r,7\r\n3,+8")],
-        "[0 k 1 _ v _ 7][1 k 3 v 8]",
-    ),
-    (&[("a", "\"k\",v\n1,\"2\"\n\n3,4")], "[0 k 1 3 v 2 4]"),
-    (&[("a", "k,v\r1,2\r3,4\r5,6")], "[0 k 1 3 v 2 4][1 k 5 v 6]"),
-    (&[("a", "\n\nk,v\n-0,-7\n")], "[0 k 0 v -7]"),
-];
-
-#[test]
-fn texts_of_one_file(rt: HostRuntime) -> Result<(), Fail> {
-    for (files, due) in TEXTS {
-        let asked = Asked { files, ..PLAIN };
-        check(&rt, rt.alloc(), &asked, Way::Calls, due)?;
+/// Whether rounds of any size, read in any number of threads, give all rows.
+fn do_rounds_give_all<H: Threads + Sync>(rt: &H, alloc: Global) -> Result<bool, AllocError> {
+    for count in 1..6 {
+        for threads in 1..4 {
+            if !rounds_give(rt, alloc, &BY_ONE, &[], (count, threads), "4")? {
+                return Ok(false);
+            }
+        }
     }
-    Ok(())
+    Ok(true)
 }
 
-/// Three files, of which the first has a row that doesn't read, and the last has none.
-const FILES: [Named; 3] = [
-    ("a", "k,v\n1,5\n2,x\n"),
-    ("b", "k,v\n3,4\n"),
-    ("c", "k,v\n"),
-];
-
-/// Names of them and of one that isn't there, how many rows are wanted, and what they give.
-const NAMED: [(&[&str], Option<usize>, &str); 4] = [
-    (
-        &["b", "c", "b", "a"],
-        Some(3),
-        "[0 k 3 v 4][1 k 3 v 4][2 k 1 v 5]",
-    ),
-    (
-        &["c", "b", "a", "b"],
-        None,
-        "[0 k 3 v 4]Field { file: 3, row: 2, column: 2 }",
-    ),
-    (&["b", "d"], None, "[0 k 3 v 4]Missing { file: 2 }"),
-    (&["b", "d"], Some(1), "[0 k 3 v 4]"),
-];
-
-/// Rows past the limit and files past it are not looked at; others are refused where they come.
 #[test]
-fn files_up_to_a_stop(rt: HostRuntime) -> Result<(), Fail> {
-    for (names, limit, due) in NAMED {
-        let asked = Asked {
-            files: &FILES,
-            names,
-            chunk_size: 9,
-            limit,
-            ..PLAIN
-        };
-        check(&rt, rt.alloc(), &asked, Way::Calls, due)?;
+fn rounds_of_any_size_lose_no_row(rt: HostRuntime) -> Result<(), Fail> {
+    hold(is_no_row_lost(&rt, rt.alloc()))?;
+    hold(do_rounds_give_all(&rt, rt.alloc()))
+}
+
+/// Texts that are longer and shorter than those before them, quoted, missing and not ASCII.
+const TEXTS: Asked = Asked {
+    files: &[(
+        "a",
+        "t,v\na text that is longer than all others,1\nb,2\n\"c,d\",3\n,4\n\u{c4},\ne,6\nf,7\n",
+    )],
+    columns: &[("t", DataType::String), ("v", DataType::Int64)],
+    ..PLAIN
+};
+
+/// Reads a chunk and hands it back; how many rows it had.
+fn hand_back(
+    alloc: Global,
+    reader: &mut ChunkReader,
+    input: &mut Hinted,
+) -> Result<usize, AllocError> {
+    let Ok(Some(chunk)) = reader.next_chunk(alloc, input) else {
+        return Err(AllocError);
+    };
+    let rows = chunk.frame.height();
+    reader.take_back(vec![in alloc; chunk]?);
+    Ok(rows)
+}
+
+/// Whether four chunks are read, each handed back before the one behind it. Then the last is given up, and
+/// none.
+fn are_spent(
+    alloc: Global,
+    reader: &mut ChunkReader,
+    input: &mut Hinted,
+) -> Result<bool, AllocError> {
+    for rows in [2, 2, 2, 1] {
+        if hand_back(alloc, reader, input)? != rows {
+            return Ok(false);
+        }
     }
-    Ok(())
+    Ok(reader.give_up(alloc).len() == 1 && reader.give_up(alloc).is_empty())
+}
+
+/// Whether that is so of a new reader.
+fn does_spend(alloc: Global, input: &mut Hinted) -> Result<bool, AllocError> {
+    let mut reader = reader_of(alloc, &TEXTS)?;
+    are_spent(alloc, &mut reader, input)
+}
+
+#[test]
+fn texts_in_spent_memory(rt: HostRuntime) -> Result<(), Fail> {
+    let mut input = input_of(rt.alloc(), TEXTS.files, &[], None)?;
+    hold(does_spend(rt.alloc(), &mut input))
 }

@@ -1,80 +1,142 @@
 //! A real file of more than a megabyte, which threads read in parts and look over in pieces, and
 //! as much on standard input.
 
-use crate::long_file::{count_in_order, text_of_rows};
+ghost use Rattle.std.specs.Prelude.{◌<◌};
+
+use crate::hold::hold;
+use crate::long_texts::{ROWS, text_of_rows};
 use crate::made::{Asked, PLAIN, reader_of};
-use pipe_io::RealFiles;
+use pipe_columns::{AnyValue, DataChunk};
+use pipe_io::{InputFiles, RealFiles};
 use pipe_source::ChunkReader;
-use std::alloc::Global;
+use std::alloc::{AllocError, Global};
 use std::fs::{self, File, Files};
 use std::test::Fail;
 use std::thread::Threads;
 
-/// The rows of the file, each of 8 bytes at least.
-const ROWS: u32 = 150000;
-
-/// The file, in chunks of many rows.
+/// A file whose columns are found by their names, in chunks of many rows.
 const LARGE: Asked = Asked {
     names: &["large.csv"],
     chunk_size: 7000,
+    by_name: true,
     ..PLAIN
 };
 
-/// Standard input, whose columns are found by their names.
+/// The same on standard input.
 const INPUT: Asked = Asked {
     names: &["-"],
-    by_name: true,
     ..LARGE
 };
 
-/// Writes the file; how many bytes it has.
-fn write_rows<H: Files>(rt: &H, alloc: Global) -> Result<usize, Fail> {
-    let text = text_of_rows(alloc, ROWS, "")?;
-    fs::write(rt, "large.csv", text.as_str())?;
-    Ok(text.as_str().len())
+/// How many values of two columns are those of the rows from a number on, in order.
+fn values_in_order(keys: &[AnyValue], values: &[AnyValue], first: usize) -> usize {
+    let mut count: usize = 0;
+    for (i, value) in values.iter().enumerate() {
+        let row = first.wrapping_add(i) as i128;
+        let is_key = keys.get(i) == Some(&AnyValue::Int(row % 97));
+        if is_key && *value == AnyValue::Int(row.wrapping_add(100000)) {
+            count = count.wrapping_add(1);
+        }
+    }
+    count
 }
 
-/// How many rows a reader gives in order of real files, or of an input, read by so many threads.
-fn rows_of_reader<H: Files<File = File> + Threads + Sync>(
+/// How many rows of chunks, behind so many, come in order, with these.
+fn count_behind(chunks: &[DataChunk], before: usize) -> usize {
+    let mut count = before;
+    for chunk in chunks {
+        if let [keys, values] = chunk.frame.columns() {
+            let more = values_in_order(keys.values(), values.values(), count);
+            count = count.wrapping_add(more);
+        }
+    }
+    count
+}
+
+/// Counts the rows of the next three chunks that come in order; whether more may come.
+fn count_round<I: InputFiles, H: Threads + Sync>(
+    rt: &H,
+    alloc: Global,
+    reader: &mut ChunkReader,
+    input: &mut I,
+    threads: usize,
+    count: &mut usize,
+) -> bool
+    requires { 0 < threads }
+{
+    let Ok(chunks) = reader.get_round(rt, alloc, input, 3, threads) else {
+        return false;
+    };
+    *count = count_behind(&chunks, *count);
+    let has_more = chunks.len() == 3;
+    reader.take_back(chunks);
+    has_more
+}
+
+/// Whether all rows come in order, read in rounds of three chunks by so many threads.
+fn do_come<I: InputFiles, H: Threads + Sync>(
+    rt: &H,
+    alloc: Global,
+    reader: &mut ChunkReader,
+    input: &mut I,
+    threads: usize,
+) -> bool {
+    let mut count: usize = 0;
+    if threads == 0 {
+        return false;
+    }
+    for _ in 0..1000 {
+        if !count_round(rt, alloc, reader, input, threads, &mut count) {
+            break;
+        }
+    }
+    count == ROWS
+}
+
+/// Whether all rows come in order to a reader of real files, or of standard input.
+fn do_real_come<H: Files<File = File> + Threads + Sync>(
     rt: &H,
     alloc: Global,
     reader: &mut ChunkReader,
     stdin: &[u8],
     threads: usize,
-) -> Result<usize, Fail> {
+) -> bool {
     let mut input = RealFiles::new(rt, stdin);
-    count_in_order(rt, alloc, &mut input, reader, threads)
+    do_come(rt, alloc, reader, &mut input, threads)
 }
 
-/// How many rows come in order, read by so many threads.
-fn rows_by_threads<H: Files<File = File> + Threads + Sync>(
+/// Whether they come to a new reader.
+fn do_rows_come<H: Files<File = File> + Threads + Sync>(
     rt: &H,
     alloc: Global,
     asked: &Asked,
     stdin: &[u8],
     threads: usize,
-) -> Result<usize, Fail> {
+) -> Result<bool, AllocError> {
     let mut reader = reader_of(alloc, asked)?;
-    rows_of_reader(rt, alloc, &mut reader, stdin, threads)
+    Ok(do_real_come(rt, alloc, &mut reader, stdin, threads))
 }
 
-#[test]
-fn large_files_are_read_by_any_number_of_threads(rt: HostRuntime) -> Result<(), Fail> {
-    assert!(rt; write_rows(&rt, rt.alloc())? > 1 << 20);
-    for threads in 1..6 {
-        let count = rows_by_threads(&rt, rt.alloc(), &LARGE, b"", threads)?;
-        assert!(rt; count == ROWS as usize, "{threads} {count}");
+/// Whether they come, read by any number of threads.
+fn do_all_come<H: Files<File = File> + Threads + Sync>(
+    rt: &H,
+    alloc: Global,
+    stdin: &[u8],
+) -> Result<bool, AllocError> {
+    for asked in [&LARGE, &INPUT] {
+        for threads in 1..6 {
+            if !do_rows_come(rt, alloc, asked, stdin, threads)? {
+                return Ok(false);
+            }
+        }
     }
-    Ok(())
+    Ok(stdin.len() > 1 << 20)
 }
 
+/// Standard input is begun once.
 #[test]
-fn standard_input_is_begun_once(rt: HostRuntime) -> Result<(), Fail> {
-    let text = text_of_rows(rt.alloc(), ROWS, "")?;
-    for threads in 1..6 {
-        let stdin = text.as_str().as_bytes();
-        let count = rows_by_threads(&rt, rt.alloc(), &INPUT, stdin, threads)?;
-        assert!(rt; count == ROWS as usize, "{threads} {count}");
-    }
-    Ok(())
+fn files_and_standard_input_are_read_by_any_number_of_threads(rt: HostRuntime) -> Result<(), Fail> {
+    let text = text_of_rows(rt.alloc())?;
+    fs::write(&rt, "large.csv", text.as_str())?;
+    hold(do_all_come(&rt, rt.alloc(), text.as_str().as_bytes()))
 }

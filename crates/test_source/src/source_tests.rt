@@ -1,67 +1,81 @@
-//! A source over two files, by single calls and by rounds, whichever input call fails.
+//! Sources over two files, by single calls and by rounds, whichever input call fails.
 
-use crate::made::{Asked, PLAIN, TWO_FILES};
-use crate::shown::{Way, check};
+use crate::hinted::Hinted;
+use crate::hold::hold;
+use crate::made::{Asked, TWO_FILES, input_of, source_of, source_without_first};
+use crate::read::{NOTHING, is_due, read_source};
+use pipe_columns::DataType;
+use pipe_source::CsvSource;
+use std::alloc::{AllocError, Global};
 use std::test::Fail;
+use std::thread::Threads;
 
-/// The rows of both files in chunks of two, numbered and under their file's name, of which three are
-/// wanted; then the source's name.
-const THREE_ROWS: &str = "[0 i 0 1 k 1 2 v 5 6 p a.csv a.csv][1 i 2 k 1 v 7 p b.csv]csv";
-
-#[test]
-fn single_calls_give_three_rows_of_two_files(rt: HostRuntime) -> Result<(), Fail> {
-    for call in 0..8 {
-        let failing = Some(call);
-        let asked = Asked {
-            failing,
-            ..TWO_FILES
-        };
-        check(&rt, rt.alloc(), &asked, Way::Source, THREE_ROWS)?;
-    }
-    Ok(())
+/// Whether single calls of a source give three rows of an input.
+fn gives_three(alloc: Global, asked: &Asked, input: &mut Hinted) -> Result<bool, AllocError> {
+    let mut read = NOTHING;
+    let mut source = source_of(alloc, input, asked)?;
+    let end = read_source(&mut read, &mut source);
+    drop(source);
+    is_due(alloc, end, read, "3")
 }
 
-/// Both files in chunks of one row, of which the values are wanted.
-const VALUES: Asked = Asked {
-    chunk_size: 1,
-    limit: None,
-    first_number: None,
-    has_path: false,
-    wanted: Some(&[false]),
+/// Whether they do where input calls fail.
+pub(crate) fn calls_give_three(
+    alloc: Global,
+    asked: &Asked,
+    failing: &[u64],
+) -> Result<bool, AllocError> {
+    let mut input = input_of(alloc, asked.files, failing, None)?;
+    gives_three(alloc, asked, &mut input)
+}
+
+/// Two files of which three rows are wanted, numbered and under their file's name. Columns are found by
+/// their names, and nothing behind the third row is looked at.
+const BY_NAME: Asked = Asked {
+    files: &[("a", "t,n\na,1\nb,2\n"), ("b", "n,t\n3,c\nx,d\n")],
+    names: &["a", "b"],
+    columns: &[("n", DataType::Int64), ("t", DataType::String)],
+    by_name: true,
     ..TWO_FILES
 };
 
-/// These values.
-const FOUR_VALUES: &str = "[0 v 5][1 v 6][2 v 7][3 v 9]";
+/// Whether sources lose no row where each input call in turn fails.
+fn is_no_row_lost(alloc: Global) -> Result<bool, AllocError> {
+    for asked in [&TWO_FILES, &BY_NAME] {
+        for call in 0..8 {
+            if !calls_give_three(alloc, asked, &[call])? {
+                return Ok(false);
+            }
+        }
+    }
+    Ok(true)
+}
+
+#[test]
+fn sources_lose_no_row(rt: HostRuntime) -> Result<(), Fail> {
+    hold(is_no_row_lost(rt.alloc()))
+}
+
+/// Whether a round of a source gives two chunks, by two threads.
+fn gives_two<H: Threads + Sync>(rt: &H, source: &mut CsvSource<'_, Hinted>) -> bool {
+    match source.get_round(rt, 5, 2) {
+        Ok(chunks) => chunks.len() == 2,
+        Err(_) => false,
+    }
+}
+
+/// Whether that is so of a source of values.
+fn does_round_give<H: Threads + Sync>(
+    rt: &H,
+    alloc: Global,
+    input: &mut Hinted,
+) -> Result<bool, AllocError> {
+    let mut source = source_without_first(alloc, input, &TWO_FILES)?;
+    Ok(gives_two(rt, &mut source))
+}
 
 #[test]
 fn rounds_give_the_values_of_two_files(rt: HostRuntime) -> Result<(), Fail> {
-    for count in 1..6 {
-        for call in 0..8 {
-            let failing = Some(call);
-            let asked = Asked { failing, ..VALUES };
-            check(
-                &rt,
-                rt.alloc(),
-                &asked,
-                Way::SourceRounds(count),
-                FOUR_VALUES,
-            )?;
-        }
-    }
-    Ok(())
-}
-
-/// Two files in chunks of one row, of which the second has a field that does not read.
-const UNFIT: Asked = Asked {
-    files: &[("a.csv", "k,v\n1,5\n"), ("b.csv", "k,v\n2,6\n3,x\n")],
-    names: &["a.csv", "b.csv"],
-    chunk_size: 1,
-    ..PLAIN
-};
-
-#[test]
-fn a_file_that_does_not_fit_gives_no_row(rt: HostRuntime) -> Result<(), Fail> {
-    let due = "[0 k 1 v 5]Field { file: 2, row: 2, column: 2 }";
-    check(&rt, rt.alloc(), &UNFIT, Way::Source, due)
+    let mut input = input_of(rt.alloc(), TWO_FILES.files, &[], None)?;
+    hold(does_round_give(&rt, rt.alloc(), &mut input))
 }

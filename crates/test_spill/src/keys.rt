@@ -1,9 +1,8 @@
-//! The codes of the worked rows, of the edges of each type, and bytes that are no code.
+//! The codes of the edges of each type, and the partitions of keys.
 
-ghost use Rattle.pipe_spill.specs.KeyTypes.{AreOfTypes};
-
+use crate::hold::hold;
 use pipe_columns::{AnyValue, DataType, Text};
-use pipe_spill::{DecodeError, decode_key, encode_key, encode_key_into, fold, partition_of};
+use pipe_spill::{encode_key, fold, partition_of};
 use std::alloc::{AllocError, Global};
 use std::test::Fail;
 
@@ -26,47 +25,15 @@ fn value_of(alloc: Global, seen: Seen) -> Result<AnyValue, AllocError> {
     }
 }
 
-/// Whether values have this code, also where it is written into a buffer in the place of what stood
-/// there.
-fn have_code(
+/// Whether a value has this code.
+fn has_code(
     alloc: Global,
-    values: &[AnyValue],
-    types: &[DataType],
-    code: &[u8],
-) -> Result<bool, AllocError>
-    requires { AreOfTypes types.now values.now }
-{
-    let key = encode_key(alloc, values, types)?;
-    let mut buffer = Vec::from_slice(alloc, b"what stood there")?;
-    encode_key_into(&mut buffer, values, types)?;
-    Ok(key.as_slice() == code && buffer.as_slice() == code)
-}
-
-/// Whether a code is read as these values.
-fn are_read(
-    alloc: Global,
-    code: &[u8],
-    types: &[DataType],
-    values: &[AnyValue],
-) -> Result<bool, DecodeError> {
-    let read = decode_key(alloc, code, types)?;
-    Ok(read.as_slice() == values)
-}
-
-/// Whether a value has this code, and the code is read as the value.
-fn goes_both_ways(
-    alloc: Global,
-    seen: Seen,
+    value: AnyValue,
     dtype: DataType,
     code: &[u8],
-) -> Result<bool, DecodeError> {
-    let values = [value_of(alloc, seen)?];
-    let types = [dtype];
-    Ok(
-        values[0].fits(dtype)
-            && have_code(alloc, &values, &types, code)?
-            && are_read(alloc, code, &types, &values)?,
-    )
+) -> Result<bool, AllocError> {
+    let values = [value];
+    Ok(values[0].fits(dtype) && encode_key(alloc, &values, &[dtype])?.as_slice() == code)
 }
 
 /// Values of each type, and their codes: numbers at the edges and about the middle, no value, truths and texts.
@@ -190,28 +157,14 @@ const KEYS: [(Seen, DataType, &[u8]); 49] = [
     ),
 ];
 
-#[test]
-fn keys_go_both_ways(rt: HostRuntime) -> Result<(), Fail> {
-    for (place, (seen, dtype, code)) in KEYS.iter().enumerate() {
-        assert!(rt;
-            goes_both_ways(rt.alloc(), *seen, *dtype, code)?,
-            "key {place}"
-        );
+/// Whether each value has its code.
+fn have_codes(alloc: Global) -> Result<bool, AllocError> {
+    for (seen, dtype, code) in &KEYS {
+        if !has_code(alloc, value_of(alloc, *seen)?, *dtype, code)? {
+            return Ok(false);
+        }
     }
-    Ok(())
-}
-
-/// Whether null and 258 have the code of a key of two types, and it is read as these.
-fn is_tuple(alloc: Global, code: &[u8]) -> Result<bool, DecodeError> {
-    let types = [DataType::Int64, DataType::Int16];
-    let values = [AnyValue::Null, AnyValue::Int(258)];
-    Ok(have_code(alloc, &values, &types, code)? && are_read(alloc, code, &types, &values)?)
-}
-
-#[test]
-fn tuples(rt: HostRuntime) -> Result<(), Fail> {
-    assert!(rt; are_read(rt.alloc(), b"", &[], &[])? && is_tuple(rt.alloc(), b"\x00\x01\x81\x02")?);
-    Ok(())
+    Ok(true)
 }
 
 /// Whether a key has this fold, and these partitions of 16 and of 2.
@@ -219,47 +172,16 @@ fn has_partitions(key: &[u8], number: u64, of_16: usize, of_2: usize) -> bool {
     fold(key) == number && partition_of(key, 16) == of_16 && partition_of(key, 2) == of_2
 }
 
-#[test]
-fn partitions(rt: HostRuntime) {
-    let folds = has_partitions(b"\x01a\x00\x00", 123008, 0, 0)
+/// Whether keys have their folds and partitions.
+fn have_partitions() -> bool {
+    has_partitions(b"\x01a\x00\x00", 123008, 0, 0)
         && has_partitions(b"\x01b\x00\x00", 123969, 1, 1)
         && fold(b"") == 0
-        && partition_of(b"\x01\x80\x00\x00\x00\x00\x00\x00\x02", 16) == 3;
-    assert!(rt; folds);
+        && partition_of(b"\x01\x80\x00\x00\x00\x00\x00\x00\x02", 16) == 3
 }
-
-/// Whether bytes are read as no key of the types.
-fn are_no_key(alloc: Global, bytes: &[u8], types: &[DataType]) -> bool {
-    let read = decode_key(alloc, bytes, types);
-    matches!(read, Err(DecodeError::NotAKey))
-}
-
-/// Bytes that are no key of a type.
-const NO_KEYS: [(&[u8], &[DataType]); 19] = [
-    (b"\x00", &[]),
-    (b"", &[DataType::Int8]),
-    (b"\x02", &[DataType::Boolean]),
-    (b"\x02\x80", &[DataType::Int8]),
-    (b"\x00\x00", &[DataType::Int8]),
-    (b"\x01", &[DataType::Int8]),
-    (b"\x01\x80\x00", &[DataType::Int8]),
-    (b"\x01\x80", &[DataType::Int16]),
-    (b"\x01\x80\x00\x00\x00\x00\x00\x00", &[DataType::Int64]),
-    (b"\x01\x80\x00\x00\x00\x00\x00\x00\x00", &[DataType::Date]),
-    (b"\x01", &[DataType::Boolean]),
-    (b"\x01\x02", &[DataType::Boolean]),
-    (b"\x01\x01\x00", &[DataType::Boolean]),
-    (b"\x01", &[DataType::String]),
-    (b"\x01a", &[DataType::String]),
-    (b"\x01a\x00", &[DataType::String]),
-    (b"\x01\x00\x02\x00\x00", &[DataType::String]),
-    (b"\x01a\x00\x00\x00", &[DataType::String]),
-    (b"\x01\xff\x00\x00", &[DataType::String]),
-];
 
 #[test]
-fn no_keys(rt: HostRuntime) {
-    for (bytes, types) in &NO_KEYS {
-        assert!(rt; are_no_key(rt.alloc(), bytes, types), "{bytes:?}");
-    }
+fn keys_have_codes_and_partitions(rt: HostRuntime) -> Result<(), Fail> {
+    hold(have_codes(rt.alloc()))?;
+    hold(Ok(have_partitions()))
 }

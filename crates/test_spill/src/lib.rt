@@ -4,13 +4,11 @@
 #[cfg(test)]
 mod frames;
 #[cfg(test)]
+mod hold;
+#[cfg(test)]
 mod keys;
 #[cfg(test)]
 mod memory_tests;
-#[cfg(test)]
-mod no_frames;
-#[cfg(test)]
-mod program_stores;
 #[cfg(test)]
 mod short_files;
 #[cfg(test)]

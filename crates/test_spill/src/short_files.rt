@@ -1,5 +1,6 @@
 //! Stores over a file system whose files take few bytes and then fail.
 
+use crate::hold::hold;
 use crate::stores::{write_get, write_put};
 use pipe_columns::Text;
 use pipe_spill::FileStore;
@@ -165,6 +166,20 @@ fn write_line<'a>(
     }
 }
 
+/// Writes what a store answers to calls.
+fn write_all_lines<'a>(
+    rt: HostRuntime,
+    lines: &mut String,
+    store: &mut FileStore<ShortFiles<'a>>,
+    room: &Cell<Room>,
+    calls: &[Call],
+) -> Result<(), Fail> {
+    for call in calls {
+        write_line(rt, lines, store, room, call)?;
+    }
+    Ok(())
+}
+
 /// The store of partition 0 in a folder of such files.
 fn short_store<'a>(
     rt: HostRuntime,
@@ -189,24 +204,21 @@ fn write_lines(
         fault,
     });
     let mut store = short_store(rt, dir, &room)?;
-    for call in calls {
-        write_line(rt, lines, &mut store, &room, call)?;
-    }
-    Ok(())
+    write_all_lines(rt, lines, &mut store, &room, calls)
 }
 
-/// Whether a store in a new folder answers these lines to calls.
-fn answers(
+/// Asserts that a store in a new folder answers these lines to calls.
+fn assert_answers(
     rt: HostRuntime,
+    lines: &mut String,
     dir: &str,
     fault: ErrorKind,
     calls: &[Call],
     want: &str,
-) -> Result<bool, Fail> {
+) -> Result<(), Fail> {
     fs::create_dir(&rt, dir)?;
-    let mut lines = String::new(rt.alloc());
-    write_lines(rt, &mut lines, dir, fault, calls)?;
-    Ok(lines.as_str() == want)
+    write_lines(rt, lines, dir, fault, calls)?;
+    hold(Ok(lines.as_str() == want))
 }
 
 /// Calls of which the second finds too little room.
@@ -223,8 +235,8 @@ const REFUSED: [Call; 6] = [
 fn a_refused_put_spoils_nothing(rt: HostRuntime) -> Result<(), Fail> {
     let want = "put Ok(0)\nput Err(Failed)\nget Ok(()) first\n\
         put Ok(1)\nget Ok(()) next\nget Ok(()) first\n";
-    assert!(rt; answers(rt, "short", ErrorKind::Other, &REFUSED, want)?);
-    Ok(())
+    let mut lines = String::new(rt.alloc());
+    assert_answers(rt, &mut lines, "short", ErrorKind::Other, &REFUSED, want)
 }
 
 /// Calls of a file that takes no byte at once, and then of one that does, but is cut before the second frame is read.
@@ -242,6 +254,13 @@ const STARVED: [Call; 7] = [
 fn files_that_take_or_give_too_little(rt: HostRuntime) -> Result<(), Fail> {
     let want = "put Err(Failed)\nput Err(Memory)\nput Ok(0)\nget Ok(()) \n\
         put Ok(1)\nget Err(Failed) \n";
-    assert!(rt; answers(rt, "starved", ErrorKind::OutOfMemory, &STARVED, want)?);
-    Ok(())
+    let mut lines = String::new(rt.alloc());
+    assert_answers(
+        rt,
+        &mut lines,
+        "starved",
+        ErrorKind::OutOfMemory,
+        &STARVED,
+        want,
+    )
 }

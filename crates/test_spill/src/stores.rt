@@ -3,6 +3,7 @@
 ghost use Rattle.std.specs.Prelude.{◌≡◌, IfOk};
 ghost use Rattle.pipe_spill.specs.FileStore.{held_of};
 
+use crate::hold::hold;
 use pipe_columns::Text;
 use pipe_spill::{FileStore, MemoryStore, SpillStore};
 use std::alloc::{AllocError, Global};
@@ -62,59 +63,20 @@ fn answers<S: SpillStore>(alloc: Global, store: &mut S, want: &str) -> Result<bo
     Ok(lines.as_str() == want)
 }
 
-/// Whether a store lends just these frames.
-fn are_lent(store: &MemoryStore, frames: &[&str]) -> bool {
-    for (held, frame) in store.frames().iter().zip(frames) {
-        if held.as_slice() != frame.as_bytes() {
-            return false;
-        }
-    }
-    store.frames().len() == frames.len()
+/// Whether a store in memory of which the third call fails gives what it was put, and lends it.
+fn gives_and_lends(alloc: Global, store: &mut MemoryStore) -> Result<bool, AllocError> {
+    let want = "put Ok(0)\nput Ok(1)\nget Err(Failed) \nget Ok(()) second\n";
+    Ok(
+        answers(alloc, store, want)?
+            && store.frames().len() == 2
+            && store.frames()[1].as_slice() == b"second".as_slice(),
+    )
 }
-
-/// Whether a store in memory of which one call fails answers these lines, and lends these frames.
-fn holds_frames(
-    alloc: Global,
-    failing: u64,
-    want: &str,
-    frames: &[&str],
-) -> Result<bool, AllocError> {
-    let mut store = MemoryStore::new(alloc, Vec::from_slice(alloc, &[failing])?);
-    Ok(answers(alloc, &mut store, want)? && are_lent(&store, frames))
-}
-
-/// Numbers of calls that fail, what the store answers then, and the frames that it lends.
-const FAILING: [(u64, &str, &[&str]); 5] = [
-    (
-        9,
-        "put Ok(0)\nput Ok(1)\nget Ok(()) one\nget Ok(()) second\n",
-        &["one", "second"],
-    ),
-    (
-        0,
-        "put Err(Failed)\nput Ok(0)\nget Ok(()) second\n",
-        &["second"],
-    ),
-    (1, "put Ok(0)\nput Err(Failed)\nget Ok(()) one\n", &["one"]),
-    (
-        2,
-        "put Ok(0)\nput Ok(1)\nget Err(Failed) \nget Ok(()) second\n",
-        &["one", "second"],
-    ),
-    (
-        3,
-        "put Ok(0)\nput Ok(1)\nget Ok(()) one\nget Err(Failed) \n",
-        &["one", "second"],
-    ),
-];
 
 #[test]
-fn listed_calls_of_a_store_fail(rt: HostRuntime) -> Result<(), Fail> {
-    for (failing, want, frames) in &FAILING {
-        let holds = holds_frames(rt.alloc(), *failing, want, frames)?;
-        assert!(rt; holds, "call {failing} fails");
-    }
-    Ok(())
+fn a_listed_call_of_a_store_fails(rt: HostRuntime) -> Result<(), Fail> {
+    let failing = Vec::from_slice(rt.alloc(), &[2])?;
+    hold(gives_and_lends(rt.alloc(), &mut MemoryStore::new(rt.alloc(), failing)))
 }
 
 /// Takes a store that threads may share behind a lock.
@@ -139,9 +101,10 @@ fn file_answers(rt: HostRuntime, dir: &str, want: &str) -> Result<bool, AllocErr
     answers(rt.alloc(), &mut store, want)
 }
 
-/// Whether a file holds this text.
-pub(crate) fn holds(rt: HostRuntime, path: &str, want: &str) -> Result<bool, Fail> {
-    Ok(fs::read_to_string(&rt, path)?.as_str() == want)
+/// Asserts that a file holds this text.
+fn assert_holds(rt: HostRuntime, path: &str, want: &str) -> Result<(), Fail> {
+    let text = fs::read_to_string(&rt, path)?;
+    hold(Ok(text.as_str() == want))
 }
 
 #[test]
@@ -149,38 +112,39 @@ fn frames_in_a_file_are_read_back(rt: HostRuntime) -> Result<(), Fail> {
     let both = "put Ok(0)\nput Ok(1)\nget Ok(()) one\nget Ok(()) second\n";
     fs::create_dir(&rt, "spills")?;
     fs::write(&rt, "spills/partition-3.spill", "of a former run")?;
-    let answers = file_answers(rt, "spills", both)?;
-    assert!(rt; answers && holds(rt, "spills/partition-3.spill", "onesecond")?);
-    Ok(())
+    hold(file_answers(rt, "spills", both))?;
+    assert_holds(rt, "spills/partition-3.spill", "onesecond")
+}
+
+/// Whether no file was made where the folders are absent.
+fn is_none_made(rt: HostRuntime) -> bool {
+    fs::metadata(&rt, "/partition-3.spill").is_err()
+        && fs::metadata(&rt, "partition-3.spill").is_err()
 }
 
 #[test]
 fn folders_that_are_absent(rt: HostRuntime) -> Result<(), Fail> {
     let refused = "put Err(Failed)\nput Err(Failed)\n";
-    let answers = file_answers(rt, "absent", refused)? && file_answers(rt, "", refused)?;
-    let none = fs::metadata(&rt, "/partition-3.spill").is_err()
-        && fs::metadata(&rt, "partition-3.spill").is_err();
-    assert!(rt; answers && none);
-    Ok(())
+    hold(file_answers(rt, "absent", refused))?;
+    hold(file_answers(rt, "", refused))?;
+    hold(Ok(is_none_made(rt)))
 }
 
-/// Whether a store answers these lines when its file with one frame was taken away.
-fn answers_without_file(
+/// Asserts what a store answers when its file with one frame was taken away.
+fn assert_answers_without_file(
     rt: HostRuntime,
     store: &mut FileStore<HostRuntime>,
-    want: &str,
-) -> Result<bool, Fail>
+) -> Result<(), Fail>
     requires { held_of store.old.frames ≡ 0 }
 {
     store.put(b"frame")?;
     fs::remove_file(&rt, "./partition-7.spill")?;
-    Ok(answers(rt.alloc(), store, want)?)
+    let refused = "put Err(Failed)\nput Err(Failed)\nget Err(Failed) \n";
+    hold(answers(rt.alloc(), store, refused))
 }
 
 #[test]
 fn a_file_that_was_taken_away(rt: HostRuntime) -> Result<(), Fail> {
-    let refused = "put Err(Failed)\nput Err(Failed)\nget Err(Failed) \n";
     let mut store = file_store(rt, ".", 7)?;
-    assert!(rt; answers_without_file(rt, &mut store, refused)?);
-    Ok(())
+    assert_answers_without_file(rt, &mut store)
 }

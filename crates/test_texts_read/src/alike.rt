@@ -1,6 +1,7 @@
 //! Texts that are scanned, and read by `csv`.
 
-use csv::{ByteRecord, ReaderBuilder};
+use crate::hold::hold;
+use csv::{ByteRecord, Reader, ReaderBuilder};
 use pipe_scan::{Row, Stops, next_row, text_start};
 use std::alloc::{AllocError, Global};
 use std::test::Fail;
@@ -19,24 +20,22 @@ const TEXTS: [(usize, usize); 7] = [
     (6, 262144),
 ];
 
-/// A text of so many of the bytes, told by its number, between two others.
-fn text_between(
-    alloc: Global,
+/// Lays so many of the bytes, told by their number, between two texts.
+fn lay_between(
+    text: &mut Vec<u8>,
     front: &[u8],
     length: usize,
     number: usize,
     back: &[u8],
-) -> Result<Vec<u8>, AllocError> {
-    let mut text = Vec::from_slice(alloc, front)?;
+) -> Result<(), AllocError> {
+    text.clear();
+    text.extend_from_slice(front)?;
     let mut left = number;
     for _ in 0..length {
-        if text.push(BYTES[left % 8]).is_err() {
-            return Err(AllocError);
-        }
+        text.push(BYTES[left % 8])?;
         left /= 8;
     }
-    text.extend_from_slice(back)?;
-    Ok(text)
+    text.extend_from_slice(back)
 }
 
 /// Whether the fields of a record are those that lie in a text.
@@ -52,25 +51,24 @@ fn are_fields(record: &ByteRecord, text: &[u8], start: usize, ends: &[usize]) ->
     record.len() == ends.len()
 }
 
-/// Whether a text of few fields is scanned as `csv` reads it.
-fn reads_alike(alloc: Global, text: &[u8]) -> Result<bool, AllocError> {
-    let mut reader = ReaderBuilder::new()
-        .has_headers(false)
-        .flexible(true)
-        .from_reader(alloc, text);
-    let mut record = ByteRecord::new(alloc);
+/// Whether the rows of a text, few of few fields, are scanned as `csv` reads them.
+fn are_rows_alike(
+    text: &[u8],
+    reader: &mut Reader<&[u8]>,
+    record: &mut ByteRecord,
+    row: &mut ByteRecord,
+    field: &mut Vec<u8>,
+) -> Result<bool, AllocError> {
     let mut stops = Stops::new(text_start(text));
     let mut ends = [0; 8];
-    let mut row = ByteRecord::new(alloc);
-    let mut field = Vec::new(alloc);
     for _ in 0..8 {
-        let Ok(found) = reader.read_byte_record(&mut record) else {
+        let Ok(found) = reader.read_byte_record(record) else {
             return Err(AllocError);
         };
-        let same = match next_row(text, &mut stops, &mut ends, &mut row, &mut field)? {
+        let same = match next_row(text, &mut stops, &mut ends, row, field)? {
             Row::End => return Ok(!found),
-            Row::Plain { start, count } => are_fields(&record, text, start, &ends[..count]),
-            Row::Quoted => row == record,
+            Row::Plain { start, count } => are_fields(record, text, start, &ends[..count]),
+            Row::Quoted => *row == *record,
             Row::Wide => false,
         };
         if !found || !same {
@@ -80,17 +78,30 @@ fn reads_alike(alloc: Global, text: &[u8]) -> Result<bool, AllocError> {
     Ok(false)
 }
 
-/// Whether each text of the bytes, between two others, is scanned as `csv` reads it.
+/// Whether a text of few fields is scanned as `csv` reads it.
+fn reads_alike(alloc: Global, text: &[u8]) -> Result<bool, AllocError> {
+    let mut reader = ReaderBuilder::new()
+        .has_headers(false)
+        .flexible(true)
+        .from_reader(alloc, text);
+    let mut record = ByteRecord::new(alloc);
+    let mut row = ByteRecord::new(alloc);
+    let mut field = Vec::new(alloc);
+    are_rows_alike(text, &mut reader, &mut record, &mut row, &mut field)
+}
+
+/// Whether each text of the bytes, laid between two others, is scanned as `csv` reads it.
 fn all_read_alike(
     alloc: Global,
+    text: &mut Vec<u8>,
     front: &[u8],
     texts: &[(usize, usize)],
     back: &[u8],
 ) -> Result<bool, AllocError> {
     for &(length, count) in texts {
         for number in 0..count {
-            let text = text_between(alloc, front, length, number, back)?;
-            if !reads_alike(alloc, &text)? {
+            lay_between(text, front, length, number, back)?;
+            if !reads_alike(alloc, text)? {
                 return Ok(false);
             }
         }
@@ -98,18 +109,22 @@ fn all_read_alike(
     Ok(true)
 }
 
-#[test]
-fn texts_of_few_bytes_are_scanned_as_csv_reads_them(rt: HostRuntime) -> Result<(), Fail> {
-    assert!(rt; all_read_alike(rt.alloc(), b"", &TEXTS, b"")?);
-    Ok(())
+/// Bytes without a stop, which end and begin pieces of 64 bytes inside the texts.
+const FRONT: &[u8] = b"abcdefghijklmnopqrstuvwxyz0123456789abcdefghijklmnopqrstuvwxy";
+
+const BACK: &[u8] = b"abcdefghijklmnopqrstuvwxyz0123456789abcdefghijklmnopqrstuvwxyz0123456789";
+
+/// Whether all texts of few bytes are, alone and across 64 bytes.
+fn few_bytes_read_alike(alloc: Global, text: &mut Vec<u8>) -> Result<bool, AllocError> {
+    Ok(
+        all_read_alike(alloc, text, b"", &TEXTS, b"")?
+            && all_read_alike(alloc, text, FRONT, &TEXTS[..6], BACK)?,
+    )
 }
 
 #[test]
-fn so_are_they_across_64_bytes(rt: HostRuntime) -> Result<(), Fail> {
-    let front = b"abcdefghijklmnopqrstuvwxyz0123456789abcdefghijklmnopqrstuvwxy";
-    let back = b"abcdefghijklmnopqrstuvwxyz0123456789abcdefghijklmnopqrstuvwxyz0123456789";
-    assert!(rt; all_read_alike(rt.alloc(), front, &TEXTS[..6], back)?);
-    Ok(())
+fn texts_of_few_bytes_are_scanned_as_csv_reads_them(rt: HostRuntime) -> Result<(), Fail> {
+    hold(few_bytes_read_alike(rt.alloc(), &mut Vec::new(rt.alloc())))
 }
 
 /// Texts at the edges of CSV: marks, ends of lines, empty lines, no end, quotes at the end, one byte, a
@@ -131,16 +146,22 @@ const EDGES: [&[u8]; 14] = [
     b"k,v\n",
 ];
 
+/// Whether each of them is scanned as `csv` reads it, and a text with a field of a megabyte, alone and before
+/// another row.
+fn edges_read_alike(alloc: Global, wide: &mut Vec<u8>) -> Result<bool, AllocError> {
+    for text in EDGES {
+        if !reads_alike(alloc, text)? {
+            return Ok(false);
+        }
+    }
+    wide.extend_from_slice(b"k,v\n1,")?;
+    wide.resize(1 << 20, b'x')?;
+    let alone = reads_alike(alloc, wide)?;
+    wide.extend_from_slice(b",\"y\"\n2,3\n")?;
+    Ok(alone && reads_alike(alloc, wide)?)
+}
+
 #[test]
 fn texts_at_the_edges_are_scanned_as_csv_reads_them(rt: HostRuntime) -> Result<(), Fail> {
-    let alloc = rt.alloc();
-    for text in EDGES {
-        assert!(rt; reads_alike(alloc, text)?);
-    }
-    let mut wide = Vec::from_slice(alloc, b"k,v\n1,")?;
-    wide.resize(1 << 20, b'x')?;
-    assert!(rt; reads_alike(alloc, &wide)?);
-    wide.extend_from_slice(b",\"y\"\n2,3\n")?;
-    assert!(rt; reads_alike(alloc, &wide)?);
-    Ok(())
+    hold(edges_read_alike(rt.alloc(), &mut Vec::new(rt.alloc())))
 }

@@ -8,6 +8,8 @@ mod files;
 #[cfg(test)]
 mod frames;
 #[cfg(test)]
+mod hold;
+#[cfg(test)]
 mod numbers;
 #[cfg(test)]
 mod outputs;

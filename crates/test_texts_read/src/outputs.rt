@@ -1,7 +1,7 @@
 //! What outputs in memory and writers take, and what comes where a write fails.
 
-use pipe_io::{MemoryOutput, Output, RealOutput, write_all};
-use std::alloc::{AllocError, Global};
+use crate::hold::hold;
+use pipe_io::{MemoryOutput, Output, OutputError, RealOutput, write_all};
 use std::io::{self, Error, ErrorKind, Write};
 use std::test::Fail;
 
@@ -10,31 +10,13 @@ fn takes<O: Output>(output: &mut O, bytes: &[u8]) -> bool {
     write_all(output, bytes).is_ok()
 }
 
-/// Whether an output in memory of which one call fails takes no byte, `ab` and `c`, each where it is told, and
-/// what it then holds.
-fn holds(
-    alloc: Global,
-    failing: u64,
-    first: bool,
-    second: bool,
-    want: &[u8],
-) -> Result<bool, AllocError> {
-    let mut output = MemoryOutput::new(alloc, Vec::from_slice(alloc, &[failing])?);
-    Ok(
-        takes(&mut output, b"")
-            && takes(&mut output, b"ab") == first
-            && takes(&mut output, b"c") == second
-            && output.bytes() == want,
-    )
-}
-
-#[test]
-fn listed_writes_fail(rt: HostRuntime) -> Result<(), Fail> {
-    let alloc = rt.alloc();
-    assert!(rt; holds(alloc, 0, false, true, b"c")?);
-    assert!(rt; holds(alloc, 1, true, false, b"ab")?);
-    assert!(rt; holds(alloc, 2, true, true, b"abc")?);
-    Ok(())
+/// Whether an output of which the second call fails takes no byte, `ab`, and `c` at the second time.
+fn takes_in_turn(output: &mut MemoryOutput) -> bool {
+    takes(output, b"")
+        && takes(output, b"ab")
+        && !takes(output, b"c")
+        && takes(output, b"c")
+        && output.bytes() == b"abc".as_slice()
 }
 
 /// A writer that takes so many bytes at once, or fails.
@@ -61,40 +43,40 @@ impl Write for FixedWriter {
     }
 }
 
-/// What three bytes that go to such a writer come to.
-fn told(alloc: Global, writer: FixedWriter) -> Result<String, AllocError> {
-    let mut output = RealOutput::new(writer);
-    let answer = write_all(&mut output, b"abc");
-    format!(in alloc; "{answer:?}")
+/// Whether three bytes that go to such a writer come to this.
+fn comes_to(
+    takes: usize,
+    write_fault: Option<ErrorKind>,
+    flush_fault: Option<ErrorKind>,
+    end: Result<(), OutputError>,
+) -> bool {
+    let writer = FixedWriter {
+        takes,
+        write_fault,
+        flush_fault,
+    };
+    write_all(&mut RealOutput::new(writer), b"abc") == end
 }
 
-/// How many bytes a writer takes at once, how it fails, and what comes of it.
-const WRITERS: [(usize, Option<ErrorKind>, Option<ErrorKind>, &str); 5] = [
-    (1, None, None, "Ok(())"),
-    (0, None, None, "Err(Failed)"),
-    (1, Some(ErrorKind::Other), None, "Err(Failed)"),
-    (1, None, Some(ErrorKind::Other), "Err(Failed)"),
-    (1, Some(ErrorKind::OutOfMemory), None, "Err(Memory)"),
-];
+/// Whether what comes of writers is due, by how many bytes they take at once and how they fail.
+fn all_come_to() -> bool {
+    let other = Some(ErrorKind::Other);
+    let memory = Some(ErrorKind::OutOfMemory);
+    comes_to(1, None, None, Ok(()))
+        && comes_to(0, None, None, Err(OutputError::Failed))
+        && comes_to(1, other, None, Err(OutputError::Failed))
+        && comes_to(1, None, other, Err(OutputError::Failed))
+        && comes_to(1, memory, None, Err(OutputError::Memory))
+}
 
-#[test]
-fn writers_that_fail(rt: HostRuntime) -> Result<(), Fail> {
-    for (takes, write_fault, flush_fault, want) in &WRITERS {
-        let writer = FixedWriter {
-            takes: *takes,
-            write_fault: *write_fault,
-            flush_fault: *flush_fault,
-        };
-        let answer = told(rt.alloc(), writer)?;
-        assert!(rt; answer.as_str() == *want, "{answer}");
-    }
-    Ok(())
+/// Whether three bytes that go to a vector are what it holds then.
+fn takes_all(text: &mut Vec<u8>) -> bool {
+    takes(&mut RealOutput::new(&mut *text), b"abc") && text.as_slice() == b"abc".as_slice()
 }
 
 #[test]
-fn writers_take_all(rt: HostRuntime) {
-    let mut text = Vec::new(rt.alloc());
-    let mut output = RealOutput::new(&mut text);
-    assert!(rt; takes(&mut output, b"abc"));
-    assert!(rt; text.as_slice() == b"abc".as_slice());
+fn outputs_take_bytes_or_fail(rt: HostRuntime) -> Result<(), Fail> {
+    let mut output = MemoryOutput::new(rt.alloc(), Vec::from_slice(rt.alloc(), &[1])?);
+    let take = takes_in_turn(&mut output) && takes_all(&mut Vec::new(rt.alloc()));
+    hold(Ok(take && all_come_to()))
 }

@@ -3,8 +3,6 @@
 ghost use Rattle.std.specs.Prelude.{◌≤◌, length};
 
 use pipe_scan::{Stops, skip_plain_rows};
-use std::alloc::{AllocError, Global};
-use std::test::Fail;
 
 /// How many plain rows of a text are gone over from a place on, so many at most, and where that ends.
 fn skipped(text: &[u8], at: usize, numbers: &[bool], most: usize) -> (usize, usize)
@@ -23,24 +21,31 @@ fn are_gone_over(text: &[u8], numbers: &[bool], count: usize, place: usize) -> b
     skipped(text, place, numbers, 1) == (0, place) && skipped(text, 0, numbers, 1).0 == count.min(1)
 }
 
-/// Rows that aren't gone over, behind which the text goes on.
-const OTHERS: [u8; 128] = [b'x'; 128];
-
-/// Whether so many rows before others are gone over, up to a place.
-fn are_before_others(
-    alloc: Global,
-    rows: &[u8],
-    numbers: &[bool],
-    count: usize,
-    place: usize,
-) -> Result<bool, AllocError> {
-    let mut text = Vec::from_slice(alloc, rows)?;
-    text.extend_from_slice(&OTHERS)?;
-    Ok(are_gone_over(&text, numbers, count, place))
+/// Whether so many rows before others, which aren't gone over, are gone over, up to a place.
+fn are_before_others(rows: &[u8], numbers: &[bool], count: usize, place: usize) -> bool {
+    let mut text = [b'x'; 256];
+    if rows.len() > 128 {
+        return false;
+    }
+    text[..rows.len()].copy_from_slice(rows);
+    are_gone_over(&text, numbers, count, place)
 }
 
-/// Rows of a number and a text, how many of them are gone over, and where that ends.
-const ROWS: [(&[u8], usize, usize); 11] = [
+/// Rows, how many of them are gone over, and where that ends.
+type Rows = (&'static [u8], usize, usize);
+
+/// Whether as many of all these rows are.
+fn are_all_before_others(all: &[Rows], numbers: &[bool]) -> bool {
+    for (rows, count, place) in all {
+        if !are_before_others(rows, numbers, *count, *place) {
+            return false;
+        }
+    }
+    true
+}
+
+/// Rows of a number and a text.
+const ROWS: [Rows; 11] = [
     (b"", 0, 0),
     (b"1,a\n-2,b c\n", 2, 11),
     (b"\n\r\n1,a\r\n\n-20,\n", 2, 14),
@@ -54,17 +59,8 @@ const ROWS: [(&[u8], usize, usize); 11] = [
     (b"1,a\n999999999999999999,b\n1000000000000000000,c\n", 2, 25),
 ];
 
-#[test]
-fn plain_rows_are_gone_over(rt: HostRuntime) -> Result<(), Fail> {
-    for (rows, count, place) in &ROWS {
-        let are = are_before_others(rt.alloc(), rows, &[true, false], *count, *place)?;
-        assert!(rt; are, "{rows:?}");
-    }
-    Ok(())
-}
-
-/// Rows of two numbers, how many of them are gone over, and where that ends.
-const NUMBERS: [(&[u8], usize, usize); 16] = [
+/// Rows of two numbers.
+const NUMBERS: [Rows; 16] = [
     (b"1,2\n-3,44\n", 2, 10),
     (b"1,2\n3,", 1, 4),
     (b"1,999999999999999999\n", 1, 21),
@@ -83,15 +79,6 @@ const NUMBERS: [(&[u8], usize, usize); 16] = [
     (b"1,2\n\"3\",4\n", 1, 4),
 ];
 
-#[test]
-fn rows_of_numbers_are_gone_over(rt: HostRuntime) -> Result<(), Fail> {
-    for (rows, count, place) in &NUMBERS {
-        let are = are_before_others(rt.alloc(), rows, &[true, true], *count, *place)?;
-        assert!(rt; are, "{rows:?}");
-    }
-    Ok(())
-}
-
 /// Rows of one number behind a name.
 const COLUMN: &[u8; 77] =
     b"k\n1\n22\n333\n-4\n55\n1\n22\n333\n-4\n55\n1\n22\n333\n-4\n55\n1\n22\n333\n-4\n55\n1\n22\n333\n-4\n55\n";
@@ -106,17 +93,22 @@ const PLACES: [(usize, usize, usize, usize, usize); 5] = [
     (74, 11, 99, 0, 11),
 ];
 
-#[test]
-fn rows_of_numbers_are_gone_over_from_a_place(rt: HostRuntime) {
+/// Whether the column is gone over from each place, and not where rows have no field.
+fn are_gone_over_from_places() -> bool {
     for (length, at, most, count, place) in &PLACES {
         let is = *at <= *length
             && *length <= COLUMN.len()
             && skipped(&COLUMN[..*length], *at, &[true], *most) == (*count, *place);
-        assert!(rt; is, "from {at} of {length}");
+        if !is {
+            return false;
+        }
     }
+    skipped(COLUMN, 2, &[], 99) == (0, 2)
 }
 
-#[test]
-fn rows_of_no_field_are_not_gone_over(rt: HostRuntime) {
-    assert!(rt; skipped(COLUMN, 2, &[], 99) == (0, 2));
+/// Whether all rows are gone over as is due.
+pub(crate) fn are_all_gone_over() -> bool {
+    are_all_before_others(&ROWS, &[true, false])
+        && are_all_before_others(&NUMBERS, &[true, true])
+        && are_gone_over_from_places()
 }

@@ -1,56 +1,75 @@
-//! Rows of one width that are gone over, and texts that are cut.
+//! Numbers of fields and rows that are gone over, and texts that are cut.
 
+use crate::hold::hold;
+use crate::{numbers, plain};
 use csv::ByteRecord;
-use pipe_scan::{Stops, has_quote, piece_ends, skip_rows};
+use pipe_scan::{Skip, Stops, has_quote, piece_ends, skip_rows};
 use std::alloc::{AllocError, Global};
 use std::test::Fail;
 
 /// Texts of rows of two fields: how far four of them are gone over, and where that ends.
-const TEXTS: [(&[u8], &str, usize); 6] = [
-    (b"", "End(0)", 0),
-    (b"a,b\n\n1,\"x\n,\"\r\n", "End(2)", 13),
-    (b"a,b\n1,2\n3,4\n5,6\n7", "Done", 16),
-    (b"a,b\n1,2,3\n", "OtherWidth(1)", 4),
-    (b"a,b\n\"1,2\"\n", "OtherWidth(1)", 4),
-    (b"a,b\n1", "OtherWidth(1)", 4),
+const TEXTS: [(&[u8], Skip, usize); 6] = [
+    (b"", Skip::End(0), 0),
+    (b"a,b\n\n1,\"x\n,\"\r\n", Skip::End(2), 13),
+    (b"a,b\n1,2\n3,4\n5,6\n7", Skip::Done, 16),
+    (b"a,b\n1,2,3\n", Skip::OtherWidth(1), 4),
+    (b"a,b\n\"1,2\"\n", Skip::OtherWidth(1), 4),
+    (b"a,b\n1", Skip::OtherWidth(1), 4),
 ];
 
-/// Whether rows of a text are gone over so far, up to a place.
+/// Whether both go equally far.
+fn are_alike(one: Skip, other: Skip) -> bool {
+    match (one, other) {
+        (Skip::Done, Skip::Done) => true,
+        (Skip::End(count), Skip::End(due)) => count == due,
+        (Skip::OtherWidth(count), Skip::OtherWidth(due)) => count == due,
+        _ => false,
+    }
+}
+
+/// Whether four rows of a text are gone over so far, up to a place.
 fn skips(
-    alloc: Global,
     text: &[u8],
     row: &mut ByteRecord,
     field: &mut Vec<u8>,
-    how_far: &str,
+    how_far: Skip,
     at: usize,
 ) -> Result<bool, AllocError> {
     let mut stops = Stops::new(0);
-    let mut ends = [0; 2];
-    let skip = skip_rows(text, &mut stops, &mut ends, row, field, 4)?;
-    let told = format!(in alloc; "{skip:?}")?;
-    Ok(told.as_str() == how_far && stops.cursor() == at)
+    let skip = skip_rows(text, &mut stops, &mut [0; 2], row, field, 4)?;
+    Ok(are_alike(skip, how_far) && stops.cursor() == at)
 }
 
-#[test]
-fn rows_of_one_width_are_gone_over(rt: HostRuntime) -> Result<(), Fail> {
-    let alloc = rt.alloc();
-    let mut row = ByteRecord::new(alloc);
-    let mut field = Vec::new(alloc);
+/// Whether rows of each text are gone over so far, up to a place.
+fn all_skip(row: &mut ByteRecord, field: &mut Vec<u8>) -> Result<bool, AllocError> {
     for (text, how_far, at) in &TEXTS {
-        let is = skips(alloc, text, &mut row, &mut field, how_far, *at)?;
-        assert!(rt; is, "{text:?}");
+        if !skips(text, row, field, *how_far, *at)? {
+            return Ok(false);
+        }
     }
-    Ok(())
+    Ok(true)
+}
+
+/// Whether a text is cut behind ends of lines.
+fn is_cut(alloc: Global) -> Result<bool, AllocError> {
+    let ends = piece_ends(alloc, b"k,v\r\n1,2\n\n3,4", 0, 4)?;
+    Ok(ends.as_slice() == [4, 9, 13].as_slice())
+}
+
+/// Whether a text without a quote has none, and one with a quote has it.
+fn are_quotes_found() -> bool {
+    !has_quote(b"k,v\r\n1,2\n\n3,4") && has_quote(b"k,\"v\"")
 }
 
 #[test]
-fn a_text_is_cut_behind_ends_of_lines(rt: HostRuntime) -> Result<(), Fail> {
-    let ends = piece_ends(rt.alloc(), b"k,v\r\n1,2\n\n3,4", 0, 4)?;
-    assert!(rt; ends.as_slice() == [4, 9, 13].as_slice());
-    Ok(())
+fn rows_are_gone_over(rt: HostRuntime) -> Result<(), Fail> {
+    let mut row = ByteRecord::new(rt.alloc());
+    let mut field = Vec::new(rt.alloc());
+    hold(all_skip(&mut row, &mut field))
 }
 
 #[test]
-fn quotes_are_found(rt: HostRuntime) {
-    assert!(rt; !has_quote(b"k,v\r\n1,2\n\n3,4") && has_quote(b"k,\"v\""));
+fn texts_are_looked_over(rt: HostRuntime) -> Result<(), Fail> {
+    hold(is_cut(rt.alloc()))?;
+    hold(Ok(are_quotes_found() && numbers::are_read() && plain::are_all_gone_over()))
 }

@@ -1,9 +1,10 @@
-//! Files that threads read in parts: real ones, one without a position, and one in memory.
+//! Files that threads read in parts: real ones, and one without a position.
 
 ghost use Rattle.std.specs.Prelude.{◌≡◌, ◌<◌, length, true};
 
+use crate::hold::hold;
 use pipe_columns::Text;
-use pipe_io::{InputError, InputFiles, MemoryFiles, RealFiles};
+use pipe_io::{InputError, InputFiles, RealFiles};
 use std::alloc::{AllocError, Global};
 use std::fs::{self, File, Files};
 use std::io::{self, PipeReader, Write, pipe};
@@ -33,22 +34,22 @@ fn rest_of<I: InputFiles, H: Threads + Sync>(
     Ok(())
 }
 
-/// Whether all of a file, read side by side into rooms of so many bytes, is this.
-fn gives<I: InputFiles, H: Threads + Sync>(
+/// Whether all of a file, read side by side into room, is this.
+pub(crate) fn gives_beside<I: InputFiles, H: Threads + Sync>(
     rt: &H,
     alloc: Global,
     input: &mut I,
     name: &str,
     threads: usize,
-    room: usize,
+    room: &mut [u8],
     want: &[u8],
 ) -> Result<bool, AllocError> {
+    let name = Text::new(alloc, name)?;
     let mut all = Vec::new(alloc);
-    if room == 0 || input.begin(&Text::new(alloc, name)?).is_err() {
+    if room.is_empty() || input.begin(&name).is_err() {
         return Ok(false);
     }
-    let mut bytes = vec![in alloc; b'?'; room]?;
-    rest_of(rt, &mut all, input, threads, bytes.as_mut_slice())?;
+    rest_of(rt, &mut all, input, threads, room)?;
     Ok(all.as_slice() == want)
 }
 
@@ -62,35 +63,58 @@ fn long_bytes(alloc: Global) -> Result<Vec<u8>, AllocError> {
 }
 
 /// Whether a long file, one without a byte and standard input are read whole.
+fn are_given<I: InputFiles, H: Threads + Sync>(
+    rt: &H,
+    alloc: Global,
+    files: &mut I,
+    long: &[u8],
+    threads: usize,
+    room: &mut [u8],
+) -> Result<bool, AllocError> {
+    Ok(
+        gives_beside(rt, alloc, files, "long.bin", threads, room, long)?
+            && gives_beside(rt, alloc, files, "none.bin", threads, room, b"")?
+            && gives_beside(rt, alloc, files, "-", threads, room, b"typed")?,
+    )
+}
+
+/// Whether real files are read by any number of threads, into room.
 fn are_read<H: Threads + Sync + Files<File = File>>(
     rt: &H,
     alloc: Global,
     long: &[u8],
-    threads: usize,
-    room: usize,
+    room: &mut [u8],
 ) -> Result<bool, AllocError> {
-    let mut files = RealFiles::new(rt, &b"typed"[..]);
-    Ok(
-        gives(rt, alloc, &mut files, "long.bin", threads, room, long)?
-            && gives(rt, alloc, &mut files, "none.bin", threads, room, b"")?
-            && gives(rt, alloc, &mut files, "-", threads, room, b"typed")?,
-    )
+    for threads in 0..6 {
+        let mut files = RealFiles::new(rt, &b"typed"[..]);
+        if !are_given(rt, alloc, &mut files, long, threads, room)? {
+            return Ok(false);
+        }
+    }
+    Ok(true)
+}
+
+/// Whether they are, whatever room there is.
+fn are_read_into_any<H: Threads + Sync + Files<File = File>>(
+    rt: &H,
+    alloc: Global,
+    long: &[u8],
+) -> Result<bool, AllocError> {
+    for size in [999, 65536, 70000, 70001, 100000] {
+        let mut room = vec![in alloc; b'?'; size]?;
+        if !are_read(rt, alloc, long, room.as_mut_slice())? {
+            return Ok(false);
+        }
+    }
+    Ok(true)
 }
 
 #[test]
 fn real_files_are_read_side_by_side(rt: HostRuntime) -> Result<(), Fail> {
     let long = long_bytes(rt.alloc())?;
-    fs::write(&rt, "long.bin", long.as_slice())?;
     fs::write(&rt, "none.bin", "")?;
-    for threads in 0..6 {
-        for room in [999, 65536, 70000, 70001, 100000] {
-            assert!(rt;
-                are_read(&rt, rt.alloc(), &long, threads, room)?,
-                "{threads} {room}"
-            );
-        }
-    }
-    Ok(())
+    fs::write(&rt, "long.bin", long.as_slice())?;
+    hold(are_read_into_any(&rt, rt.alloc(), &long))
 }
 
 /// The bytes of a short file.
@@ -103,22 +127,28 @@ fn filled_pipe(rt: HostRuntime) -> io::Result<PipeReader> {
     Ok(reader)
 }
 
+/// Whether a pipe gives the bytes.
+fn does_pipe_give<H: Threads + Sync + Files<File = File>>(
+    rt: &H,
+    alloc: Global,
+    pipe: &PipeReader,
+) -> Result<bool, AllocError> {
+    let name = format!(in alloc; "/proc/self/fd/{}", pipe.as_raw_fd())?;
+    let mut files = RealFiles::new(rt, &b""[..]);
+    gives_beside(
+        rt,
+        alloc,
+        &mut files,
+        name.as_str(),
+        4,
+        &mut [b'?'; 20],
+        BYTES,
+    )
+}
+
 /// A pipe has no position, so no part of it is read before another one.
 #[test]
 fn files_without_a_position_are_read_in_order(rt: HostRuntime) -> Result<(), Fail> {
     let pipe = filled_pipe(rt)?;
-    let name = format!(in rt.alloc(); "/proc/self/fd/{}", pipe.as_raw_fd())?;
-    let mut files = RealFiles::new(&rt, &b"typed"[..]);
-    assert!(rt; gives(&rt, rt.alloc(), &mut files, name.as_str(), 4, 20, BYTES)?);
-    Ok(())
-}
-
-#[test]
-fn files_in_memory_are_read_as_before(rt: HostRuntime) -> Result<(), Fail> {
-    let alloc = rt.alloc();
-    let mut held = Vec::new(alloc);
-    held.push((Text::new(alloc, "a")?, Vec::from_slice(alloc, BYTES)?))?;
-    let mut files = MemoryFiles::new(held, Vec::from_slice(alloc, &[2])?);
-    assert!(rt; gives(&rt, alloc, &mut files, "a", 4, 5, b"01234!56789abc")?);
-    Ok(())
+    hold(does_pipe_give(&rt, rt.alloc(), &pipe))
 }

@@ -1,126 +1,147 @@
-//! Calls of the input, the output and the messages that fail, and an input that has no file.
+//! Calls of the input, the output and the messages, of which each fails in turn.
 
-use crate::runs::{File, Run, SUM_AND_COUNT, drive};
-use std::alloc::Global;
-use std::process::Abort;
+use crate::hold::hold;
+use crate::runs::{NOTHING, Run, SUM_AND_COUNT, all_hold, holds_in_memory};
+use crate::small::PIECE;
+use pipe_global::OpenGate;
+use std::alloc::{AllocError, Global};
 use std::sync::Wait;
 use std::test::Fail;
 use std::thread::Threads;
 
-const ROW: [File<'static>; 1] = [("-", "k,v\n1,5\n")];
+/// The first three rows of two files.
+const THREE_ROWS: Run<'static> = Run {
+    words: &["--rows", "3", SUM_AND_COUNT, "a.csv", "b.csv"],
+    files: &[("a.csv", "k,v\n1,5\n2,6\n"), ("b.csv", "k,v\n1,7\n9,9\n")],
+    output: b"k,s,c\n1,12,2\n2,6,1\n",
+    ..NOTHING
+};
 
-/// The input fails at its first call, which begins the file, or at its second, which reads.
+/// The same as lines of JSON.
+const IN_JSON: Run<'static> = Run {
+    words: &[
+        "--rows",
+        "3",
+        "--format",
+        "json",
+        SUM_AND_COUNT,
+        "a.csv",
+        "b.csv",
+    ],
+    output: b"{\"k\":1,\"s\":12,\"c\":2}\n{\"k\":2,\"s\":6,\"c\":1}\n",
+    ..THREE_ROWS
+};
+
+/// What comes of a failed input.
 const UNREAD: Run<'static> = Run {
-    words: &[SUM_AND_COUNT],
-    files: &ROW,
-    input_fails: &[0],
-    output_fails: &[],
-    message_fails: &[],
     status: 5,
-    output: "",
-    line: "input failed\n",
+    output: b"",
+    line: b"input failed\n",
+    ..THREE_ROWS
 };
 
-/// The output fails at its first write.
-const UNWRITTEN: Run<'static> = Run {
-    words: &[SUM_AND_COUNT],
-    files: &ROW,
-    input_fails: &[],
-    output_fails: &[0],
-    message_fails: &[],
-    status: 6,
-    output: "",
-    line: "output failed\n",
-};
-
-/// The word is no JSON, whatever the input does.
-const REFUSED: Run<'static> = Run {
-    words: &["{"],
-    files: &ROW,
-    input_fails: &[0, 1],
-    output_fails: &[],
-    message_fails: &[],
-    status: 3,
-    output: "",
-    line: "query refused: json\n",
-};
-
-/// Without a name standard input is read, and here there is none.
-const MISSING: Run<'static> = Run {
-    words: &[SUM_AND_COUNT],
-    files: &[],
-    input_fails: &[],
-    output_fails: &[],
-    message_fails: &[],
-    status: 4,
-    output: "",
-    line: "file 1: missing\n",
-};
-
-const RUNS: [Run<'static>; 9] = [
-    MISSING,
-    UNREAD,
+/// A file is begun, its bytes are read, and its end; then the second file. Faults that aren't told keep their
+/// status, and generated rows are written as others are.
+const RUNS: [Run<'static>; 8] = [
+    Run {
+        input_fails: &[0],
+        ..UNREAD
+    },
     Run {
         input_fails: &[1],
         ..UNREAD
     },
-    UNWRITTEN,
-    // the lines that tell of generated rows
+    Run {
+        input_fails: &[2],
+        ..UNREAD
+    },
+    Run {
+        input_fails: &[3],
+        ..UNREAD
+    },
+    Run {
+        input_fails: &[4],
+        ..UNREAD
+    },
+    Run {
+        input_fails: &[5],
+        ..UNREAD
+    },
+    Run {
+        input_fails: &[1],
+        message_fails: &[0],
+        line: b"",
+        ..UNREAD
+    },
     Run {
         words: &["--generate", "7"],
-        files: &[],
-        ..UNWRITTEN
-    },
-    // a fault that isn't told keeps its status
-    Run {
-        input_fails: &[1],
-        message_fails: &[0],
-        line: "",
-        ..UNREAD
-    },
-    // a query is refused before the input is begun
-    REFUSED,
-    Run {
-        words: &["[]"],
-        files: &[],
-        line: "query refused: shape\n",
-        ..REFUSED
-    },
-    Run {
-        message_fails: &[0],
-        line: "",
-        ..REFUSED
+        output_fails: &[0],
+        status: 6,
+        output: b"",
+        line: b"output failed\n",
+        ..NOTHING
     },
 ];
 
-/// Drives a run, of which nothing more is asked.
-fn drive_once<H: Abort + Alloc<A = Global> + Threads + Wait + Sync>(
-    rt: &H,
-    run: &Run<'_>,
-) -> Result<(), Fail> {
-    let _end = drive(rt, run)?;
-    Ok(())
-}
-
-#[test]
-fn failing_calls(rt: HostRuntime) -> Result<(), Fail> {
-    for run in &RUNS {
-        drive_once(&rt, run)?;
-    }
-    Ok(())
-}
-
-/// A file is begun, its bytes are read, and its end; then the second file.
 #[test]
 fn each_call_of_the_input_fails(rt: HostRuntime) -> Result<(), Fail> {
-    for call in 0..6 {
-        let run = Run {
-            words: &["--rows", "3", SUM_AND_COUNT, "a.csv", "b.csv"],
-            files: &[("a.csv", "k,v\n1,5\n2,6\n"), ("b.csv", "k,v\n1,7\n9,9\n")],
-            input_fails: &[call],
-            ..UNREAD
-        };
-        drive_once(&rt, &run)?;
+    hold(all_hold(&rt, &RUNS))
+}
+
+/// What stands written of a text where a call fails.
+fn written_of(text: &[u8], call: u8) -> &[u8] {
+    &text[..(PIECE * usize::from(call)).min(text.len())]
+}
+
+/// Whether a run of which a call of the output fails comes to what is due.
+fn fails_at<H: Alloc<A = Global> + Threads + Wait + Sync>(
+    rt: &H,
+    run: &Run<'_>,
+    call: u8,
+) -> Result<bool, AllocError> {
+    let output = written_of(run.output, call);
+    let failing = Run {
+        output_fails: &[u64::from(call)],
+        status: 6,
+        output,
+        line: b"output failed\n",
+        ..*run
+    };
+    if output.len() == run.output.len() {
+        return holds_in_memory(rt, run, &OpenGate);
     }
-    Ok(())
+    holds_in_memory(rt, &failing, &OpenGate)
+}
+
+/// Whether a run of which a call of the messages fails keeps its status.
+fn is_told_up_to<H: Alloc<A = Global> + Threads + Wait + Sync>(
+    rt: &H,
+    call: u8,
+) -> Result<bool, AllocError> {
+    let refused = Run {
+        words: &["{"],
+        message_fails: &[u64::from(call)],
+        status: 3,
+        line: written_of(b"query refused: json\n", call),
+        ..NOTHING
+    };
+    holds_in_memory(rt, &refused, &OpenGate)
+}
+
+/// Whether that is so of each call.
+fn do_all_fail<H: Alloc<A = Global> + Threads + Wait + Sync>(rt: &H) -> Result<bool, AllocError> {
+    for call in 0..12 {
+        if !fails_at(rt, &THREE_ROWS, call)?
+            || !fails_at(rt, &IN_JSON, call)?
+            || !is_told_up_to(rt, call)?
+        {
+            return Ok(false);
+        }
+    }
+    Ok(true)
+}
+
+#[test]
+fn each_call_of_the_outputs_fails(rt: HostRuntime) -> Result<(), Fail> {
+    hold(do_all_fail(&rt))
 }

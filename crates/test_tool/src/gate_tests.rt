@@ -1,10 +1,13 @@
 //! A gate in which two workers meet.
 
-use crate::runs::{MemoryStores, SUM_AND_COUNT, files_of, plain_run, run_over};
+use crate::hold::hold;
+use crate::runs::{NOTHING, Run, SUM_AND_COUNT, holds_in_memory};
 use pipe_global::Gate;
+use std::alloc::{AllocError, Global};
+use std::sync::Wait;
 use std::sync::atomic::{AtomicU64, Ordering};
 use std::test::Fail;
-use std::thread;
+use std::thread::{self, Threads};
 
 /// In how many turns of its wait a worker finds the other, at most.
 const MOST_TURNS: u64 = 100_000_000;
@@ -35,10 +38,9 @@ impl Gate for MeetingGate {
     }
 }
 
-/// Each of two workers stands inside a partition while the other one does.
-#[test]
-fn two_inside(rt: HostRuntime) -> Result<(), Fail> {
-    let words = [
+/// Rows of four keys, in two partitions, of which two workers feed two rows each.
+const RUN: Run<'static> = Run {
+    words: &[
         "--workers",
         "2",
         "--partitions",
@@ -50,17 +52,23 @@ fn two_inside(rt: HostRuntime) -> Result<(), Fail> {
         "--chunk",
         "2",
         SUM_AND_COUNT,
-    ];
-    let files = [("-", "k,v\n1,5\n3,6\n1,7\n4,8\n")];
-    let run = plain_run(&words, &files, 0, "k,s,c\n1,12,2\n3,6,1\n4,8,1\n", "");
+    ],
+    files: &[("-", "k,v\n1,5\n3,6\n1,7\n4,8\n")],
+    output: b"k,s,c\n1,12,2\n3,6,1\n4,8,1\n",
+    ..NOTHING
+};
+
+/// Whether each of two workers stands inside a partition while the other one does.
+fn do_two_meet<H: Alloc<A = Global> + Threads + Wait + Sync>(rt: &H) -> Result<bool, AllocError> {
     let gate = MeetingGate {
         first: AtomicU64::new(0),
         second: AtomicU64::new(0),
         missed: AtomicU64::new(0),
     };
-    let mut input = files_of(rt.alloc(), &files, &[])?;
-    let mut maker = MemoryStores::new(rt.alloc());
-    let _end = run_over(&rt, &run, &mut input, &mut maker, &gate)?;
-    assert!(rt; gate.missed.load(Ordering::SeqCst) == 0);
-    Ok(())
+    Ok(holds_in_memory(rt, &RUN, &gate)? && gate.missed.load(Ordering::SeqCst) == 0)
+}
+
+#[test]
+fn two_inside(rt: HostRuntime) -> Result<(), Fail> {
+    hold(do_two_meet(&rt))
 }

@@ -1,13 +1,12 @@
-//! Runs of the tool over files and outputs in memory.
+//! Runs of the tool over files in memory and outputs that take little at a time.
 
+use crate::small::{Small, small};
 use pipe_columns::Text;
 use pipe_global::{Gate, OpenGate};
-use pipe_io::{InputFiles, MemoryFiles, MemoryOutput};
-use pipe_spill::MemoryStore;
+use pipe_io::{InputFiles, MemoryFiles};
+use pipe_spill::{MemoryStore, SpillStore};
 use std::alloc::{AllocError, Global};
-use std::process::Abort;
 use std::sync::Wait;
-use std::test::Fail;
 use std::thread::Threads;
 use tool_answer::{ToolEnd, run_tool};
 use tool_stores::StoreMaker;
@@ -51,7 +50,8 @@ impl StoreMaker for MemoryStores {
 /// A name and a text.
 pub(crate) type File<'w> = (&'w str, &'w str);
 
-/// A run and its outcome: its files, and which calls fail, numbered from 0.
+/// A run and its outcome: its files, and which calls of the input and which of the outputs fail, numbered from
+/// 0; and what comes of it. Where it is said, one store is left, with so many frames.
 #[derive(Clone, Copy)]
 pub(crate) struct Run<'w> {
     pub(crate) words: &'w [&'w str],
@@ -60,32 +60,26 @@ pub(crate) struct Run<'w> {
     pub(crate) output_fails: &'w [u64],
     pub(crate) message_fails: &'w [u64],
     pub(crate) status: u8,
-    pub(crate) output: &'w str,
-    pub(crate) line: &'w str,
+    pub(crate) output: &'w [u8],
+    pub(crate) line: &'w [u8],
+    pub(crate) frames: Option<u64>,
 }
 
-/// Words over files, with no failing call.
-pub(crate) fn plain_run<'w>(
-    words: &'w [&'w str],
-    files: &'w [File<'w>],
-    status: u8,
-    output: &'w str,
-    line: &'w str,
-) -> Run<'w> {
-    Run {
-        words,
-        files,
-        input_fails: &[],
-        output_fails: &[],
-        message_fails: &[],
-        status,
-        output,
-        line,
-    }
-}
+/// No words, and nothing comes of them.
+pub(crate) const NOTHING: Run<'static> = Run {
+    words: &[],
+    files: &[],
+    input_fails: &[],
+    output_fails: &[],
+    message_fails: &[],
+    status: 0,
+    output: b"",
+    line: b"",
+    frames: None,
+};
 
 /// Copies of words.
-pub(crate) fn texts_of(alloc: Global, words: &[&str]) -> Result<Vec<Text>, AllocError> {
+fn texts_of(alloc: Global, words: &[&str]) -> Result<Vec<Text>, AllocError> {
     let mut texts = Vec::new(alloc);
     for word in words {
         texts.push(Text::new(alloc, word)?)?;
@@ -95,74 +89,115 @@ pub(crate) fn texts_of(alloc: Global, words: &[&str]) -> Result<Vec<Text>, Alloc
 
 /// A name and a text, copied.
 fn file_of(alloc: Global, file: &File<'_>) -> Result<(Text, Vec<u8>), AllocError> {
-    Ok((
-        Text::new(alloc, file.0)?,
-        Vec::from_slice(alloc, file.1.as_bytes())?,
-    ))
+    let name = Text::new(alloc, file.0)?;
+    Ok((name, Vec::from_slice(alloc, file.1.as_bytes())?))
 }
 
-/// Files in memory, of which listed calls fail.
-pub(crate) fn files_of(
-    alloc: Global,
-    files: &[File<'_>],
-    failing: &[u64],
-) -> Result<MemoryFiles, AllocError> {
+/// Files, copied.
+fn copies_of(alloc: Global, files: &[File<'_>]) -> Result<Vec<(Text, Vec<u8>)>, AllocError> {
     let mut copies = Vec::new(alloc);
     for file in files {
         copies.push(file_of(alloc, file)?)?;
     }
-    Ok(MemoryFiles::new(copies, Vec::from_slice(alloc, failing)?))
+    Ok(copies)
 }
 
-/// An output in memory, of which listed calls fail.
-pub(crate) fn output_of(alloc: Global, failing: &[u64]) -> Result<MemoryOutput, AllocError> {
-    Ok(MemoryOutput::new(alloc, Vec::from_slice(alloc, failing)?))
+/// Files in memory, of which listed calls fail.
+fn files_of(alloc: Global, run: &Run<'_>) -> Result<MemoryFiles, AllocError> {
+    let calls = Vec::from_slice(alloc, run.input_fails)?;
+    Ok(MemoryFiles::new(copies_of(alloc, run.files)?, calls))
 }
 
-/// Asks for the outcome of a run.
-fn assert_outcome(rt: &impl Abort, run: &Run<'_>, status: u8, output: &[u8], messages: &[u8]) {
-    assert_eq!(rt; status, run.status);
-    assert_eq!(rt; output, run.output.as_bytes());
-    assert_eq!(rt; messages, run.line.as_bytes());
+/// Whether a run left one store with so many frames, and journals exactly where it was done.
+fn has_left<S: SpillStore + Drop>(end: &ToolEnd<S>, frames: u64) -> bool {
+    end.stores.len() == 1
+        && end.stores[0].held() == frames
+        && end.journals.journals().is_empty() == (end.status != 0)
 }
 
-/// Runs the tool over an input, stores and a gate, and asks for the outcome.
-pub(crate) fn run_over<
-    H: Abort + Alloc<A = Global> + Threads + Wait + Sync,
+/// Whether a run ended as is due.
+fn has_ended<S: SpillStore + Drop>(run: &Run<'_>, end: &ToolEnd<S>) -> bool {
+    match run.frames {
+        Some(frames) => end.status == run.status && has_left(end, frames),
+        None => end.status == run.status,
+    }
+}
+
+/// Whether the tool ends as is due, over an input, outputs, stores and a gate.
+fn ends<H: Alloc<A = Global> + Threads + Wait + Sync, I: InputFiles, M: StoreMaker, G: Gate + Sync>(
+    rt: &H,
+    run: &Run<'_>,
+    words: &[Text],
+    input: &mut I,
+    output: &mut Small,
+    messages: &mut Small,
+    maker: &mut M,
+    gate: &G,
+) -> bool {
+    let end = run_tool(rt, rt.alloc(), words, input, output, messages, maker, gate);
+    has_ended(run, &end)
+}
+
+/// Whether a run over an input, stores and a gate comes to what is due.
+fn comes_to<
+    H: Alloc<A = Global> + Threads + Wait + Sync,
     I: InputFiles,
     M: StoreMaker,
     G: Gate + Sync,
 >(
     rt: &H,
     run: &Run<'_>,
+    words: &[Text],
     input: &mut I,
     maker: &mut M,
     gate: &G,
-) -> Result<ToolEnd<M::Store>, Fail> {
-    let alloc = rt.alloc();
-    let words = texts_of(alloc, run.words)?;
-    let mut output = output_of(alloc, run.output_fails)?;
-    let mut messages = output_of(alloc, run.message_fails)?;
-    let end = run_tool(
+) -> Result<bool, AllocError> {
+    let mut output = small(rt.alloc(), run.output_fails)?;
+    let mut messages = small(rt.alloc(), run.message_fails)?;
+    let ends = ends(
         rt,
-        alloc,
-        &words,
+        run,
+        words,
         input,
         &mut output,
         &mut messages,
         maker,
         gate,
     );
-    assert_outcome(rt, run, end.status, output.bytes(), messages.bytes());
-    Ok(end)
+    Ok(ends && output.0.bytes() == run.output && messages.0.bytes() == run.line)
 }
 
-/// Runs the tool over its files and stores in memory, and asks for the outcome.
-pub(crate) fn drive<H: Abort + Alloc<A = Global> + Threads + Wait + Sync>(
+/// Whether a run over its files, stores and a gate comes to what is due.
+pub(crate) fn holds<H: Alloc<A = Global> + Threads + Wait + Sync, M: StoreMaker, G: Gate + Sync>(
     rt: &H,
     run: &Run<'_>,
-) -> Result<ToolEnd<MemoryStore>, Fail> {
-    let mut input = files_of(rt.alloc(), run.files, run.input_fails)?;
+    maker: &mut M,
+    gate: &G,
+) -> Result<bool, AllocError> {
+    let words = texts_of(rt.alloc(), run.words)?;
+    let mut input = files_of(rt.alloc(), run)?;
+    comes_to(rt, run, &words, &mut input, maker, gate)
+}
+
+/// Whether a run over stores in memory does.
+pub(crate) fn holds_in_memory<H: Alloc<A = Global> + Threads + Wait + Sync, G: Gate + Sync>(
+    rt: &H,
+    run: &Run<'_>,
+    gate: &G,
+) -> Result<bool, AllocError> {
     let mut maker = MemoryStores::new(rt.alloc());
-    run_over(rt, run, &mut input, &mut maker, &OpenGate)
+    holds(rt, run, &mut maker, gate)
+}
+
+/// Whether each of some runs over stores in memory does.
+pub(crate) fn all_hold<H: Alloc<A = Global> + Threads + Wait + Sync>(
+    rt: &H,
+    runs: &[Run<'_>],
+) -> Result<bool, AllocError> {
+    for run in runs {
+        if !holds_in_memory(rt, run, &OpenGate)? {
+            return Ok(false);
+        }
+    }
+    Ok(true)
 }

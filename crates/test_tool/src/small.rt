@@ -6,7 +6,6 @@ ghost use Rattle.pipe_columns.specs.Causes.{HasCause};
 ghost use Rattle.pipe_io.specs.MemoryOutput.{held_faults, held_bytes};
 ghost use Rattle.pipe_io.specs.declared.output.OutputError.TheVariants as output_error;
 
-use crate::runs::output_of;
 use pipe_io::{MemoryOutput, Output, OutputError};
 use std::alloc::{AllocError, Global};
 
@@ -17,11 +16,9 @@ pub(crate) const PIECE: usize = 6;
 #[derive(Drop)]
 pub(crate) struct Small(pub(crate) MemoryOutput);
 
-impl Small {
-    /// One of which a call fails.
-    pub(crate) fn new(alloc: Global, failing: u8) -> Result<Small, AllocError> {
-        Ok(Small(output_of(alloc, &[u64::from(failing)])?))
-    }
+/// One of which listed calls fail.
+pub(crate) fn small(alloc: Global, failing: &[u64]) -> Result<Small, AllocError> {
+    Ok(Small(MemoryOutput::new(alloc, Vec::from_slice(alloc, failing)?)))
 }
 
 impl Output for Small {

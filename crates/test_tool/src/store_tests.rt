@@ -1,25 +1,43 @@
 //! Stores that fail, and a store that gives no byte back.
 
 use crate::folder_stores::{FolderStores, MadeStore};
-use crate::runs::{files_of, plain_run, run_over};
-use crate::spill_tests::{FOLDER_WORDS, ROWS};
+use crate::hold::hold;
+use crate::runs::{NOTHING, Run, holds, holds_in_memory};
 use pipe_global::OpenGate;
 use pipe_spill::{MemoryStore, SpillStore, StoreError};
 use std::alloc::{AllocError, Global};
-use std::process::Abort;
 use std::sync::Wait;
 use std::test::Fail;
 use std::thread::Threads;
-use tool_answer::ToolEnd;
 
-/// Which calls of the store fail, the status, the output, the line, and how many frames are left.
-type Outcome = (&'static [u64], u8, &'static str, &'static str, u64);
+/// A run that spills two of its three rows to a folder, in one frame.
+const SPILLED: Run<'static> = Run {
+    words: &[
+        "--spill-size",
+        "0",
+        "--buffer",
+        "1",
+        "--payloads",
+        "0",
+        "--actions",
+        "d",
+        "--spill-dir",
+        "x",
+        r#"{"schema":[["k","Int64"],["v","Int64"]],"keys":["k"],"aggs":[{"alias":[{"sum":"v"},"s"]}]}"#,
+    ],
+    files: &[("-", "k,v\n1,5\n2,6\n2,7\n")],
+    output: b"k,s\n1,5\n2,13\n",
+    frames: Some(1),
+    ..NOTHING
+};
 
-const OUTCOMES: [Outcome; 3] = [
-    (&[], 0, "k,s\n1,5\n2,13\n", "", 1),
-    (&[0], 8, "", "store 0 failed\n", 0),
-    (&[1], 8, "", "store 0 failed\n", 1),
-];
+/// The same where the store has failed.
+const FAILED: Run<'static> = Run {
+    status: 8,
+    output: b"",
+    line: b"store 0 failed\n",
+    ..SPILLED
+};
 
 /// A store that doesn't tell, and gives no byte back.
 #[derive(Drop)]
@@ -66,38 +84,63 @@ impl MadeStore for Loose {
     }
 }
 
-/// Whether one store is left, with so many frames, and journals stand exactly where the run was done.
-fn has_left<S: SpillStore + Drop>(end: &ToolEnd<S>, frames: u64) -> bool {
-    end.stores.len() == 1
-        && end.stores[0].held() == frames
-        && end.journals.journals().is_empty() == (end.status != 0)
+/// Whether a run over such stores of a folder, of which listed calls fail, comes to what is due.
+fn holds_over<S: MadeStore, H: Alloc<A = Global> + Threads + Wait + Sync>(
+    rt: &H,
+    run: &Run<'_>,
+    mut maker: FolderStores<S>,
+) -> Result<bool, AllocError> {
+    holds(rt, run, &mut maker, &OpenGate)
 }
 
-/// Runs the tool over stores of the folder, and asks for the outcome.
-fn drive_outcome<S: MadeStore, H: Abort + Alloc<A = Global> + Threads + Wait + Sync>(
+/// Whether a run over a store in memory of which listed calls fail does.
+fn holds_where<H: Alloc<A = Global> + Threads + Wait + Sync>(
     rt: &H,
-    mut maker: FolderStores<S>,
-    outcome: Outcome,
-) -> Result<(), Fail> {
-    let (_, status, output, line, frames) = outcome;
-    let run = plain_run(&FOLDER_WORDS, &ROWS, status, output, line);
-    let mut input = files_of(rt.alloc(), &ROWS, &[])?;
-    let end = run_over(rt, &run, &mut input, &mut maker, &OpenGate)?;
-    assert!(rt; has_left(&end, frames));
-    Ok(())
+    run: &Run<'_>,
+    failing: &'static [u64],
+) -> Result<bool, AllocError> {
+    let maker: FolderStores<MemoryStore> = FolderStores::new(rt.alloc(), failing);
+    holds_over(rt, run, maker)
+}
+
+/// What comes where the first call fails.
+const UNPUT: Run<'static> = Run {
+    frames: Some(0),
+    ..FAILED
+};
+
+/// What comes where the store can't be made.
+const UNMADE: Run<'static> = Run {
+    status: 10,
+    line: b"out of memory\n",
+    frames: None,
+    ..FAILED
+};
+
+/// Whether runs do whose store never fails, whose first or second call fails, and that can't be made.
+fn do_all_hold<H: Alloc<A = Global> + Threads + Wait + Sync>(rt: &H) -> Result<bool, AllocError> {
+    Ok(
+        holds_where(rt, &SPILLED, &[])?
+            && holds_where(rt, &UNPUT, &[0])?
+            && holds_where(rt, &FAILED, &[1])?
+            && holds_in_memory(rt, &UNMADE, &OpenGate)?,
+    )
 }
 
 #[test]
 fn stores_of_a_folder(rt: HostRuntime) -> Result<(), Fail> {
-    for outcome in OUTCOMES {
-        let maker: FolderStores<MemoryStore> = FolderStores::new(rt.alloc(), outcome.0);
-        drive_outcome(&rt, maker, outcome)?;
-    }
-    Ok(())
+    hold(do_all_hold(&rt))
 }
+
+/// What comes where the store gives no byte of its frame back.
+const DAMAGED: Run<'static> = Run {
+    status: 9,
+    line: b"store 0 frame 0 damaged\n",
+    ..FAILED
+};
 
 #[test]
 fn no_byte_back(rt: HostRuntime) -> Result<(), Fail> {
     let maker: FolderStores<Loose> = FolderStores::new(rt.alloc(), &[]);
-    drive_outcome(&rt, maker, (&[], 9, "", "store 0 frame 0 damaged\n", 1))
+    hold(holds_over(&rt, &DAMAGED, maker))
 }

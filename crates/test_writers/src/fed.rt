@@ -7,9 +7,8 @@ ghost use Rattle.pipe_writers.specs.Writers.{IsFresh, IsOpen};
 use pipe_columns::{DataChunk, DataFrame, FinalizedSink, Schema, Sink, SinkResult};
 use pipe_files_sink::{FilesSender, FilesSink, WriterCore};
 use pipe_writers::{SinkWriter, WriteError};
-use std::alloc::Global;
+use std::alloc::{AllocError, Global};
 use std::sync::Wait;
-use std::test::Fail;
 use std::thread::Threads;
 
 /// Writes a frame that fits and finishes.
@@ -47,18 +46,18 @@ fn put_all<W: SinkWriter>(
     core.finish()
 }
 
-/// What a core answers whose writer took chunks in pieces of two and was finished, and the writer.
+/// What a core answers whose writer took chunks in pieces of two, by their numbers, and was finished, and the
+/// writer.
 pub(crate) fn write_all<W: SinkWriter>(
     alloc: Global,
     writer: W,
     schema: &Schema,
-    maintain_order: bool,
     chunks: Vec<DataChunk>,
 ) -> (Result<(), WriteError>, W)
     requires fresh { IsFresh (W.calls writer) }
     requires schema { W.fields (W.format writer) ≡ schema.now }
 {
-    let mut core = WriterCore::new(alloc, writer, maintain_order, 2);
+    let mut core = WriterCore::new(alloc, writer, true, 2);
     let written = put_all(&mut core, schema, chunks);
     (written, core.into_writer())
 }
@@ -68,7 +67,7 @@ pub(crate) fn sink_into<W, H>(
     sink: &mut FilesSink<W, H>,
     schema: &Schema,
     chunk: DataChunk,
-) -> Result<SinkResult, Fail>
+) -> Result<SinkResult, AllocError>
 where
     W: SinkWriter + Drop,
     H: Threads + Wait + Copy,
@@ -76,11 +75,11 @@ where
     ensures { sink.new.schema ≡ sink.old.schema }
 {
     if !is_taken(schema, &chunk) {
-        return Err("no fit".into());
+        return Err(AllocError);
     }
     match sink.sink(chunk) {
         Ok(answer) => Ok(answer),
-        Err(_) => Err("refused".into()),
+        Err(_) => Err(AllocError),
     }
 }
 
@@ -89,7 +88,7 @@ pub(crate) fn sink_all<W, H>(
     sink: &mut FilesSink<W, H>,
     schema: &Schema,
     chunks: Vec<DataChunk>,
-) -> Result<(), Fail>
+) -> Result<(), AllocError>
 where
     W: SinkWriter + Drop,
     H: Threads + Wait + Copy,
@@ -107,29 +106,39 @@ pub(crate) fn send_into<W: SinkWriter + Drop, H: Wait>(
     sender: &mut FilesSender<W, H>,
     schema: &Schema,
     chunk: DataChunk,
-) -> Result<SinkResult, Fail>
+) -> Result<SinkResult, AllocError>
     requires { sender.old.schema ≡ schema.now }
     ensures { sender.new.schema ≡ sender.old.schema }
 {
     if !is_taken(schema, &chunk) {
-        return Err("no fit".into());
+        return Err(AllocError);
     }
     match sender.sink(chunk) {
         Ok(answer) => Ok(answer),
-        Err(_) => Err("refused".into()),
+        Err(_) => Err(AllocError),
     }
 }
 
-/// How a sink ends; its frame has no row.
-pub(crate) fn ended<W, H>(sink: &mut FilesSink<W, H>) -> Result<Option<WriteError>, Fail>
+/// Whether a sink ends well, without a row; or how its writing failed.
+pub(crate) fn ended<W, H>(sink: &mut FilesSink<W, H>) -> Result<bool, WriteError>
 where
     W: SinkWriter + Drop,
     H: Threads + Wait + Copy,
     ensures { sink.new.schema ≡ sink.old.schema }
 {
-    match sink.finalize() {
-        Ok(FinalizedSink::Finished(frame)) if frame.height() == 0 => Ok(None),
-        Ok(_) => Err("a row".into()),
-        Err(fault) => Ok(Some(fault)),
+    let FinalizedSink::Finished(frame) = sink.finalize()?;
+    Ok(frame.height() == 0)
+}
+
+/// Whether a text was written whole. Where memory was wanting, and a front of it was written, the error tells that.
+pub(crate) fn is_written(
+    end: Result<bool, WriteError>,
+    told: &[u8],
+    text: &[u8],
+) -> Result<bool, AllocError> {
+    match end {
+        Ok(done) => Ok(done && told == text),
+        Err(WriteError::Memory) if text.starts_with(told) => Err(AllocError),
+        Err(_) => Ok(false),
     }
 }

@@ -1,8 +1,9 @@
 //! Texts at the edges of JSON, read back.
 
-use crate::fed::write_all;
-use crate::made::{chunk_of, json_writer, output, texts};
+use crate::hold::hold;
+use crate::made::{frame_of, output};
 use pipe_io::MemoryOutput;
+use pipe_writers::write_json;
 use serde_json::Value;
 use std::alloc::{AllocError, Global};
 use std::test::Fail;
@@ -17,30 +18,31 @@ fn characters(alloc: Global) -> Result<String, AllocError> {
     Ok(all)
 }
 
-/// What an output was told where a text was written as a line of JSON.
-fn told_of(alloc: Global, text: &str) -> Result<MemoryOutput, Fail> {
-    let schema = texts(alloc)?;
-    let chunks = vec![in alloc; chunk_of(alloc, 0, &[text])?]?;
-    let writer = json_writer(alloc, output(alloc, &[])?, &schema)?;
-    let (written, writer) = write_all(alloc, writer, &schema, true, chunks);
-    if written != Ok(()) {
-        return Err("not written".into());
-    }
-    Ok(writer.into_output())
+/// Writes a text as a line of JSON.
+fn write_line(alloc: Global, output: &mut MemoryOutput, text: &str) -> Result<bool, AllocError> {
+    let frame = frame_of(alloc, &[text])?;
+    Ok(write_json(alloc, output, &frame).is_ok())
 }
 
 /// Whether bytes are a line of JSON that has a text.
-fn has_text(alloc: Global, bytes: &[u8], text: &str) -> Result<bool, Fail> {
-    let line = str::from_utf8(bytes).map_err(|_| "no text")?;
-    let value = Value::from_str(alloc, line).map_err(|_| "no JSON")?;
-    Ok(value.get("t").and_then(Value::as_str) == Some(text))
+fn has_text(alloc: Global, bytes: &[u8], text: &str) -> bool {
+    let Ok(line) = str::from_utf8(bytes) else {
+        return false;
+    };
+    match Value::from_str(alloc, line) {
+        Ok(value) => value.get("t").and_then(Value::as_str) == Some(text),
+        Err(_) => false,
+    }
+}
+
+/// Whether a text is written and read back.
+fn is_read_back(alloc: Global, output: &mut MemoryOutput, text: &str) -> Result<bool, AllocError> {
+    Ok(write_line(alloc, output, text)? && has_text(alloc, output.bytes(), text))
 }
 
 #[test]
 fn texts_are_read_back(rt: HostRuntime) -> Result<(), Fail> {
-    let alloc = rt.alloc();
-    let all = characters(alloc)?;
-    let told = told_of(alloc, all.as_str())?;
-    assert!(rt; has_text(alloc, told.bytes(), all.as_str())?);
-    Ok(())
+    let all = characters(rt.alloc())?;
+    let mut output = output(rt.alloc(), &[])?;
+    hold(is_read_back(rt.alloc(), &mut output, all.as_str()))
 }

@@ -6,6 +6,8 @@ mod byte_tests;
 #[cfg(test)]
 mod fed;
 #[cfg(test)]
+mod hold;
+#[cfg(test)]
 mod json_tests;
 #[cfg(test)]
 mod kept_tests;
@@ -25,5 +27,3 @@ mod sink_tests;
 mod text_tests;
 #[cfg(test)]
 mod thread_tests;
-#[cfg(test)]
-mod writer_tests;

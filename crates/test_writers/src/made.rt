@@ -9,7 +9,6 @@ use pipe_io::{MemoryOutput, Output};
 use pipe_writers::{CsvBatchedWriter, JsonBatchedWriter, copy_schema};
 use std::alloc::{AllocError, Global};
 use std::sync::Wait;
-use std::test::Fail;
 use std::thread::Threads;
 
 /// One field of texts.
@@ -21,17 +20,21 @@ pub(crate) fn texts(alloc: Global) -> Result<Schema, AllocError> {
     Ok(Schema::new(fields))
 }
 
-/// A frame of that field.
-fn frame_of_values(alloc: Global, values: Vec<AnyValue>) -> Result<DataFrame, Fail> {
-    let height = values.len();
+/// A column of that field.
+fn column_of(alloc: Global, values: Vec<AnyValue>) -> Result<Column, AllocError> {
     let name = Text::new(alloc, "t")?;
-    let column = Column::new(name, DataType::String, false, values).ok_or("no column")?;
-    let columns = vec![in alloc; column]?;
-    Ok(DataFrame::new(height, columns).ok_or("no frame")?)
+    Column::new(name, DataType::String, false, values).ok_or(AllocError)
+}
+
+/// A frame of that field.
+fn frame_of_values(alloc: Global, values: Vec<AnyValue>) -> Result<DataFrame, AllocError> {
+    let height = values.len();
+    let columns = vec![in alloc; column_of(alloc, values)?]?;
+    DataFrame::new(height, columns).ok_or(AllocError)
 }
 
 /// A frame of a row for each text.
-pub(crate) fn frame_of(alloc: Global, rows: &[&str]) -> Result<DataFrame, Fail> {
+pub(crate) fn frame_of(alloc: Global, rows: &[&str]) -> Result<DataFrame, AllocError> {
     let mut values = Vec::new(alloc);
     for row in rows {
         values.push(AnyValue::Text(Text::new(alloc, row)?))?;
@@ -40,13 +43,21 @@ pub(crate) fn frame_of(alloc: Global, rows: &[&str]) -> Result<DataFrame, Fail> 
 }
 
 /// A chunk of a row for each text.
-pub(crate) fn chunk_of(alloc: Global, chunk_index: u32, rows: &[&str]) -> Result<DataChunk, Fail> {
+pub(crate) fn chunk_of(
+    alloc: Global,
+    chunk_index: u32,
+    rows: &[&str],
+) -> Result<DataChunk, AllocError> {
     let frame = frame_of(alloc, rows)?;
     Ok(DataChunk { chunk_index, frame })
 }
 
 /// A chunk of so many rows without a text.
-pub(crate) fn blank_rows(alloc: Global, chunk_index: u32, rows: usize) -> Result<DataChunk, Fail> {
+pub(crate) fn blank_rows(
+    alloc: Global,
+    chunk_index: u32,
+    rows: usize,
+) -> Result<DataChunk, AllocError> {
     let mut values = Vec::new(alloc);
     for _ in 0..rows {
         values.push(AnyValue::Null)?;
@@ -56,7 +67,7 @@ pub(crate) fn blank_rows(alloc: Global, chunk_index: u32, rows: usize) -> Result
 }
 
 /// The chunks 3, 1 and 0 of one row each.
-pub(crate) fn three_chunks(alloc: Global) -> Result<Vec<DataChunk>, Fail> {
+pub(crate) fn three_chunks(alloc: Global) -> Result<Vec<DataChunk>, AllocError> {
     let mut chunks = Vec::new(alloc);
     for (number, row) in [(3, "c"), (1, "a"), (0, "b")] {
         chunks.push(chunk_of(alloc, number, &[row])?)?;

@@ -7,10 +7,9 @@ ghost use Rattle.pipe_io.specs.MemoryOutput.{held_faults, held_bytes};
 ghost use Rattle.pipe_io.specs.declared.output.OutputError.TheVariants as output_error;
 
 use pipe_io::{MemoryOutput, Output, OutputError};
-use std::alloc::Global;
+use std::alloc::{AllocError, Global};
 use std::sync::Arc;
 use std::sync::atomic::{AtomicU64, Ordering};
-use std::test::Fail;
 use std::thread::yield_now;
 
 /// An output that takes one byte at a time.
@@ -81,6 +80,6 @@ impl Output for Waiting {
 }
 
 /// A flag, and what counts writes.
-pub(crate) fn shared(alloc: Global, raised: u64) -> Result<Arc<AtomicU64, Global>, Fail> {
-    Ok(Arc::new(alloc, AtomicU64::new(raised))?)
+pub(crate) fn shared(alloc: Global, raised: u64) -> Result<Arc<AtomicU64, Global>, AllocError> {
+    Arc::new(alloc, AtomicU64::new(raised)).map_err(|_| AllocError)
 }

@@ -1,6 +1,7 @@
 //! Long texts of writers, which are sent in pieces of a megabyte.
 
 use crate::fed::write_one;
+use crate::hold::hold;
 use crate::made::{frame_of, json_writer, output, texts};
 use pipe_columns::{DataFrame, Schema};
 use std::alloc::{AllocError, Global};
@@ -18,10 +19,17 @@ const PIECES: [(usize, usize, u64); 4] = [
     (4, 8, 1),
 ];
 
-/// Rows of the same text of so many bytes.
-fn rows_of(alloc: Global, rows: usize, bytes: usize) -> Result<DataFrame, Fail> {
-    let bytes = vec![in alloc; b'x'; bytes]?;
-    let text = str::from_utf8(&bytes).map_err(|_| "no text")?;
+/// A text of so many bytes.
+fn text_of(alloc: Global, bytes: usize) -> Result<String, AllocError> {
+    let mut text = String::new(alloc);
+    for _ in 0..bytes {
+        text.push('x')?;
+    }
+    Ok(text)
+}
+
+/// Rows of the same text.
+fn rows_of(alloc: Global, rows: usize, text: &str) -> Result<DataFrame, AllocError> {
     let texts = vec![in alloc; text; rows]?;
     frame_of(alloc, &texts)
 }
@@ -38,16 +46,43 @@ fn written_where_fails(
     Ok((is_written, writer.into_output().bytes().len()))
 }
 
-/// Whether rows of texts of so many bytes take so many writes: where one of them fails, those before
-/// it were made.
-fn are_sent_by(alloc: Global, rows: usize, bytes: usize, writes: u64) -> Result<bool, Fail> {
-    let schema = texts(alloc)?;
-    let frame = rows_of(alloc, rows, bytes)?;
-    let all = (rows as u128).saturating_mul(bytes as u128 + BESIDE as u128);
+/// Whether a frame of so many bytes takes so many writes: where one of them fails, those before it were made.
+fn is_sent_by(
+    alloc: Global,
+    schema: &Schema,
+    frame: &DataFrame,
+    bytes: u128,
+    writes: u64,
+) -> Result<bool, AllocError> {
     for failing in 0..=writes {
-        let (is_written, told) = written_where_fails(alloc, &schema, &frame, failing)?;
-        let sent = u128::from(failing).saturating_mul(all);
+        let (is_written, told) = written_where_fails(alloc, schema, frame, failing)?;
+        let sent = u128::from(failing).saturating_mul(bytes);
         if is_written != (failing == writes) || u128::from(writes) * told as u128 != sent {
+            return Ok(false);
+        }
+    }
+    Ok(true)
+}
+
+/// Whether rows of texts of so many bytes do.
+fn are_sent_by(
+    alloc: Global,
+    schema: &Schema,
+    rows: usize,
+    bytes: usize,
+    writes: u64,
+) -> Result<bool, AllocError> {
+    let text = text_of(alloc, bytes)?;
+    let frame = rows_of(alloc, rows, text.as_str());
+    drop(text);
+    let all = (rows as u128).saturating_mul(bytes as u128 + BESIDE as u128);
+    is_sent_by(alloc, schema, &frame?, all, writes)
+}
+
+/// Whether all are.
+fn are_all_sent(alloc: Global, schema: &Schema) -> Result<bool, AllocError> {
+    for (rows, bytes, writes) in PIECES {
+        if !are_sent_by(alloc, schema, rows, bytes, writes)? {
             return Ok(false);
         }
     }
@@ -56,11 +91,6 @@ fn are_sent_by(alloc: Global, rows: usize, bytes: usize, writes: u64) -> Result<
 
 #[test]
 fn text_is_sent_in_pieces(rt: HostRuntime) -> Result<(), Fail> {
-    for (rows, bytes, writes) in PIECES {
-        assert!(rt;
-            are_sent_by(rt.alloc(), rows, bytes, writes)?,
-            "{rows} {bytes}"
-        );
-    }
-    Ok(())
+    let schema = texts(rt.alloc())?;
+    hold(are_all_sent(rt.alloc(), &schema))
 }

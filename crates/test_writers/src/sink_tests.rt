@@ -3,17 +3,18 @@
 ghost use Rattle.std.specs.Prelude.{◌≡◌};
 
 use crate::fed::{ended, send_into, sink_all, sink_into};
+use crate::hold::hold;
 use crate::made::{blank_rows, chunk_of, csv_sink, output, texts};
 use pipe_columns::{DataChunk, Schema, Sink, SinkResult};
 use pipe_files_sink::{FilesSender, FilesSink};
 use pipe_writers::{SinkWriter, WriteError};
-use std::alloc::Global;
+use std::alloc::{AllocError, Global};
 use std::sync::Wait;
 use std::test::Fail;
 use std::thread::Threads;
 
 /// Eight chunks, each of as many rows as are written at once.
-fn eight_chunks(alloc: Global) -> Result<Vec<DataChunk>, Fail> {
+fn eight_chunks(alloc: Global) -> Result<Vec<DataChunk>, AllocError> {
     let mut chunks = Vec::new(alloc);
     for number in 0..8u32 {
         chunks.push(blank_rows(alloc, number, 4096)?)?;
@@ -21,18 +22,32 @@ fn eight_chunks(alloc: Global) -> Result<Vec<DataChunk>, Fail> {
     Ok(chunks)
 }
 
+/// Whether a sink tells twice of its failed output.
+fn tells_twice<W, H>(sink: &mut FilesSink<W, H>) -> bool
+where
+    W: SinkWriter + Drop,
+    H: Threads + Wait + Copy,
+{
+    ended(sink) == Err(WriteError::Output) && ended(sink) == Err(WriteError::Output)
+}
+
+/// Whether a sink whose output fails takes eight chunks, tells twice of it, and has written nothing.
+fn takes_all<H: Threads + Wait + Copy + Send + 'static>(
+    rt: H,
+    alloc: Global,
+    schema: &Schema,
+) -> Result<bool, AllocError> {
+    let mut sink = csv_sink(rt, alloc, output(alloc, &[0])?, schema, true, 1)?;
+    sink_all(&mut sink, schema, eight_chunks(alloc)?)?;
+    let tells = tells_twice(&mut sink);
+    let told = sink.into_writer().ok_or(AllocError)?.into_output();
+    Ok(tells && told.bytes().is_empty())
+}
+
 #[test]
 fn failing_output_never_halts_a_sink(rt: HostRuntime) -> Result<(), Fail> {
-    let alloc = rt.alloc();
-    let schema = texts(alloc)?;
-    let mut sink = csv_sink(rt, alloc, output(alloc, &[0])?, &schema, true, 1)?;
-    sink_all(&mut sink, &schema, eight_chunks(alloc)?)?;
-    let first = ended(&mut sink)?;
-    let second = ended(&mut sink)?;
-    assert!(rt; first == Some(WriteError::Output) && second == Some(WriteError::Output));
-    let told = sink.into_writer().ok_or("no writer")?.into_output();
-    assert!(rt; told.bytes().is_empty());
-    Ok(())
+    let schema = texts(rt.alloc())?;
+    hold(takes_all(rt, rt.alloc(), &schema))
 }
 
 /// Whether a sink that has ended, a sender that it had and one that it makes now take no chunk.
@@ -41,7 +56,7 @@ fn takes_none<W, H>(
     sink: &mut FilesSink<W, H>,
     sender: &mut FilesSender<W, H>,
     schema: &Schema,
-) -> Result<bool, Fail>
+) -> Result<bool, AllocError>
 where
     W: SinkWriter + Drop,
     H: Threads + Wait + Copy + Drop,
@@ -58,26 +73,55 @@ where
     )
 }
 
-#[test]
-fn finalize_leaves_senders_without_a_writer(rt: HostRuntime) -> Result<(), Fail> {
-    let alloc = rt.alloc();
-    let schema = texts(alloc)?;
-    let mut sink = csv_sink(rt, alloc, output(alloc, &[])?, &schema, true, 1)?;
+/// Whether a sink and its sender take a chunk each, the sink ends well, twice, and then no chunk is taken.
+fn do_both_end<W, H>(
+    alloc: Global,
+    sink: &mut FilesSink<W, H>,
+    sender: &mut FilesSender<W, H>,
+    schema: &Schema,
+) -> Result<bool, AllocError>
+where
+    W: SinkWriter + Drop,
+    H: Threads + Wait + Copy + Drop,
+    requires sink { sink.old.schema ≡ schema.now }
+    requires sender { sender.old.schema ≡ schema.now }
+{
+    sink_into(sink, schema, chunk_of(alloc, 1, &["a"])?)?;
+    send_into(sender, schema, chunk_of(alloc, 0, &["b"])?)?;
+    let first = ended(sink) == Ok(true);
+    let none = takes_none(alloc, sink, sender, schema)?;
+    Ok(first && none && ended(sink) == Ok(true))
+}
+
+/// Whether that is so of a sink and a new sender.
+fn do_both_end_so<W, H>(
+    alloc: Global,
+    sink: &mut FilesSink<W, H>,
+    schema: &Schema,
+) -> Result<bool, AllocError>
+where
+    W: SinkWriter + Drop,
+    H: Threads + Wait + Copy + Drop,
+    requires { sink.old.schema ≡ schema.now }
+{
     let mut sender = sink.split()?;
-    sink_into(&mut sink, &schema, chunk_of(alloc, 1, &["a"])?)?;
-    send_into(&mut sender, &schema, chunk_of(alloc, 0, &["b"])?)?;
-    let first = ended(&mut sink)?;
-    let takes_none = takes_none(alloc, &mut sink, &mut sender, &schema)?;
-    assert!(rt; takes_none && first.is_none() && ended(&mut sink)?.is_none());
-    let told = sink.into_writer().ok_or("no writer")?.into_output();
-    assert!(rt; told.bytes() == b"t\na\nb\n".as_slice());
-    Ok(())
+    do_both_end(alloc, sink, &mut sender, schema)
+}
+
+/// Whether both have written what they took.
+fn do_both_write<H: Threads + Wait + Copy + Drop + Send + 'static>(
+    rt: H,
+    alloc: Global,
+    schema: &Schema,
+) -> Result<bool, AllocError> {
+    let mut sink = csv_sink(rt, alloc, output(alloc, &[])?, schema, true, 1)?;
+    let end = do_both_end_so(alloc, &mut sink, schema)?;
+    let told = sink.into_writer().ok_or(AllocError)?.into_output();
+    Ok(end && told.bytes() == b"t\na\nb\n".as_slice())
 }
 
 #[test]
-fn writer_comes_back_after_finalize_alone(rt: HostRuntime) -> Result<(), Fail> {
-    let alloc = rt.alloc();
-    let sink = csv_sink(rt, alloc, output(alloc, &[])?, &texts(alloc)?, true, 1)?;
-    assert!(rt; sink.fmt() == "files_sink" && sink.into_writer().is_none());
-    Ok(())
+fn finalize_leaves_senders_without_a_writer(rt: HostRuntime) -> Result<(), Fail> {
+    let schema = texts(rt.alloc())?;
+    hold(do_both_write(rt, rt.alloc(), &schema))
 }

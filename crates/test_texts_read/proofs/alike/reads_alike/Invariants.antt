@@ -1,5 +1,0 @@
-use Rattle.pipe_scan.specs.Stops.{AreMarked}
-use Rattle.test_texts_read.proofs.alike.reads_alike.Given as goal
-
-abbrev pub invariant-loop : goal.invariant-loop
-invariant-loop l = AreMarked l.text l.stops
