@@ -4,7 +4,7 @@ use Rattle.std.proofs.lemmas.List.Elements.{All-cons, All-nil}
 use Rattle.std.proofs.lemmas.Map.Keys.{IsDistinct-from_apart}
 use Rattle.std.specs.Prelude.{nat_eq}
 use Rattle.pipe_aggs.specs.QueryTrees.{query_tree}
-use Rattle.test_regroup.proofs.regrouped_tests.by_first_key.Goals as goal
+use Rattle.test_regroup.proofs.regrouped.by_first_key.Goals as goal
 
 pub regroup-requires-clause-kept : goal.regroup-requires-clause-kept
 regroup-requires-clause-kept c =
