@@ -55,8 +55,9 @@ fn feed_two<'a>(
 
 /// Whether chunks that are fed one by one are one frame, and none is none.
 fn grows_by_feeding(alloc: Global, query: &CheckedQuery<'_>) -> Result<bool, Fail> {
+    let schema = &query.query().schema;
     let mut summary = empty(alloc, query)?;
-    feed_two(alloc, &mut summary, &query.query().schema)?;
+    feed_two(alloc, &mut summary, schema)?;
     summary.add(&[])?;
     let right = is_of_three(&summary.answer()?);
     Ok(right && summary.into_store().frames().len() == 1)
