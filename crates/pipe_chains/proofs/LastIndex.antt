@@ -1,5 +1,5 @@
 -- The last index that passes.
-use Rattle.std.proofs.Common.{◌≡◌, ℕ, ◌<◌, zero, suc, Bool, true, false, cond, List, [], ◌∷◌, ◌++◌, length, get_or, Option, Some, None, refl, sym, ap, ◌∙◌, arith, subst}
+use Rattle.std.proofs.Common.{◌≡◌, ℕ, ◌<◌, ◌≤◌, zero, suc, Bool, true, false, cond, List, [], ◌∷◌, ◌++◌, length, take, get_or, Option, Some, None, refl, sym, ap, ◌∙◌, arith, subst}
 use Rattle.pipe_chains.specs.Chains.{last_index, later}
 
 module _ {X : Type 0} (p : X → Bool) where
@@ -12,6 +12,18 @@ module _ {X : Type 0} (p : X → Bool) where
         ≡ cond b (Some (suc (length ys))) (later (last_index p ys) (p y))
     by true = refl
     by false = refl
+
+  -- where none passes, there is no last
+  pub last-none : (xs : List X) (d : X) → ((j : ℕ) → j < length xs → p (get_or xs j d) ≡ false) → last_index p xs ≡ None
+  last-none [] d fails = refl
+  last-none (x ∷ xs) d fails = ap (λ o. later o (p x)) (last-none xs d (λ j l. fails (suc j) (omega arith))) ∙ ap (λ b. cond b (Some 0) None) (fails 0 (omega arith))
+
+  -- what fails at the end may be left out
+  pub last-front : (xs : List X) (n : ℕ) (d : X) → ((j : ℕ) → n ≤ j → j < length xs → p (get_or xs j d) ≡ false) → last_index p (take n xs) ≡ last_index p xs
+  last-front [] zero d fails = refl
+  last-front [] (suc n) d fails = refl
+  last-front (x ∷ xs) zero d fails = sym (last-none (x ∷ xs) d (λ j l. fails j (omega arith) l))
+  last-front (x ∷ xs) (suc n) d fails = ap (λ o. later o (p x)) (last-front xs n d (λ j a l. fails (suc j) (omega arith) (omega arith)))
 
   -- what the last index says
   pub record IsLast (xs : List X) (i : ℕ) : Type 0 where

@@ -1,57 +1,42 @@
--- Links that are led anew, one by one.
-use Rattle.std.proofs.Common.{◌≡◌, ℕ, zero, suc, ◌<◌, ◌≤◌, ◌^◌, nat_eq, cond, List, [], ◌∷◌, ◌++◌, length, take, get_or, set, Option, Some, None, refl, sym, ap, ◌∙◌, arith, subst}
-use Rattle.std.proofs.lemmas.List.{length-set, map-append, take_all, length-take-le}
-use Rattle.std.proofs.Math.Seq.{take-suc-set}
+-- Links that are changed one by one.
+use Rattle.std.proofs.Common.{◌≡◌, ℕ, suc, ◌<◌, List, [], ◌∷◌, ◌++◌, length, take, get_or, set, sym, ap, ◌∙◌, arith, subst}
+use Rattle.std.proofs.lemmas.List.{length-map, map-set, take_all}
+use Rattle.std.proofs.Math.Seq.{map-set_same, take-suc, take-suc-set}
+use Rattle.pipe_chains.specs.declared.heads.Heads.{Heads}
 use Rattle.pipe_chains.specs.declared.link.Link.{Link}
-use Rattle.pipe_chains.specs.Layout.{head_of, IsChained, leads_of, marks_of}
-use Rattle.pipe_chains.proofs.LinkFacts.{chained-led, chained-none}
+use Rattle.pipe_chains.specs.Layout.{AreLinked, leads_of, marks_of}
 
--- a link in place of another of its mark
-marks-set : (links : List Link) (i : ℕ) (d link : Link) → i < length links → link.mark ≡ (get_or links i d).mark → marks_of (set links i link) ≡ marks_of links
-marks-set [] i d link l e = absurd (omega arith)
-marks-set (x ∷ xs) zero d link l e = ap (λ (m : ℕ). m ∷ marks_of xs) e
-marks-set (x ∷ xs) (suc i) d link l e = ap (λ (ms : List ℕ). x.mark ∷ ms) (marks-set xs i d link (omega arith) e)
+module _ (links : List Link) (i : ℕ) (link : Link) where
+  pub marks-set : (d : Link) → link.mark ≡ (get_or links i d).mark → marks_of (set links i link) ≡ marks_of links
+  marks-set d e = map-set_same (λ (l : Link). l.mark) links i link d e
 
--- the first so many links are led anew
-pub record LedTo (old now : List Link) (leads : List ℕ) (heads : ℕ → Option ℕ) (n : ℕ) : Type 0 where
-  pub many : length now ≡ length old
+  leads-set : (d : Link) → link.lead ≡ (get_or links i d).lead → leads_of (set links i link) ≡ leads_of links
+  leads-set d e = map-set_same (λ (l : Link). l.lead) links i link d e
+
+  -- one more lead of those that are given
+  pub leads-next : (leads : List ℕ) (next : ℕ) → next ≡ suc i → i < length links → i < length leads → take i (leads_of links) ≡ take i leads → link.lead ≡ get_or leads i 0
+      → take next (leads_of (set links i link)) ≡ take next leads
+  leads-next leads next more within there before e =
+      ap (λ (n : ℕ). take n (leads_of (set links i link))) more
+      ∙ ap (take (suc i)) (map-set (λ (l : Link). l.lead) links i link)
+      ∙ take-suc-set (leads_of links) i link.lead (omega (arith, length-map links (λ (l : Link). l.lead)))
+      ∙ ap (λ (ls : List ℕ). ls ++ link.lead ∷ []) before ∙ ap (λ (l : ℕ). take i leads ++ l ∷ []) e
+      ∙ sym (take-suc leads i 0 there) ∙ ap (λ (n : ℕ). take n leads) (sym more)
+
+-- the first so many links are linked
+pub record LinkedTo (old now : List Link) (heads : Heads) (n : ℕ) : Type 0 where
   pub marks : marks_of now ≡ marks_of old
-  pub chained : IsChained (take n now) heads
-  pub led : leads_of (take n now) ≡ take n leads
+  pub leads : leads_of now ≡ leads_of old
+  pub linked : AreLinked heads (take n now)
 
-pub led-none : (old : List Link) (leads : List ℕ) (heads : ℕ → Option ℕ) → ((m : ℕ) → heads m ≡ None) → LedTo old old leads heads 0
-led-none old leads heads none = record {
-  many = refl;
-  marks = refl;
-  chained = chained-none heads none;
-  led = refl;
-}
-
-take-lead : (leads : List ℕ) (n lead : ℕ) → n < length leads → lead ≡ get_or leads n 0 → take n leads ++ lead ∷ [] ≡ take (suc n) leads
-take-lead [] n lead l e = absurd (omega arith)
-take-lead (x ∷ xs) zero lead l e = ap (λ (m : ℕ). m ∷ []) e
-take-lead (x ∷ xs) (suc n) lead l e = ap (λ (ms : List ℕ). x ∷ ms) (take-lead xs n lead (omega arith) e)
-
-module _ (old now : List Link) (leads : List ℕ) (heads new : ℕ → Option ℕ) (n : ℕ) (led : LedTo old now leads heads n) (d link : Link)
-    (within : n < length now) (there : n < length leads) (few : suc n < 2 ^ 32) where
-  pub led-next : (next lead told : ℕ) → next ≡ suc n → link.mark ≡ (get_or now n d).mark → link.lead ≡ lead → lead ≡ get_or leads n 0 → link.behind ≡ head_of (heads lead)
-      → told ≡ suc n → ((m : ℕ) → new m ≡ cond (nat_eq lead m) (Some told) (heads m)) → LedTo old (set now n link) leads new next
-  led-next next lead told more mark same is behind end headed = subst (LedTo old (set now n link) leads new) (sym more) (record {
-    many = length-set now n link ∙ led.many;
-    marks = marks-set now n d link within mark ∙ led.marks;
-    chained = subst (λ (ls : List Link). IsChained ls new) (sym (take-suc-set now n link within))
-        (chained-led (take n now) link heads new led.chained lead same behind told (end ∙ ap suc (sym (length-take-le n now (omega arith)))) (omega (arith, end)) headed);
-    led = ap leads_of (take-suc-set now n link within) ∙ map-append (λ (l : Link). l.lead) (take n now) (link ∷ [])
-        ∙ ap (λ (ms : List ℕ). ms ++ link.lead ∷ []) led.led ∙ take-lead leads n link.lead there (same ∙ is);
+module _ (old now : List Link) (heads : Heads) (n : ℕ) (to : LinkedTo old now heads n) where
+  pub linked-next : (new : Heads) (d link : Link) (next : ℕ) → next ≡ suc n → n < length now → link.mark ≡ (get_or now n d).mark → link.lead ≡ (get_or now n d).lead
+      → AreLinked new (take n now ++ link ∷ []) → LinkedTo old (set now n link) new next
+  linked-next new d link next more within mark lead linked = subst (LinkedTo old (set now n link) new) (sym more) (record {
+    marks = marks-set now n link d mark ∙ to.marks;
+    leads = leads-set now n link d lead ∙ to.leads;
+    linked = subst (AreLinked new) (sym (take-suc-set now n link within)) linked;
   })
 
--- all are
-module _ (old now : List Link) (leads : List ℕ) (heads : ℕ → Option ℕ) (n : ℕ) (led : LedTo old now leads heads n) (end : length old ≤ n) (many : length leads ≡ length old) where
-  all-now : take n now ≡ now
-  all-now = take_all n now (omega (arith, led.many, end))
-
-  pub led-chained : IsChained now heads
-  led-chained = subst (λ (ls : List Link). IsChained ls heads) all-now led.chained
-
-  pub led-leads : leads_of now ≡ leads
-  led-leads = sym (ap leads_of all-now) ∙ led.led ∙ take_all n leads (omega (arith, many, end))
+  pub linked-all : length now ≡ n → AreLinked heads now
+  linked-all end = subst (AreLinked heads) (take_all n now (omega (arith, end))) to.linked

@@ -1,3 +1,4 @@
 pub mod Chains
 pub mod Hash
+pub mod Heads
 pub mod Layout

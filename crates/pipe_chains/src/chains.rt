@@ -3,9 +3,9 @@
 ghost use Rattle.std.specs.Prelude.{◌≡◌, ◌+◌, ◌≤◌, ◌<◌, ◌∷◌, ◌++◌, [], length, take, slice_index, IsOk, OnErr, OnOk};
 ghost use Rattle.pipe_chains.specs.Chains.{last_of};
 
-use crate::heads::HeadHasher;
-use crate::link::{Link, entry_of, lead_all, link_to};
-use indexmap::IndexMap;
+use crate::heads::Heads;
+use crate::link::{Link, along, lead_all, link_all, link_to};
+use crate::widen::see_to_heads;
 use std::alloc::{AllocError, Global};
 use std::hash::RandomState;
 use std::marker::Model;
@@ -18,7 +18,7 @@ const MOST_ENTRIES: usize = 0xFFFF_FFFF;
 /// room for more.
 #[derive(Drop)]
 pub struct Chains {
-    heads: IndexMap<u64, u32, HeadHasher>,
+    heads: Heads,
     links: Vec<Link>,
 }
 
@@ -34,23 +34,12 @@ impl Model for Chains {
 }
 
 impl Chains {
-    /// Chains of no entries, whose heads are found as a hasher says.
-    fn over(alloc: Global, hasher: HeadHasher) -> Chains
-        ensures marks { result.marks ≡ [] }
-        ensures leads { result.leads ≡ [] }
-    {
-        Chains {
-            heads: IndexMap::with_hasher(alloc, hasher),
-            links: Vec::new(alloc),
-        }
-    }
-
     /// Chains of no entries.
     pub fn new(alloc: Global) -> Chains
         ensures marks { result.marks ≡ [] }
         ensures leads { result.leads ≡ [] }
     {
-        Chains::over(alloc, HeadHasher::new(None))
+        Chains::with_keys(alloc, None)
     }
 
     /// Chains of no entries, the heads of which are found under these keys: no leads can be chosen so
@@ -59,7 +48,10 @@ impl Chains {
         ensures marks { result.marks ≡ [] }
         ensures leads { result.leads ≡ [] }
     {
-        Chains::over(alloc, HeadHasher::new(keys))
+        Chains {
+            heads: Heads::new(alloc, keys),
+            links: Vec::new(alloc),
+        }
     }
 
     /// Where the memory comes from.
@@ -72,7 +64,10 @@ impl Chains {
         ensures marks { result.marks ≡ [] }
         ensures leads { result.leads ≡ [] }
     {
-        Chains::over(self.allocator(), *self.heads.hasher())
+        Chains {
+            heads: self.heads.split(),
+            links: Vec::new(self.allocator()),
+        }
     }
 
     /// How many entries there are.
@@ -96,11 +91,14 @@ impl Chains {
     pub fn last(&self, lead: u64) -> Option<usize>
         ensures { result ≡ last_of lead self.now.leads }
     {
-        let told = match self.heads.get(&lead) {
-            Some(told) => *told,
-            None => 0,
-        };
-        entry_of(told)
+        let told = self.heads.of_lead(lead);
+        along(&self.heads, self.links.as_slice(), told, lead)
+    }
+
+    /// Where the last entry of a lead may stand, as a guess that says nothing.
+    #[inline(always)]
+    pub fn near(&self, lead: u64) -> usize {
+        (self.heads.of_lead(lead) as usize).wrapping_sub(1)
     }
 
     /// The last entry before another that has the same lead.
@@ -110,7 +108,8 @@ impl Chains {
         ensures { result
             ≡ last_of (slice_index self.now.leads index) (take index self.now.leads) }
     {
-        self.links[index].before()
+        let Link { behind, lead, .. } = self.links[index];
+        along(&self.heads, self.links.as_slice(), behind, lead)
     }
 
     /// Whether more than 32 entries stand before one in its chain.
@@ -119,17 +118,6 @@ impl Chains {
         requires { index < length self.now.leads }
     {
         self.links[index].is_deep()
-    }
-
-    /// How many more entries there is room for.
-    fn room(&self) -> usize
-        ensures { result ≡ self.now.room }
-    {
-        let heads = self.heads.capacity().saturating_sub(self.heads.len());
-        let links = self.links.capacity().saturating_sub(self.links.len());
-        heads
-            .min(links)
-            .min(MOST_ENTRIES.saturating_sub(self.links.len()))
     }
 
     /// Takes memory for so many more entries. More than 2^32 - 1 in all are want of memory.
@@ -143,7 +131,8 @@ impl Chains {
         if additional > MOST_ENTRIES - self.links.len() {
             return Err(AllocError);
         }
-        self.heads.reserve(additional)?;
+        let entries = self.links.len() + additional;
+        see_to_heads(&mut self.heads, self.links.as_mut_slice(), entries)?;
         self.links.reserve(additional)
     }
 
@@ -156,14 +145,9 @@ impl Chains {
         ensures succeeds { 0 < self.old.room → IsOk result }
         ensures room { self.old.room ≤ self.new.room + 1 }
     {
-        let index = self.links.len();
-        if index >= MOST_ENTRIES {
-            return Err(AllocError);
-        }
-        self.links.reserve(1)?;
-        let told = index as u32 + 1;
-        let link = link_to(&mut self.heads, self.links.as_slice(), told, mark, lead)?;
-        self.links.push(link).unwrap();
+        self.reserve(1)?;
+        let link = link_to(&mut self.heads, self.links.as_slice(), mark, lead);
+        self.links.push_reserved(link);
         Ok(())
     }
 
@@ -175,10 +159,9 @@ impl Chains {
         ensures err { OnErr result (self.new.leads ≡ self.old.leads) }
         ensures room { self.old.room ≤ self.new.room }
     {
-        let wanted = self.links.len().saturating_add(self.room());
-        self.heads.reserve(wanted.saturating_sub(self.heads.len()))?;
+        lead_all(self.links.as_mut_slice(), leads);
         self.heads.clear();
-        lead_all(&mut self.heads, self.links.as_mut_slice(), leads);
+        link_all(&mut self.heads, self.links.as_mut_slice());
         Ok(())
     }
 

@@ -6,6 +6,7 @@ mod hash;
 mod heads;
 mod link;
 mod secret;
+mod widen;
 
 pub use chains::Chains;
 pub use hash::hash_bytes;

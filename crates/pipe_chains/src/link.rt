@@ -1,111 +1,109 @@
 //! The links of chains.
 
-ghost use Rattle.std.specs.Prelude.{◌≡◌, ◌+◌, ◌≤◌, ◌<◌, ◌^◌, ℕ, IfOk, IsOk, OnErr, OnOk, Some, cond, length, nat_eq};
-ghost use Rattle.indexmap.specs.IndexMap.{get, IsEmpty, IsUnchanged, spare};
-ghost use Rattle.pipe_chains.specs.Layout.{entry_of, head_of, IsChained, leads_of, marks_of};
+ghost use Rattle.std.specs.Prelude.{◌≡◌, ◌+◌, ◌≤◌, ◌<◌, ◌∷◌, ◌++◌, ◌^◌, [], length, take};
+ghost use Rattle.pipe_chains.specs.Chains.{last_of};
+ghost use Rattle.pipe_chains.specs.Heads.{AreClear, slot_of};
+ghost use Rattle.pipe_chains.specs.Layout.{AreLinked, IsOfSlot, leads_of, marks_of};
 
-use crate::heads::HeadHasher;
-use indexmap::IndexMap;
-use std::alloc::AllocError;
+use crate::heads::Heads;
 
 /// Chains are deep where more entries than these stand before one of theirs.
 const DEEP: u32 = 32;
 
-/// The mark of an entry; its lead, by which it is chained; the entry before it of the same lead, as
-/// its number and one, or 0 where there is none; and how many stand before it in its chain.
+/// The mark of an entry; its lead; the entry before it whose lead has the same slot, as its number and
+/// one, or 0 where there is none; and how many of its lead stand before it.
 #[derive(Clone, Copy, Debug)]
 pub(crate) struct Link {
     pub(crate) mark: u64,
     pub(crate) lead: u64,
-    behind: u32,
+    pub(crate) behind: u32,
     depth: u32,
 }
 
-/// An entry that is told as its number and one.
-#[inline(always)]
-pub(crate) fn entry_of(told: u32) -> Option<usize>
-    ensures { result ≡ entry_of told }
-{
-    if told == 0 {
-        None
-    } else {
-        Some(told as usize - 1)
-    }
-}
-
 impl Link {
-    /// The entry before it of the same lead.
-    #[inline(always)]
-    pub(crate) fn before(&self) -> Option<usize>
-        ensures { result ≡ entry_of self.now.behind }
-    {
-        entry_of(self.behind)
-    }
-
-    /// Whether many stand before it in its chain.
+    /// Whether many of its lead stand before it.
     #[inline(always)]
     pub(crate) fn is_deep(&self) -> bool {
         self.depth > DEEP
     }
 }
 
-/// How many entries stand before one in its chain, behind which there is that entry.
-fn depth_behind(links: &[Link], behind: u32) -> u32 {
-    match links.get(behind.wrapping_sub(1) as usize) {
+/// The last entry of a lead among so many, the last of which has its slot.
+#[inline(always)]
+pub(crate) fn along(heads: &Heads, links: &[Link], told: u32, lead: u64) -> Option<usize>
+    requires linked { AreLinked heads.now links.now }
+    requires slot { IsOfSlot (slot_of heads.now) links.now lead told }
+    ensures { result ≡ last_of lead (take told (leads_of links.now)) }
+{
+    let mut told = told;
+    while told != 0 {
+        let index = told as usize - 1;
+        let link = &links[index];
+        if link.lead == lead {
+            return Some(index);
+        }
+        told = link.behind;
+    }
+    None
+}
+
+/// How many entries of a lead there are, the last of which is given.
+fn depth_behind(links: &[Link], last: Option<usize>) -> u32 {
+    let Some(index) = last else {
+        return 0;
+    };
+    match links.get(index) {
         Some(link) => link.depth.saturating_add(1),
         None => 0,
     }
 }
 
-/// The link of an entry, told as its number and one, which is now the head of its lead.
+/// The link of one more entry, which the head of its lead tells from now on.
 #[inline(always)]
-pub(crate) fn link_to(
-    heads: &mut IndexMap<u64, u32, HeadHasher>,
-    links: &[Link],
-    told: u32,
-    mark: u64,
-    lead: u64,
-) -> Result<Link, AllocError>
-    ensures mark { IfOk result (λ l. l.mark ≡ mark) }
-    ensures lead { IfOk result (λ l. l.lead ≡ lead) }
-    ensures behind { IfOk result (λ l. l.behind ≡ head_of (get nat_eq heads.old lead)) }
-    ensures headed { OnOk result ((m : ℕ) → get nat_eq heads.new m
-        ≡ cond (nat_eq lead m) (Some told) (get nat_eq heads.old m)) }
-    ensures err { OnErr result (IsUnchanged heads.old heads.new) }
-    ensures succeeds { 0 < spare heads.old → IsOk result }
-    ensures room { spare heads.old ≤ spare heads.new + 1 }
+pub(crate) fn link_to(heads: &mut Heads, links: &[Link], mark: u64, lead: u64) -> Link
+    requires linked { AreLinked heads.old links.now }
+    requires few { length links.now + 1 < 2 ^ 32 }
+    requires headed { 0 < length heads.old.told.items }
+    ensures mark { result.mark ≡ mark }
+    ensures lead { result.lead ≡ lead }
+    ensures linked { AreLinked heads.new (links.now ++ result ∷ []) }
+    ensures kept { length heads.new.told.items ≡ length heads.old.told.items }
 {
-    let behind = match heads.insert(lead, told)? {
-        Some(before) => before,
-        None => 0,
-    };
-    let depth = depth_behind(links, behind);
-    Ok(Link {
+    let slot = heads.slot(lead);
+    let behind = heads.told[slot];
+    let depth = depth_behind(links, along(heads, links, behind, lead));
+    heads.told[slot] = links.len() as u32 + 1;
+    Link {
         mark,
         lead,
         behind,
         depth,
-    })
+    }
 }
 
-/// Chains entries by other leads, for which there is room.
-pub(crate) fn lead_all(
-    heads: &mut IndexMap<u64, u32, HeadHasher>,
-    links: &mut [Link],
-    leads: &[u64],
-)
-    requires many { length leads.now ≡ length links.old }
+/// Links all entries by their leads, where no head tells one.
+pub(crate) fn link_all(heads: &mut Heads, links: &mut [Link])
+    requires clear { AreClear heads.old }
     requires few { length links.old < 2 ^ 32 }
-    requires empty { IsEmpty heads.old }
-    requires room { length links.old ≤ spare heads.old }
-    ensures chained { IsChained links.new (get nat_eq heads.new) }
-    ensures leads { leads_of links.new ≡ leads.now }
+    requires headed { length links.old ≤ length heads.old.told.items }
+    ensures linked { AreLinked heads.new links.new }
     ensures marks { marks_of links.new ≡ marks_of links.old }
-    ensures room { spare heads.old ≤ spare heads.new + length links.old }
+    ensures leads { leads_of links.new ≡ leads_of links.old }
+    ensures kept { length heads.new.told.items ≡ length heads.old.told.items }
 {
     for index in 0..links.len() {
-        let mark = links[index].mark;
-        let told = index as u32 + 1;
-        links[index] = link_to(heads, links, told, mark, leads[index]).unwrap();
+        let Link { mark, lead, .. } = links[index];
+        links[index] = link_to(heads, &links[..index], mark, lead);
+    }
+}
+
+/// Gives the entries other leads, by which they are not linked yet.
+pub(crate) fn lead_all(links: &mut [Link], leads: &[u64])
+    requires { length leads.now ≡ length links.old }
+    ensures marks { marks_of links.new ≡ marks_of links.old }
+    ensures leads { leads_of links.new ≡ leads.now }
+{
+    for index in 0..links.len() {
+        links[index].lead = leads[index];
     }
 }

@@ -3,6 +3,7 @@
 
 mod ahead;
 mod answer_laws;
+mod arrange;
 mod by_place;
 mod copies;
 mod eval;

@@ -17,6 +17,12 @@ impl<M: Marking> KeyedGroups<M> {
         &self.groups
     }
 
+    /// Where the group of a key of a mark may stand, as a guess that says nothing.
+    #[inline(always)]
+    pub fn near(&self, mark: u64) -> usize {
+        self.chains.near(mark)
+    }
+
     /// Where the memory comes from.
     pub fn allocator(&self) -> Global {
         self.chains.allocator()

@@ -6,7 +6,6 @@ ghost use Rattle.pipe_waiting.specs.Waiting.{HaveNoTexts, HoldRows};
 
 use crate::by_hash::ByHash;
 use crate::hash_table::AggHashTable;
-use crate::hints::Hints;
 use pipe_chains::hash_bytes;
 use pipe_columns::DataType;
 use pipe_groups::encode_row;
@@ -18,23 +17,18 @@ use pipe_waiting::LentRows;
 const TOGETHER: usize = 16;
 
 /// The memory of fewer groups is near the processor anyway.
-const FEWEST: usize = 1 << 13;
+const FEWEST: usize = 1 << 14;
 
-/// Reads what the rows from one on need of the groups that hints say are theirs. First all hints are read,
-/// and then all groups, so that the processor waits for several at once. What it answers says nothing.
+/// Reads what the rows from one on need of the groups that may be theirs. First it is read where these may
+/// stand, and then all groups, so that the processor waits for several at once. What it answers says
+/// nothing.
 #[inline(never)]
-fn look(
-    keyed: &KeyedGroups<ByHash>,
-    hints: &Hints,
-    types: &[DataType],
-    rows: &ChunkRows<'_>,
-    from: usize,
-) -> usize
+fn look(keyed: &KeyedGroups<ByHash>, types: &[DataType], rows: &ChunkRows<'_>, from: usize) -> usize
     requires { All (λ r. AreOfTypes types.now r.key) rows.now }
 {
     let mut spots = [0usize; TOGETHER];
     let count = rows.len().saturating_sub(from).min(TOGETHER);
-    let mut key = hints.room();
+    let mut key = Vec::new(keyed.allocator());
     for place in 0..count {
         if encode_row(&mut key, rows, from + place, types).is_err() {
             return 0;
@@ -42,7 +36,7 @@ fn look(
         spots[place] = hash_bytes(&key) as usize;
     }
     for place in 0..count {
-        spots[place] = hints.get(spots[place] as u64);
+        spots[place] = keyed.near(spots[place] as u64);
     }
     let mut seen = 0usize;
     for place in 0..count {
@@ -51,11 +45,11 @@ fn look(
     seen
 }
 
-/// Reads the keys of the groups that hints say are those of these hashes.
+/// Reads the keys of the groups that may be those of keys of these hashes.
 #[inline(always)]
-fn look_at_keys(keyed: &KeyedGroups<ByHash>, hints: &Hints, mut spots: [usize; TOGETHER]) -> usize {
+fn look_at_keys(keyed: &KeyedGroups<ByHash>, mut spots: [usize; TOGETHER]) -> usize {
     for place in 0..TOGETHER {
-        spots[place] = hints.get(spots[place] as u64);
+        spots[place] = keyed.near(spots[place] as u64);
     }
     let mut seen = 0usize;
     for place in 0..TOGETHER {
@@ -71,7 +65,7 @@ fn look_at_keys(keyed: &KeyedGroups<ByHash>, hints: &Hints, mut spots: [usize; T
 
 /// Reads what the keys of the next rows that are lent need.
 #[inline(never)]
-fn look_lent(keyed: &KeyedGroups<ByHash>, hints: &Hints, rows: LentRows<'_>) -> usize
+fn look_lent(keyed: &KeyedGroups<ByHash>, rows: LentRows<'_>) -> usize
     requires held { HoldRows keyed.now.shape.input_types rows.count rows.bytes }
     requires plain { HaveNoTexts keyed.now.shape.input_types }
 {
@@ -82,21 +76,22 @@ fn look_lent(keyed: &KeyedGroups<ByHash>, hints: &Hints, rows: LentRows<'_>) -> 
             spots[place] = hash_bytes(row.key) as usize;
         }
     }
-    look_at_keys(keyed, hints, spots)
+    look_at_keys(keyed, spots)
 }
 
 /// Reads what the keys of the next rows that are lent need, once for several of them.
 #[inline(always)]
-pub(crate) fn look_at_lent(keyed: &KeyedGroups<ByHash>, hints: &mut Hints, rows: &LentRows<'_>)
+pub(crate) fn look_at_lent(keyed: &KeyedGroups<ByHash>, rows: &LentRows<'_>, spots: &mut Vec<u32>)
     requires held { HoldRows keyed.now.shape.input_types rows.now.count rows.now.bytes }
     requires plain { HaveNoTexts keyed.now.shape.input_types }
+    ensures { spots.new.items ≡ spots.old.items }
 {
     if rows.len() % TOGETHER != 0 || keyed.len() < FEWEST {
         return;
     }
     // What was read is used, or a compiler would leave the reading out.
-    if look_lent(keyed, hints, rows.again()) == usize::MAX {
-        hints.widen(0);
+    if look_lent(keyed, rows.again()) == usize::MAX {
+        let _room = spots.reserve(1);
     }
 }
 
@@ -122,8 +117,8 @@ impl AggHashTable {
             return;
         }
         // What was read is used, or a compiler would leave the reading out.
-        if look(&self.keyed, &self.hints, types, rows, row) == usize::MAX {
-            self.hints.widen(0);
+        if look(&self.keyed, types, rows, row) == usize::MAX {
+            self.parts = None;
         }
     }
 
@@ -138,7 +133,7 @@ impl AggHashTable {
         }
         // What was read is used, or a compiler would leave the reading out.
         if look_there(&self.keyed, spots) == usize::MAX {
-            self.hints.widen(0);
+            self.parts = None;
         }
     }
 }

@@ -50,7 +50,7 @@ impl AggHashTable {
         ensures full { result ≡ LentAt.Overflow → HasGroups self.old self.new self.old.groups }
         ensures table { IsTable self.old }
     {
-        match spot_for(&self.keyed, &mut self.hints, self.limit, key) {
+        match spot_for(&self.keyed, self.limit, key) {
             Spot::At(index) => match self.keyed.feed_lent(index, rows, row) {
                 Ok(()) => LentAt::Done(index),
                 Err(AllocError) => LentAt::Memory,

@@ -17,7 +17,6 @@ impl AggHashTable {
     {
         mem::swap(&mut self.keyed, &mut other.keyed);
         mem::swap(&mut self.parts, &mut other.parts);
-        mem::swap(&mut self.hints, &mut other.hints);
     }
 
     /// Whether all keys that are held lie in a partition, out of so many. It ends at the first that doesn't.

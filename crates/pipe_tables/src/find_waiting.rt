@@ -11,7 +11,6 @@ ghost use Rattle.pipe_tables.specs.Waits.{AreAt, HasCovered, HoldsAs, rows_waiti
 use crate::ahead::look_at_lent;
 use crate::by_hash::ByHash;
 use crate::hash_table::AggHashTable;
-use crate::hints::Hints;
 use crate::spot::find_near;
 use pipe_chains::hash_bytes;
 use pipe_keyed::KeyedGroups;
@@ -30,34 +29,24 @@ fn push_spot(spots: &mut Vec<u32>, index: usize) -> Result<(), AllocError>
     Ok(())
 }
 
-/// The index of the group of a key, which is made where there is none. It is looked for where the hint
-/// says, and the hint says where it is then.
+/// The index of the group of a key, which is made where there is none.
 #[inline(always)]
-fn spot_of(
-    keyed: &mut KeyedGroups<ByHash>,
-    hints: &mut Hints,
-    key: &[u8],
-) -> Result<usize, AllocError>
+fn spot_of(keyed: &mut KeyedGroups<ByHash>, key: &[u8]) -> Result<usize, AllocError>
     ensures ok { OnOk result (SameGroups keyed.old keyed.new
         (cover keyed.old.shape.prototypes key.now keyed.old.groups)) }
     ensures at { IfOk result (λ i. IsAt keyed.new.groups key.now i) }
     ensures err { OnErr result (SameGroups keyed.old keyed.new keyed.old.groups) }
 {
     let hash = hash_bytes(key);
-    match find_near(keyed, hints, hash, key) {
+    match find_near(keyed, hash, key) {
         Some(index) => Ok(index),
-        None => {
-            let index = keyed.push(hash, key)?;
-            hints.set(hash, index);
-            Ok(index)
-        }
+        None => keyed.push(hash, key),
     }
 }
 
 /// Finds or makes the group of each row's key.
 fn find_rows(
     keyed: &mut KeyedGroups<ByHash>,
-    hints: &mut Hints,
     mut rows: LentRows<'_>,
     spots: &mut Vec<u32>,
 ) -> Result<(), AllocError>
@@ -70,8 +59,8 @@ fn find_rows(
         (before ++ left_rows keyed.old.shape.input_types rows.entry) spots.new.items) }
 {
     while let Some(row) = rows.next_key(keyed.groups().input_types()) {
-        look_at_lent(keyed, hints, &rows);
-        let index = spot_of(keyed, hints, row.key)?;
+        look_at_lent(keyed, &rows, spots);
+        let index = spot_of(keyed, row.key)?;
         push_spot(spots, index)?;
     }
     Ok(())
@@ -93,7 +82,7 @@ impl AggHashTable {
             (before ++ left_rows self.old.shape.input_types rows.entry) spots.new.items) }
     {
         self.parts = None;
-        find_rows(&mut self.keyed, &mut self.hints, rows, spots)
+        find_rows(&mut self.keyed, rows, spots)
     }
 
     /// Finds or makes the groups of all rows that wait, in order.

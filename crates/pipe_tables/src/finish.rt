@@ -26,7 +26,6 @@ impl AggHashTable {
     {
         let frame = self.keyed.finalize(slice)?;
         self.parts = None;
-        self.hints = self.hints.split();
         Ok(frame)
     }
 
@@ -49,7 +48,6 @@ impl AggHashTable {
     {
         let pieces = self.keyed.in_pieces(slice)?;
         self.parts = None;
-        self.hints = self.hints.split();
         Ok(pieces)
     }
 
@@ -66,7 +64,6 @@ impl AggHashTable {
     {
         let placed = self.keyed.finalize_placed()?;
         self.parts = None;
-        self.hints = self.hints.split();
         Ok(placed)
     }
 }

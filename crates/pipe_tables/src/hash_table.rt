@@ -16,7 +16,6 @@ ghost use Rattle.pipe_tables.specs.Tables.{cover_rows, groups_in, is_full, lies_
 ghost use Rattle.pipe_tables.specs.declared.insert_end.InsertEnd.TheVariants as end;
 
 use crate::by_hash::ByHash;
-use crate::hints::Hints;
 use crate::insert_end::LentEnd;
 use crate::parts::Parts;
 use pipe_aggs::CheckedQuery;
@@ -34,7 +33,6 @@ pub struct AggHashTable {
     pub(crate) keyed: KeyedGroups<ByHash>,
     pub(crate) limit: Option<usize>,
     pub(crate) parts: Option<Parts>,
-    pub(crate) hints: Hints,
 }
 
 impl Model for AggHashTable {
@@ -64,7 +62,6 @@ impl AggHashTable {
             keyed: KeyedGroups::new(alloc, query)?,
             limit,
             parts: None,
-            hints: Hints::new(alloc),
         })
     }
 
@@ -78,7 +75,6 @@ impl AggHashTable {
             keyed: self.keyed.split()?,
             limit: self.limit,
             parts: None,
-            hints: self.hints.split(),
         })
     }
 

@@ -42,7 +42,7 @@ impl AggHashTable {
             × (result ≡ end.Memory r → r ≡ row) }
         ensures covered { is_covered row.key self.old.groups ≡ true → result ≢ end.Memory row }
     {
-        match spot_for(&self.keyed, &mut self.hints, self.limit, row.key.as_slice()) {
+        match spot_for(&self.keyed, self.limit, row.key.as_slice()) {
             Spot::At(index) => {
                 self.keyed.feed(index, row.place, values_of(row));
                 InsertEnd::Done
@@ -78,7 +78,7 @@ impl AggHashTable {
         ensures overflow { (result ≡ LentEnd.Overflow)
             ↔ ((is_full self.old ≡ true) × (is_held key.now self.old.groups ≡ false)) }
     {
-        match spot_for(&self.keyed, &mut self.hints, self.limit, key) {
+        match spot_for(&self.keyed, self.limit, key) {
             Spot::At(index) => match self.keyed.feed_lent(index, rows, row) {
                 Ok(()) => LentEnd::Done,
                 Err(AllocError) => LentEnd::Memory,

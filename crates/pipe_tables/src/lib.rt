@@ -10,7 +10,6 @@ mod feed_waiting;
 mod find_waiting;
 mod finish;
 mod hash_table;
-mod hints;
 mod insert;
 mod insert_end;
 mod laws;

@@ -7,8 +7,6 @@ ghost use Rattle.pipe_tables.specs.Tables.{cover_rows};
 
 use crate::by_hash::ByHash;
 use crate::hash_table::AggHashTable;
-use crate::hints::Hints;
-use crate::spot::find_near;
 use pipe_chains::hash_bytes;
 use pipe_keyed::KeyedGroups;
 use pipe_spill::SpillRow;
@@ -28,34 +26,15 @@ fn key_bytes_of(rows: &[SpillRow]) -> Result<usize, AllocError>
     Ok(bytes)
 }
 
-/// Makes a group for a key that has none, for which there is room. It is looked for where the hint
-/// says, and the hint says where it is then.
-pub(crate) fn cover_near(keyed: &mut KeyedGroups<ByHash>, hints: &mut Hints, key: &[u8])
-    requires { Covers keyed.old 1 (length key.now) }
-    ensures groups { SameGroups keyed.old keyed.new
-        (cover keyed.old.shape.prototypes key.now keyed.old.groups) }
-    ensures room { (g b : ℕ)
-        → Covers keyed.old (g + 1) (b + length key.now) → Covers keyed.new g b }
-{
-    let hash = hash_bytes(key);
-    match find_near(keyed, hints, hash, key) {
-        Some(_index) => {}
-        None => {
-            let index = keyed.push(hash, key).unwrap();
-            hints.set(hash, index);
-        }
-    }
-}
-
 /// Makes a group for the key of each row that has none, for which there is room.
-fn cover_all(keyed: &mut KeyedGroups<ByHash>, hints: &mut Hints, rows: &[SpillRow])
+fn cover_all(keyed: &mut KeyedGroups<ByHash>, rows: &[SpillRow])
     requires { Covers keyed.old (length rows.now) (sum_by (λ r. length r.key) rows.now) }
     ensures { SameGroups keyed.old keyed.new
         (cover_rows keyed.old.shape.prototypes rows.now keyed.old.groups) }
 {
     for row in rows {
         let key = row.key.as_slice();
-        cover_near(keyed, hints, key);
+        let _index = keyed.cover(hash_bytes(key), key);
     }
 }
 
@@ -69,7 +48,7 @@ impl AggHashTable {
         let key_bytes = key_bytes_of(rows)?;
         self.keyed.make_room(rows.len(), key_bytes)?;
         self.parts = None;
-        cover_all(&mut self.keyed, &mut self.hints, rows);
+        cover_all(&mut self.keyed, rows);
         Ok(())
     }
 }

@@ -10,9 +10,11 @@ ghost use Rattle.pipe_tables.specs.Spots.{IsSpot};
 ghost use Rattle.pipe_tables.specs.Tables.{passes};
 
 use crate::by_hash::ByHash;
-use crate::hints::Hints;
 use pipe_chains::hash_bytes;
 use pipe_keyed::{KeyCode, KeyedGroups, are_same};
+
+/// The chains of fewer groups lie near to the processor.
+const FEW: usize = 1 << 12;
 
 /// What a table has for a new row of a key.
 #[derive(Clone, Copy)]
@@ -44,45 +46,30 @@ fn find_chained(keyed: &KeyedGroups<ByHash>, hash: u64, key: &[u8]) -> Option<us
     keyed.find(hash, &KeyCode { bytes: key })
 }
 
-/// The index of the group of a key, which has a hash. It is looked for where the hint says, and then
-/// along the chain.
+/// The index of the group of a key, which has a hash. Among few groups the last one of a chain is mostly
+/// the one, and so its key is compared before its hash.
 #[inline(always)]
-pub(crate) fn find_near(
-    keyed: &KeyedGroups<ByHash>,
-    hints: &mut Hints,
-    hash: u64,
-    key: &[u8],
-) -> Option<usize>
+pub(crate) fn find_near(keyed: &KeyedGroups<ByHash>, hash: u64, key: &[u8]) -> Option<usize>
     requires { hash ≡ hash_of key.now }
     ensures { IsFound keyed.now.groups key.now result }
 {
-    let hint = hints.get(hash);
-    if hint < keyed.len() {
-        if are_same(keyed.key(hint), key) {
-            return Some(hint);
+    if keyed.len() < FEW {
+        let near = keyed.near(hash);
+        if near < keyed.len() && are_same(keyed.key(near), key) {
+            return Some(near);
         }
     }
-    let found = find_chained(keyed, hash, key);
-    match found {
-        Some(index) => hints.set(hash, index),
-        None => hints.widen(keyed.len()),
-    }
-    found
+    find_chained(keyed, hash, key)
 }
 
-/// What there is for a new row of a key. It takes no memory but for hints, which may be had or not.
+/// What there is for a new row of a key. It takes no memory.
 #[inline(always)]
-pub(crate) fn spot_for(
-    keyed: &KeyedGroups<ByHash>,
-    hints: &mut Hints,
-    limit: Option<usize>,
-    key: &[u8],
-) -> Spot
+pub(crate) fn spot_for(keyed: &KeyedGroups<ByHash>, limit: Option<usize>, key: &[u8]) -> Spot
     requires { IsDistinct bytes_eq (group_keys keyed.now.groups) }
     ensures { IsSpot limit keyed.now.groups key.now result }
 {
     let hash = hash_bytes(key);
-    let found = find_near(keyed, hints, hash, key);
+    let found = find_near(keyed, hash, key);
     let full = passes(keyed.held(), limit);
     match found {
         Some(index) => {

@@ -51,7 +51,7 @@ impl AggHashTable {
             → held_at k self.new.groups ≡ held_at k self.old.groups) }
         ensures fits { length values.new ≡ length values.old }
     {
-        let mut spots = self.hints.spots(rows.len())?;
+        let mut spots = Vec::with_capacity(self.keyed.allocator(), rows.len())?;
         self.find_lent(rows.again(), &mut spots)?;
         self.feed_lent(rows, &spots, values);
         Ok(())
@@ -79,7 +79,7 @@ impl AggHashTable {
             → held_at k self.new.groups ≡ held_at k self.old.groups) }
         ensures fits { length values.new ≡ length values.old }
     {
-        let mut spots = self.hints.spots(count_of(waiting))?;
+        let mut spots = Vec::with_capacity(self.keyed.allocator(), count_of(waiting))?;
         self.find_waiting(waiting, &mut spots)?;
         self.feed_waiting(waiting, &spots, values);
         Ok(())

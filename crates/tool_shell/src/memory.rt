@@ -3,7 +3,7 @@
 use std::alloc::{AllocError, Global};
 
 /// The bytes of a block that is taken and given back before anything else.
-const FIRST_BLOCK: usize = 1 << 24;
+const FIRST_BLOCK: usize = 1 << 20;
 
 /// A large block. The C library keeps freed memory for what is taken next, up to twice the size of
 /// the largest block that was given back to it, and returns more to the system; so after this one

@@ -1,7 +1,0 @@
-use Rattle.std.proofs.Common.{refl, sym}
-use Rattle.pipe_groups.proofs.PutFacts.{cover-there, is_covered-at}
-use Rattle.pipe_tables.proofs.reserve.cover_near.Goals as goal
-
-pub returns-in-Some-clause-groups : goal.returns-in-Some-clause-groups
-returns-in-Some-clause-groups c =
-    (sym (cover-there _ _ _ (is_covered-at _ c.args.keyed.now.groups c.in-Some._index c.in-Some.ensures.0 c.in-Some.ensures.1)), refl)
