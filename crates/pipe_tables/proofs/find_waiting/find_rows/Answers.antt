@@ -1,4 +1,4 @@
-use Rattle.std.proofs.Common.{refl, arith}
+use Rattle.std.proofs.Common.{◌∙◌, ◌∷◌, ◌++◌, [], List, ℕ, ap, refl, arith}
 use Rattle.pipe_tables.proofs.FoundFacts.{finds-none, found-all, found-covered, next-covered, next-found, found-same, same-types}
 use Rattle.pipe_tables.proofs.find_waiting.find_rows.Goals as goal
 
@@ -22,7 +22,8 @@ loop-row-smaller c = omega (arith, c.in-Some.ensures.some.next.count)
 
 pub loop-row-preserved : goal.loop-row-preserved
 loop-row-preserved c = next-found _ _ _ _ _ _ _ _ _ c.loop-row.invariant (rw (same-types _ _ _ _ c.input_types.ensures c.groups.ensures.shape c.loop-row.invariant.groups.1) at c.in-Some.ensures.some.next) _
-    c.in_ok-index.ensures.ok _ c.in_ok-index.ensures.at _ c.in_ok-push_spot.ensures
+    c.in_ok-index.ensures.ok _ c.in_ok-index.ensures.at _
+    (c.in_ok-push_spot.ensures ∙ ap (λ (spots : List ℕ). spots ++ c.in_ok-index.index ∷ []) c.look_at_lent.ensures)
 
 pub returns-in_err-push_spot-clause-covered : goal.returns-in_err-push_spot-clause-covered
 returns-in_err-push_spot-clause-covered c = next-covered _ _ _ _ _ _ _ _ _ c.loop-row.invariant

@@ -12,7 +12,7 @@ feed_lent-requires-clause-rows c =
     let same = c.find_lent.ensures.same in
     let keys : List (List ℕ) = group_keys c.find_lent.new.self.groups in
     let rows : List SpillRow = left_rows c.args.self.now.shape.input_types c.args.rows in
-    let none : AreAt (group_keys c.args.self.now.groups) [] c.in_ok-spots.spots.items = subst (λ (l : List ℕ). AreAt (group_keys c.args.self.now.groups) [] l) (sym c.in_ok-spots.ensures) tt in
+    let none : AreAt (group_keys c.args.self.now.groups) [] c.in_ok-spots.spots.items = subst (λ (l : List ℕ). AreAt (group_keys c.args.self.now.groups) [] l) (sym c.in_ok-spots.ensures.items) tt in
     let found : AreAt keys rows c.find_lent.new.spots.items =
     subst (λ (a : Left). AreAt keys (left_rows c.args.self.now.shape.input_types a) c.find_lent.new.spots.items) c.again.ensures (c.in_ok-find_lent.ensures.at [] none) in
     found-can c.args.self.now c.find_lent.new.self rows (left_rows c.find_lent.new.self.shape.input_types c.args.rows) c.deref.result.now c.requires.typed c.requires.few same
