@@ -2,7 +2,7 @@
 
 use crate::asked::{Asked, End, Ended, asks, ends, hold, run_asked};
 use crate::outputs::PIECE;
-use crate::run_tests::{COLUMNS, FILES, MEANS, QUERY, SUMS};
+use crate::questions::{COLUMNS, FILES, MEANS, QUERY, SUMS};
 use crate::stores::MemoryStores;
 use lavzimo_stores::SpillMaker;
 use std::alloc::{AllocError, Global};
@@ -90,11 +90,6 @@ fn are_unread<M: SpillMaker, H: Alloc<A = Global> + Threads + Wait + Sync>(
     Ok(are_at_least(calls, 6) && are_at_least(query_calls, 9))
 }
 
-#[test]
-fn each_call_of_the_input_fails(rt: HostRuntime) -> Result<(), Fail> {
-    hold(are_unread(&rt, &mut MemoryStores::new(rt.alloc()))?)
-}
-
 /// What is written before the write of a number.
 fn front_of(call: u8) -> &'static [u8] {
     let means = MEANS.as_bytes();
@@ -151,11 +146,6 @@ fn are_cut<M: SpillMaker, H: Alloc<A = Global> + Threads + Wait + Sync>(
     Ok(true)
 }
 
-#[test]
-fn each_write_fails(rt: HostRuntime) -> Result<(), Fail> {
-    hold(are_cut(&rt, &mut MemoryStores::new(rt.alloc()))?)
-}
-
 /// Whether a run over a file that lacks a column ends so, with this line, where a call of the messages
 /// fails.
 fn lacks<M: SpillMaker, H: Alloc<A = Global> + Threads + Wait + Sync>(
@@ -185,7 +175,15 @@ fn may_fail<M: SpillMaker, H: Alloc<A = Global> + Threads + Wait + Sync>(
     Ok(lacks(rt, maker, None, line)? && lacks(rt, maker, Some(0), "")?)
 }
 
+/// Whether all of that is so.
+fn are_failing<M: SpillMaker, H: Alloc<A = Global> + Threads + Wait + Sync>(
+    rt: &H,
+    maker: &mut M,
+) -> Result<bool, AllocError> {
+    Ok(are_unread(rt, maker)? && are_cut(rt, maker)? && may_fail(rt, maker)?)
+}
+
 #[test]
-fn the_line_fails(rt: HostRuntime) -> Result<(), Fail> {
-    hold(may_fail(&rt, &mut MemoryStores::new(rt.alloc()))?)
+fn each_call_fails(rt: HostRuntime) -> Result<(), Fail> {
+    hold(are_failing(&rt, &mut MemoryStores::new(rt.alloc()))?)
 }

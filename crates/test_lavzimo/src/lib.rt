@@ -11,7 +11,7 @@ mod memory_tests;
 #[cfg(test)]
 mod outputs;
 #[cfg(test)]
-mod run_tests;
+mod questions;
 #[cfg(test)]
 mod store_tests;
 #[cfg(test)]

@@ -1,7 +1,7 @@
 //! Runs where memory is wanting: `rt try --test --fail-alloc N` refuses the allocation of number N.
 
 use crate::asked::{Asked, Ended, asks, run_asked};
-use crate::run_tests::{COLUMNS, FILES, MEANS, QUERY, SUMS};
+use crate::questions::{COLUMNS, FILES, MEANS, QUERY, SUMS};
 use crate::stores::MemoryStores;
 use lavzimo_stores::SpillMaker;
 use std::alloc::Global;

@@ -1,9 +1,10 @@
 //! Stores over a file system of which some calls fail.
 
-use crate::frames::{NONE, answers};
+use crate::frames::{gets, keeps_none, puts_both};
 use lavzimo_stores::{OwnStores, SpillMaker};
 use pipe_columns::Text;
-use std::alloc::Allocator;
+use pipe_spill::{SpillStore, StoreError};
+use std::alloc::{Allocator, Global};
 use std::fs::{self, File, Files, Metadata, OpenOptions};
 use std::io::{self, Error, ErrorKind};
 use std::test::Fail;
@@ -94,40 +95,43 @@ impl Files for FaultyFiles {
     }
 }
 
-/// Whether a store over such files of a folder answers these lines.
-fn faulty_answers(rt: HostRuntime, dir: &str, fault: Fault, want: &str) -> Result<bool, Fail> {
-    let files = FaultyFiles { rt, fault };
-    let dir = Text::new(rt.alloc(), dir)?;
-    let mut maker = OwnStores::new(&files, rt.alloc(), 7, 9, None);
-    let mut store = maker.make(Some(&dir))?;
-    Ok(answers(rt.alloc(), &mut store, want)?)
+/// Whether a store over such files does what is due: it keeps none, or gives none back.
+fn is_due<S: SpillStore>(alloc: Global, store: &mut S, fault: Fault) -> bool {
+    match fault {
+        Fault::Read => {
+            puts_both(store)
+                && gets(alloc, store, 0, Err(StoreError::Failed), b"")
+                && gets(alloc, store, 1, Err(StoreError::Failed), b"")
+        }
+        Fault::Open | Fault::Remove | Fault::Write => keeps_none(store),
+    }
 }
 
-/// Each fault but the one that leaves a file, and what a store answers then.
-const FAULTS: [(Fault, &str); 3] = [
-    (Fault::Open, NONE),
-    (Fault::Write, NONE),
-    (
-        Fault::Read,
-        "put Ok(0)\nput Ok(1)\nget Err(Failed) \nget Err(Failed) \n",
-    ),
-];
+/// Whether a store over such files of a folder does.
+fn is_faulty(rt: HostRuntime, dir: &Text, fault: Fault) -> Result<bool, Fail> {
+    let files = FaultyFiles { rt, fault };
+    let mut maker = OwnStores::new(&files, rt.alloc(), 7, 9, None);
+    let mut store = maker.make(Some(dir))?;
+    Ok(is_due(rt.alloc(), &mut store, fault))
+}
 
-#[test]
-fn each_call_fails(rt: HostRuntime) -> Result<(), Fail> {
-    fs::create_dir(&rt, "faulty")?;
-    for (fault, want) in &FAULTS {
-        assert!(rt; faulty_answers(rt, "faulty", *fault, *want)?, "{want}");
-    }
-    Ok(())
+/// Whether it does so at each fault.
+fn are_faulty(rt: HostRuntime, dir: &Text) -> Result<bool, Fail> {
+    Ok(
+        is_faulty(rt, dir, Fault::Open)?
+            && is_faulty(rt, dir, Fault::Write)?
+            && is_faulty(rt, dir, Fault::Read)?
+            && is_faulty(rt, dir, Fault::Remove)?,
+    )
 }
 
 /// A file whose name couldn't be removed is all that may stay.
 #[test]
-fn what_a_refused_removal_leaves(rt: HostRuntime) -> Result<(), Fail> {
-    fs::create_dir(&rt, "unremoved")?;
-    assert!(rt; faulty_answers(rt, "unremoved", Fault::Remove, NONE)?);
-    fs::remove_file(&rt, "unremoved/partition-0.spill-7-9")?;
-    fs::remove_dir(&rt, "unremoved")?;
+fn each_call_fails(rt: HostRuntime) -> Result<(), Fail> {
+    fs::create_dir(&rt, "faulty")?;
+    let dir = Text::new(rt.alloc(), "faulty")?;
+    assert!(rt; are_faulty(rt, &dir)?);
+    fs::remove_file(&rt, "faulty/partition-0.spill-7-9")?;
+    fs::remove_dir(&rt, "faulty")?;
     Ok(())
 }

@@ -1,8 +1,9 @@
 //! Calls that want memory: `rt try --test --fail-alloc N` refuses the allocation of number N.
 
-use crate::frames::wants_memory;
+use crate::frames::puts;
 use lavzimo_stores::{OwnStores, SpillMaker};
 use pipe_columns::Text;
+use pipe_spill::StoreError;
 use std::fs;
 use std::test::Fail;
 
@@ -14,7 +15,7 @@ fn memory_for_a_store(rt: HostRuntime) -> Result<(), Fail> {
     let Ok(mut store) = maker.make(Some(&dir)) else {
         return Err("make wants memory".into());
     };
-    if wants_memory(&mut store) {
+    if puts(&mut store, b"frame", Err(StoreError::Memory)) {
         return Err("put wants memory".into());
     }
     fs::remove_dir(&rt, "memory")?;

@@ -1,61 +1,124 @@
 //! Calls that want memory: `rt try --test --fail-alloc N` refuses the allocation of number N.
 
-use crate::words::{columns, words_of};
-use lavzimo_words::{Reading, query_of, read_words, shown_columns};
-use std::alloc::AllocError;
+use crate::words::{columns_in, is_set, is_usual, words_of};
+use lavzimo_words::{Columns, Reading, Source, query_of, read_words, shown_columns};
+use std::alloc::{AllocError, Global};
 use std::test::Fail;
 
-const ASKED: &str = "--by k --count --mean n=m --min d:date --order -m --limit 1 --spill-dir d a";
+/// What is read in words: settings of a run, none, why they are refused, or help.
+#[derive(Clone, Copy, PartialEq, Eq)]
+enum Read {
+    Settings,
+    Usual,
+    Refusal,
+    Help,
+    Other,
+}
 
-#[test]
-fn memory_for_what_is_asked(rt: HostRuntime) -> Result<(), Fail> {
-    let words = words_of(rt.alloc(), ASKED)?;
-    match read_words(rt.alloc(), &words) {
-        Ok(Reading::Asked(asked)) => assert!(rt; asked.files.len() == 1),
-        Ok(_) => return Err("nothing is asked".into()),
-        Err(AllocError) => return Err("read_words wants memory".into()),
+/// Words, and what is read in them.
+const READ: [(&[&str], Read); 4] = [
+    (
+        &[
+            "--count",
+            "--format",
+            "json",
+            "--workers",
+            "3",
+            "--partitions",
+            "4",
+            "--spill-dir",
+            "dir",
+            "a.csv",
+            "--",
+            "--sum",
+        ],
+        Read::Settings,
+    ),
+    (
+        &[
+            "--by", "k", "--count", "--mean", "n=m", "--order", "-m", "--limit", "1",
+        ],
+        Read::Usual,
+    ),
+    (&["--by", "a,b=a"], Read::Refusal),
+    (&["--help"], Read::Help),
+];
+
+/// Which of these a reading is.
+fn kind_of(reading: &Reading) -> Read {
+    match reading {
+        Reading::Asked(asked) if is_set(asked) => Read::Settings,
+        Reading::Asked(asked) if is_usual(asked) => Read::Usual,
+        Reading::Refused(_) => Read::Refusal,
+        Reading::Help(_) => Read::Help,
+        _ => Read::Other,
     }
-    Ok(())
+}
+
+/// What is read in words.
+fn read_in(alloc: Global, words: &[&str]) -> Result<Reading, Fail> {
+    let words = words_of(alloc, words)?;
+    match read_words(alloc, &words) {
+        Ok(reading) => Ok(reading),
+        Err(AllocError) => Err("read_words wants memory".into()),
+    }
+}
+
+/// Whether this is read in words.
+fn is_read(alloc: Global, words: &[&str], want: Read) -> Result<bool, Fail> {
+    let reading = read_in(alloc, words)?;
+    Ok(kind_of(&reading) == want)
+}
+
+/// Whether words are read as the table has it.
+fn are_read(alloc: Global) -> Result<bool, Fail> {
+    for (words, want) in &READ {
+        if !is_read(alloc, *words, *want)? {
+            return Ok(false);
+        }
+    }
+    Ok(true)
 }
 
 #[test]
-fn memory_for_a_refusal(rt: HostRuntime) -> Result<(), Fail> {
-    let words = words_of(rt.alloc(), "--by a,b=a")?;
-    match read_words(rt.alloc(), &words) {
-        Ok(Reading::Refused(_)) => {}
-        Ok(_) => return Err("the words are taken".into()),
-        Err(AllocError) => return Err("read_words wants memory".into()),
-    }
+fn memory_for_words(rt: HostRuntime) -> Result<(), Fail> {
+    assert!(rt; are_read(rt.alloc())?);
     Ok(())
 }
 
-#[test]
-fn memory_for_help(rt: HostRuntime) -> Result<(), Fail> {
-    let words = words_of(rt.alloc(), "--help")?;
-    match read_words(rt.alloc(), &words) {
-        Ok(Reading::Help(_)) => {}
-        Ok(_) => return Err("no help".into()),
-        Err(AllocError) => return Err("read_words wants memory".into()),
+/// How many aggregates the query of columns has.
+fn agg_count(alloc: Global, columns: &Columns) -> Result<usize, Fail> {
+    match query_of(alloc, columns) {
+        Ok(query) => Ok(query.aggs.len()),
+        Err(AllocError) => Err("query_of wants memory".into()),
     }
-    Ok(())
+}
+
+/// Whether columns come from these places of the answer.
+fn come_from(alloc: Global, columns: &Columns, want: &[Source]) -> Result<bool, Fail> {
+    match shown_columns(alloc, &columns.columns) {
+        Ok(sources) => Ok(sources.as_slice() == want),
+        Err(AllocError) => Err("shown_columns wants memory".into()),
+    }
+}
+
+/// Whether columns make two aggregates, of which the second is a mean, behind a key.
+fn end_in_a_mean(alloc: Global, columns: &Columns) -> Result<bool, Fail> {
+    let places = [Source::Value(0), Source::Value(1), Source::Mean(2)];
+    Ok(come_from(alloc, columns, &places)? && agg_count(alloc, columns)? == 2)
+}
+
+/// Whether that is so of words.
+fn ask_for_a_mean(alloc: Global) -> Result<bool, Fail> {
+    let reading = read_in(alloc, &["--by", "k", "--min", "d:date", "--mean", "n"])?;
+    match columns_in(&reading) {
+        Some(columns) => end_in_a_mean(alloc, columns),
+        None => Ok(false),
+    }
 }
 
 #[test]
-fn memory_for_a_query(rt: HostRuntime) -> Result<(), Fail> {
-    let columns = columns(rt.alloc(), "--by k --min d:date")?;
-    match query_of(rt.alloc(), &columns) {
-        Ok(query) => assert!(rt; query.aggs.len() == 1),
-        Err(AllocError) => return Err("query_of wants memory".into()),
-    }
-    Ok(())
-}
-
-#[test]
-fn memory_for_places(rt: HostRuntime) -> Result<(), Fail> {
-    let columns = columns(rt.alloc(), "--by k --min d:date")?;
-    match shown_columns(rt.alloc(), &columns.columns) {
-        Ok(sources) => assert!(rt; sources.len() == 2),
-        Err(AllocError) => return Err("shown_columns wants memory".into()),
-    }
+fn memory_for_a_query_and_places(rt: HostRuntime) -> Result<(), Fail> {
+    assert!(rt; ask_for_a_mean(rt.alloc())?);
     Ok(())
 }

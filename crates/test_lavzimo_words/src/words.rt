@@ -1,52 +1,55 @@
 //! Words, and what was read in them.
 
-use lavzimo_words::{Asked, Columns, Question, Reading, read_words};
+use lavzimo_words::{Asked, Columns, Question, Reading};
 use pipe_columns::Text;
+use pipe_words::Format;
 use std::alloc::{AllocError, Global};
-use std::test::Fail;
 
-/// The words of a line, between spaces.
-pub(crate) fn words_of(alloc: Global, line: &str) -> Result<Vec<Text>, AllocError> {
-    let mut words = Vec::new(alloc);
-    for word in line.split(' ') {
-        words.push(Text::new(alloc, word)?)?;
+/// Words as texts.
+pub(crate) fn words_of(alloc: Global, words: &[&str]) -> Result<Vec<Text>, AllocError> {
+    let mut texts = Vec::new(alloc);
+    for word in words {
+        texts.push(Text::new(alloc, word)?)?;
     }
-    Ok(words)
+    Ok(texts)
 }
 
-/// What was read in the words of a line.
-pub(crate) fn read(alloc: Global, line: &str) -> Result<Reading, AllocError> {
-    let words = words_of(alloc, line)?;
-    read_words(alloc, &words)
-}
-
-/// What the words of a line ask.
-pub(crate) fn asked(alloc: Global, line: &str) -> Result<Asked, Fail> {
-    match read(alloc, line)? {
-        Reading::Asked(asked) => Ok(asked),
-        _ => Err("nothing is asked".into()),
+/// Whether a text is there, and this one.
+fn is_text(text: Option<&Text>, want: &str) -> bool {
+    match text {
+        Some(text) => text.as_str() == want,
+        None => false,
     }
 }
 
-/// The question that the words of a line ask.
-pub(crate) fn question(alloc: Global, line: &str) -> Result<Question, Fail> {
-    let Asked {
-        question,
-        format: _,
-        workers: _,
-        partitions: _,
-        spill_dir,
-        files,
-    } = asked(alloc, line)?;
-    drop(spill_dir);
-    drop(files);
-    Ok(question)
+/// Whether a run is asked for with settings.
+pub(crate) fn is_set(asked: &Asked) -> bool {
+    asked.format == Format::Json
+        && asked.workers == Some(3)
+        && asked.partitions == 4
+        && is_text(asked.spill_dir.as_ref(), "dir")
+        && asked.files.len() == 2
+        && is_text(asked.files.first(), "a.csv")
+        && is_text(asked.files.last(), "--sum")
 }
 
-/// The columns that the words of a line ask for.
-pub(crate) fn columns(alloc: Global, line: &str) -> Result<Columns, Fail> {
-    match question(alloc, line)? {
-        Question::Columns(columns) => Ok(columns),
-        Question::File(_) => Err("a file is asked".into()),
+/// Whether one is asked for without.
+pub(crate) fn is_usual(asked: &Asked) -> bool {
+    asked.format == Format::Csv
+        && asked.workers == None
+        && asked.partitions == 16
+        && asked.spill_dir.is_none()
+        && asked.files.len() == 1
+        && is_text(asked.files.first(), "-")
+}
+
+/// The columns that were read in words.
+pub(crate) fn columns_in(reading: &Reading) -> Option<&Columns> {
+    match reading {
+        Reading::Asked(asked) => match &asked.question {
+            Question::Columns(columns) => Some(columns),
+            Question::File(_) => None,
+        },
+        _ => None,
     }
 }

@@ -2,12 +2,10 @@
 #![tactic(auto)]
 
 #[cfg(test)]
-mod evaluated;
+mod doubled;
 #[cfg(test)]
 mod made;
 #[cfg(test)]
 mod memory_tests;
 #[cfg(test)]
 mod narrowed;
-#[cfg(test)]
-mod queries;

@@ -1,7 +1,7 @@
 //! Arenas, schemas and queries, made out of tables.
 
 use pipe_aggs::Query;
-use pipe_columns::{AnyValue, DataType, Field, Schema, Text};
+use pipe_columns::{DataType, Field, Schema, Text};
 use pipe_exprs::{AExpr, AddError, Arena, IRAggExpr, Node, Operator};
 use std::alloc::{AllocError, Global};
 use std::test::Fail;
@@ -10,7 +10,6 @@ use std::test::Fail;
 #[derive(Clone, Copy)]
 pub(crate) enum Given {
     Column(&'static str),
-    One,
     Plus(usize, usize),
     Alias(usize, &'static str),
     Sum(usize),
@@ -19,7 +18,7 @@ pub(crate) enum Given {
 }
 
 /// The name and the type of a field.
-pub(crate) type Typed = (&'static str, DataType);
+type Typed = (&'static str, DataType);
 
 /// A query as a table has it.
 #[derive(Clone, Copy)]
@@ -31,30 +30,19 @@ pub(crate) struct Asked {
     pub slice: Option<(i64, usize)>,
 }
 
-/// Two fields, of different types.
-pub(crate) const FIELDS: [Typed; 2] = [("v", DataType::Int8), ("w", DataType::Int16)];
-
-/// Expressions over the fields, and over `x`, which is none.
-pub(crate) const EXPRS: [Given; 11] = [
-    Given::Column("v"),
-    Given::Column("w"),
-    Given::Column("x"),
-    Given::Sum(0),
-    Given::Alias(3, "s"),
-    Given::One,
-    Given::Plus(3, 5),
-    Given::Len,
-    Given::Plus(0, 1),
-    Given::Mean(0),
-    Given::Alias(9, "m"),
-];
-
 /// A sum, a mean and the number of rows, by the field that is added up.
 pub(crate) const THREE_AGGREGATES: Asked = Asked {
-    fields: &FIELDS,
-    exprs: &EXPRS,
+    fields: &[("v", DataType::Int8), ("w", DataType::Int16)],
+    exprs: &[
+        Given::Column("v"),
+        Given::Sum(0),
+        Given::Alias(1, "s"),
+        Given::Len,
+        Given::Mean(0),
+        Given::Alias(4, "m"),
+    ],
     keys: &[0],
-    aggs: &[4, 10, 7],
+    aggs: &[2, 5, 3],
     slice: Some((1, 2)),
 };
 
@@ -62,10 +50,6 @@ pub(crate) const THREE_AGGREGATES: Asked = Asked {
 fn expr_of(alloc: Global, given: Given) -> Result<AExpr, AllocError> {
     let expr = match given {
         Given::Column(name) => AExpr::Column(Text::new(alloc, name)?),
-        Given::One => AExpr::Literal {
-            dtype: DataType::Int64,
-            value: AnyValue::Int(1),
-        },
         Given::Plus(left, right) => AExpr::BinaryExpr {
             left: Node(left),
             op: Operator::Plus,
@@ -89,7 +73,7 @@ fn add(alloc: Global, arena: &mut Arena, given: Given) -> Result<(), Fail> {
 }
 
 /// The arena of a table.
-pub(crate) fn arena_of(alloc: Global, exprs: &[Given]) -> Result<Arena, Fail> {
+fn arena_of(alloc: Global, exprs: &[Given]) -> Result<Arena, Fail> {
     let mut arena = Arena::new(alloc);
     for given in exprs {
         add(alloc, &mut arena, *given)?;
@@ -108,7 +92,7 @@ pub(crate) fn add_doubled(alloc: Global, arena: &mut Arena) -> Result<(), Fail> 
 }
 
 /// The schema of a table.
-pub(crate) fn schema_of(alloc: Global, fields: &[Typed]) -> Result<Schema, AllocError> {
+fn schema_of(alloc: Global, fields: &[Typed]) -> Result<Schema, AllocError> {
     let mut all = Vec::new(alloc);
     for (name, dtype) in fields {
         let name = Text::new(alloc, name)?;

@@ -28,26 +28,37 @@ fn schema_of(alloc: Global) -> Result<Schema, AllocError> {
 }
 
 /// Adds an aggregate of v by a name.
-fn named_agg(alloc: Global, arena: &mut Arena, agg: IRAggExpr, name: &str) -> Result<Node, Fail> {
+fn add_named(alloc: Global, arena: &mut Arena, agg: IRAggExpr, name: &str) -> Result<Node, Fail> {
     let value = added(arena, AExpr::Agg(agg))?;
     added(arena, AExpr::Alias(value, Text::new(alloc, name)?))
 }
 
+/// Adds the columns, and the sum s, the first f, the mean m and the last l of v.
+fn add_all(alloc: Global, arena: &mut Arena) -> Result<(), Fail> {
+    for name in COLUMNS {
+        added(arena, AExpr::Column(Text::new(alloc, name)?))?;
+    }
+    add_named(alloc, arena, IRAggExpr::Sum(Node(2)), "s")?;
+    add_named(alloc, arena, IRAggExpr::First(Node(2)), "f")?;
+    add_named(alloc, arena, IRAggExpr::Mean(Node(2)), "m")?;
+    add_named(alloc, arena, IRAggExpr::Last(Node(2)), "l")?;
+    Ok(())
+}
+
+/// The arena of the columns and the aggregates.
+fn arena_of(alloc: Global) -> Result<Arena, Fail> {
+    let mut arena = Arena::new(alloc);
+    add_all(alloc, &mut arena)?;
+    Ok(arena)
+}
+
 /// The sum s, the first f, the mean m and the last l of v by k and g.
 pub(crate) fn four_aggregates(alloc: Global) -> Result<Query, Fail> {
-    let mut arena = Arena::new(alloc);
-    let k = added(&mut arena, AExpr::Column(Text::new(alloc, "k")?))?;
-    let g = added(&mut arena, AExpr::Column(Text::new(alloc, "g")?))?;
-    let v = added(&mut arena, AExpr::Column(Text::new(alloc, "v")?))?;
-    let sum = named_agg(alloc, &mut arena, IRAggExpr::Sum(v), "s")?;
-    let first = named_agg(alloc, &mut arena, IRAggExpr::First(v), "f")?;
-    let mean = named_agg(alloc, &mut arena, IRAggExpr::Mean(v), "m")?;
-    let last = named_agg(alloc, &mut arena, IRAggExpr::Last(v), "l")?;
     Ok(Query {
+        keys: vec![in alloc; Node(0), Node(1)]?,
+        aggs: vec![in alloc; Node(4), Node(6), Node(8), Node(10)]?,
         schema: schema_of(alloc)?,
-        arena,
-        keys: vec![in alloc; k, g]?,
-        aggs: vec![in alloc; sum, first, mean, last]?,
+        arena: arena_of(alloc)?,
         slice: None,
         maintain_order: false,
     })
@@ -92,13 +103,10 @@ pub(crate) fn one_row(alloc: Global) -> Result<DataChunk, Fail> {
 
 /// Whether values are these numbers.
 pub(crate) fn are(values: &[AnyValue], numbers: &[i128]) -> bool {
-    if values.len() != numbers.len() {
-        return false;
-    }
-    for i in 0..numbers.len() {
-        if values[i] != AnyValue::Int(numbers[i]) {
+    for (value, number) in values.iter().zip(numbers) {
+        if !matches!(value, AnyValue::Int(found) if *found == *number) {
             return false;
         }
     }
-    true
+    values.len() == numbers.len()
 }

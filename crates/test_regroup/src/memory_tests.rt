@@ -5,17 +5,47 @@ ghost use Rattle.pipe_aggs.specs.QueryTrees.{query_tree};
 ghost use Rattle.pipe_states.specs.Fair.{IsStateOf};
 ghost use Rattle.pipe_states.specs.Together.{FollowOn};
 
-use crate::asked::{four_aggregates, one_row, three_rows};
-use crate::asks::{Asks, hold};
-use crate::merged_tests::is_of_both;
-use crate::regrouped_tests::{by_first_key, is_worked};
+use crate::asked::{are, four_aggregates, one_row, three_rows};
+use crate::asks::{Asks, ask};
+use crate::regrouped::{by_first_key, is_worked};
 use crate::states::state_of;
 use pipe_aggs::CheckedQuery;
-use pipe_columns::DataFrame;
+use pipe_columns::{DataFrame, Place};
 use pipe_regroup::{MergeError, RegroupError, Regrouping, merge_files};
-use pipe_states::StateFile;
+use pipe_states::{StateFile, StateRow};
 use std::alloc::Global;
 use std::test::Fail;
+
+/// Whether a row has these numbers as its key, its places, its count and its results.
+fn is_row(row: &StateRow, key: [i128; 2], places: [Place; 2], rows: u32, results: &[i128]) -> bool {
+    are(row.key.as_slice(), &key)
+        && row.first == places[0]
+        && row.last == places[1]
+        && row.rows == rows
+        && are(row.results.as_slice(), results)
+}
+
+fn at(chunk: u32, row: u32) -> Place {
+    Place { chunk, row }
+}
+
+/// Whether a state is that of both chunks: the sum, the first, the sum and the count of the mean,
+/// and the last.
+fn is_of_both(file: &StateFile) -> bool {
+    let rows = file.rows();
+    file.first() == 0
+        && file.end() == 2
+        && rows.len() == 3
+        && is_row(
+            &rows[0],
+            [1, 1],
+            [at(0, 0), at(1, 0)],
+            2,
+            &[14, 5, 14, 2, 9],
+        )
+        && is_row(&rows[1], [1, 2], [at(0, 1), at(0, 1)], 1, &[6, 6, 6, 1, 6])
+        && is_row(&rows[2], [2, 1], [at(0, 2), at(0, 2)], 1, &[7, 7, 7, 1, 7])
+}
 
 /// Whether states merged are the known one. Where memory is wanting, they are merged again.
 fn is_merged(alloc: Global, query: &CheckedQuery<'_>, files: &[StateFile]) -> Result<bool, Fail>
@@ -100,19 +130,10 @@ pub(crate) fn are_at_once<'a>(alloc: Global, query: &'a CheckedQuery<'a>) -> Res
 }
 
 #[test]
-fn merged_again(rt: HostRuntime) -> Result<(), Fail> {
+fn states_again(rt: HostRuntime) -> Result<(), Fail> {
     let query = four_aggregates(rt.alloc())?;
-    hold(rt.alloc(), &query, Asks::Merged)
-}
-
-#[test]
-fn added_again(rt: HostRuntime) -> Result<(), Fail> {
-    let query = four_aggregates(rt.alloc())?;
-    hold(rt.alloc(), &query, Asks::Added)
-}
-
-#[test]
-fn regrouped_again(rt: HostRuntime) -> Result<(), Fail> {
-    let query = four_aggregates(rt.alloc())?;
-    hold(rt.alloc(), &query, Asks::AtOnce)
+    for asks in [Asks::Merged, Asks::Added, Asks::AtOnce] {
+        assert!(rt; ask(rt.alloc(), &query, asks)?);
+    }
+    Ok(())
 }

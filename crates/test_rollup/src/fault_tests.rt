@@ -1,7 +1,7 @@
 //! Calls of inputs and outputs that fail.
 
 use crate::asked::{Asked, asks, ends, run_asked};
-use std::alloc::Global;
+use std::alloc::{AllocError, Global};
 use std::test::Fail;
 use std::thread::Threads;
 
@@ -28,48 +28,52 @@ fn failing_calls<H: Threads + Sync>(
     Err("no end without a fault".into())
 }
 
-/// Each call of the input that reads a file of CSV fails: its begin, its bytes and its end at least.
+/// Whether each call of the input fails that reads a file of CSV, and that reads two states: of each
+/// file its begin, its bytes and its end at least.
+fn are_told<H: Threads + Sync>(rt: &H, alloc: Global) -> Result<bool, Fail> {
+    Ok(
+        failing_calls(rt, alloc, asks("save", "0", &["a.csv"]))? >= 3
+            && failing_calls(rt, alloc, asks("roll", "[\"k\"]", &["b", "a"]))? >= 6,
+    )
+}
+
 #[test]
-fn each_call_of_a_saved_file_fails(rt: HostRuntime) -> Result<(), Fail> {
-    let calls = failing_calls(&rt, rt.alloc(), asks("save", "0", &["a.csv"]))?;
-    if calls < 3 {
-        return Err("too few calls".into());
-    }
+fn each_call_of_the_input_fails(rt: HostRuntime) -> Result<(), Fail> {
+    assert!(rt; are_told(&rt, rt.alloc())?);
     Ok(())
 }
 
-/// Each call of the input that reads two states fails, three for each at least.
-#[test]
-fn each_call_of_states_fails(rt: HostRuntime) -> Result<(), Fail> {
-    let calls = failing_calls(&rt, rt.alloc(), asks("roll", "[\"k\"]", &["b", "a"]))?;
-    if calls < 6 {
-        return Err("too few calls".into());
+/// A command of which the write of the output fails.
+fn unwritten<'a>(mode: &'a str, third: &'a str, files: &'a [&'a str]) -> Asked<'a> {
+    Asked {
+        output: Some(0),
+        ..asks(mode, third, files)
     }
-    Ok(())
 }
 
-/// The write of the output fails.
-#[test]
-fn the_write_fails(rt: HostRuntime) -> Result<(), Fail> {
-    for (mode, third, file) in [("save", "0", "a.csv"), ("roll", "[\"k\"]", "a")] {
-        let files = [file];
-        let mut failing = asks(mode, third, &files);
-        failing.output = Some(0);
-        if !ends(&rt, rt.alloc(), failing, 6, b"", b"output failed\n")? {
-            return Err("another end".into());
-        }
-    }
-    Ok(())
+/// Whether a write that fails is told, and a line that fails leaves the status.
+fn may_fail<H: Threads + Sync>(rt: &H, alloc: Global) -> Result<bool, AllocError> {
+    let line = b"output failed\n".as_slice();
+    let untold = Asked {
+        messages: Some(0),
+        ..asks("roll", "[]", &["a"])
+    };
+    Ok(
+        ends(rt, alloc, unwritten("save", "0", &["a.csv"]), 6, b"", line)?
+            && ends(
+                rt,
+                alloc,
+                unwritten("roll", "[\"k\"]", &["a"]),
+                6,
+                b"",
+                line,
+            )?
+            && ends(rt, alloc, untold, 14, b"", b"")?,
+    )
 }
 
-/// The write of the line fails: the status stays.
 #[test]
-fn the_line_fails(rt: HostRuntime) -> Result<(), Fail> {
-    let mut failing = asks("roll", "[]", &["a"]);
-    failing.messages = Some(0);
-    if ends(&rt, rt.alloc(), failing, 14, b"", b"")? {
-        Ok(())
-    } else {
-        Err("another end".into())
-    }
+fn the_write_and_the_line_fail(rt: HostRuntime) -> Result<(), Fail> {
+    assert!(rt; may_fail(&rt, rt.alloc())?);
+    Ok(())
 }

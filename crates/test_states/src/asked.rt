@@ -8,15 +8,6 @@ use std::test::Fail;
 /// The columns, all of them numbers of 64 bits.
 const COLUMNS: [&str; 3] = ["k", "g", "v"];
 
-/// Fails a test where what it asks isn't so.
-pub(crate) fn hold(answer: Result<bool, Fail>) -> Result<(), Fail> {
-    match answer {
-        Ok(true) => Ok(()),
-        Ok(false) => Err("it isn't so".into()),
-        Err(fail) => Err(fail),
-    }
-}
-
 fn added(arena: &mut Arena, expr: AExpr) -> Result<Node, Fail> {
     match arena.add(expr) {
         Ok(node) => Ok(node),
@@ -37,24 +28,35 @@ fn schema_of(alloc: Global) -> Result<Schema, AllocError> {
 }
 
 /// Adds an aggregate of v by a name.
-fn named_agg(alloc: Global, arena: &mut Arena, agg: IRAggExpr, name: &str) -> Result<Node, Fail> {
+fn add_named(alloc: Global, arena: &mut Arena, agg: IRAggExpr, name: &str) -> Result<Node, Fail> {
     let value = added(arena, AExpr::Agg(agg))?;
     added(arena, AExpr::Alias(value, Text::new(alloc, name)?))
 }
 
+/// Adds the columns, and the sum s and the first f of v.
+fn add_all(alloc: Global, arena: &mut Arena) -> Result<(), Fail> {
+    for name in COLUMNS {
+        added(arena, AExpr::Column(Text::new(alloc, name)?))?;
+    }
+    add_named(alloc, arena, IRAggExpr::Sum(Node(2)), "s")?;
+    add_named(alloc, arena, IRAggExpr::First(Node(2)), "f")?;
+    Ok(())
+}
+
+/// The arena of the columns and the aggregates.
+fn arena_of(alloc: Global) -> Result<Arena, Fail> {
+    let mut arena = Arena::new(alloc);
+    add_all(alloc, &mut arena)?;
+    Ok(arena)
+}
+
 /// The sum s and the first f of v by k and g.
 pub(crate) fn sum_and_first(alloc: Global) -> Result<Query, Fail> {
-    let mut arena = Arena::new(alloc);
-    let k = added(&mut arena, AExpr::Column(Text::new(alloc, "k")?))?;
-    let g = added(&mut arena, AExpr::Column(Text::new(alloc, "g")?))?;
-    let v = added(&mut arena, AExpr::Column(Text::new(alloc, "v")?))?;
-    let sum = named_agg(alloc, &mut arena, IRAggExpr::Sum(v), "s")?;
-    let first = named_agg(alloc, &mut arena, IRAggExpr::First(v), "f")?;
     Ok(Query {
+        keys: vec![in alloc; Node(0), Node(1)]?,
+        aggs: vec![in alloc; Node(4), Node(6)]?,
         schema: schema_of(alloc)?,
-        arena,
-        keys: vec![in alloc; k, g]?,
-        aggs: vec![in alloc; sum, first]?,
+        arena: arena_of(alloc)?,
         slice: None,
         maintain_order: false,
     })
@@ -72,15 +74,11 @@ fn column_of(alloc: Global, name: &str, numbers: &[i128]) -> Result<Column, Fail
     }
 }
 
-/// A chunk of columns of these names and numbers.
-pub(crate) fn chunk_of(
-    alloc: Global,
-    names: [&str; 3],
-    numbers: [&[i128]; 3],
-) -> Result<DataChunk, Fail> {
+/// A chunk of these numbers, column by column.
+fn chunk_of(alloc: Global, numbers: [&[i128]; 3]) -> Result<DataChunk, Fail> {
     let mut columns = Vec::new(alloc);
     for i in 0..3 {
-        columns.push(column_of(alloc, names[i], numbers[i])?)?;
+        columns.push(column_of(alloc, COLUMNS[i], numbers[i])?)?;
     }
     match DataFrame::new(numbers[0].len(), columns) {
         Some(frame) => Ok(DataChunk {
@@ -93,10 +91,10 @@ pub(crate) fn chunk_of(
 
 /// The rows 1,1,5 and 1,2,6 and 2,1,7.
 pub(crate) fn three_rows(alloc: Global) -> Result<DataChunk, Fail> {
-    chunk_of(alloc, COLUMNS, [&[1, 1, 2], &[1, 2, 1], &[5, 6, 7]])
+    chunk_of(alloc, [&[1, 1, 2], &[1, 2, 1], &[5, 6, 7]])
 }
 
 /// The rows 1,1,9 and 1,2,4.
 pub(crate) fn two_rows(alloc: Global) -> Result<DataChunk, Fail> {
-    chunk_of(alloc, COLUMNS, [&[1, 1], &[1, 2], &[9, 4]])
+    chunk_of(alloc, [&[1, 1], &[1, 2], &[9, 4]])
 }

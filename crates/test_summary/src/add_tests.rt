@@ -1,13 +1,13 @@
-//! Chunks that are added one by one, none, and such that don't fit; an answer under a slice.
+//! Chunks that are added one by one, and none.
 
 ghost use Rattle.std.specs.Prelude.{◌≡◌, IfOk};
 
-use crate::asked::{chunk_of, is_of_three, one_row, shows, sum_and_count, two_rows};
+use crate::asked::{is_of_three, one_row, sum_and_count, two_rows};
 use crate::steps::{open, store_of};
 use pipe_aggs::{CheckedQuery, Query};
 use pipe_columns::{DataChunk, Schema};
 use pipe_spill::MemoryStore;
-use pipe_summary::{AddError, Adding, Summary};
+use pipe_summary::{Adding, Summary};
 use std::alloc::Global;
 use std::test::Fail;
 
@@ -58,67 +58,22 @@ fn grows_by_feeding(alloc: Global, query: &CheckedQuery<'_>) -> Result<bool, Fai
     let schema = &query.query().schema;
     let mut summary = empty(alloc, query)?;
     feed_two(alloc, &mut summary, schema)?;
-    let none = summary.begin()?;
-    summary.finish(none)?;
     summary.add(&[])?;
     let right = is_of_three(&summary.answer()?);
     Ok(right && summary.into_store().frames().len() == 1)
 }
 
-/// Whether a chunk of other columns is told, and nothing is added.
-fn tells_misfit(alloc: Global, query: &CheckedQuery<'_>) -> Result<bool, Fail> {
-    let mut summary = empty(alloc, query)?;
-    let chunks = [two_rows(alloc)?, chunk_of(alloc, &[1], "w", &[7])?];
-    let told = summary.add(&chunks) == Err(AddError::Schema { chunk: 1 });
-    let none = shows(&summary.answer()?, [&[], &[], &[]]);
-    Ok(told && none && summary.into_store().frames().is_empty())
-}
-
-/// Whether a summary shows the second group alone.
-fn shows_second_group(alloc: Global, query: &CheckedQuery<'_>) -> Result<bool, Fail> {
-    let mut summary = empty(alloc, query)?;
-    summary.add(&[two_rows(alloc)?, one_row(alloc)?])?;
-    Ok(shows(&summary.answer()?, [&[2], &[6], &[1]]))
-}
-
-#[derive(Clone, Copy)]
-enum Asks {
-    Feeding,
-    Misfit,
-    SecondGroup,
-}
-
-/// Fails where what is asked of a query isn't so.
-fn hold(alloc: Global, query: &Query, asks: Asks) -> Result<(), Fail> {
-    let Ok(checked) = query.check(alloc) else {
-        return Err("Query::check wants memory".into());
-    };
-    let so = match asks {
-        Asks::Feeding => grows_by_feeding(alloc, &checked)?,
-        Asks::Misfit => tells_misfit(alloc, &checked)?,
-        Asks::SecondGroup => shows_second_group(alloc, &checked)?,
-    };
-    if so {
-        Ok(())
-    } else {
-        Err("it isn't so".into())
+/// Whether that is so under a query.
+fn grows_under(alloc: Global, query: &Query) -> Result<bool, Fail> {
+    match query.check(alloc) {
+        Ok(checked) => grows_by_feeding(alloc, &checked),
+        Err(_) => Err("Query::check wants memory".into()),
     }
 }
 
 #[test]
 fn chunks_are_fed_one_by_one(rt: HostRuntime) -> Result<(), Fail> {
-    let query = sum_and_count(rt.alloc(), None)?;
-    hold(rt.alloc(), &query, Asks::Feeding)
-}
-
-#[test]
-fn a_chunk_of_other_columns(rt: HostRuntime) -> Result<(), Fail> {
-    let query = sum_and_count(rt.alloc(), None)?;
-    hold(rt.alloc(), &query, Asks::Misfit)
-}
-
-#[test]
-fn an_answer_under_a_slice(rt: HostRuntime) -> Result<(), Fail> {
-    let query = sum_and_count(rt.alloc(), Some((1, 1)))?;
-    hold(rt.alloc(), &query, Asks::SecondGroup)
+    let query = sum_and_count(rt.alloc())?;
+    assert!(rt; grows_under(rt.alloc(), &query)?);
+    Ok(())
 }

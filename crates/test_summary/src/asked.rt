@@ -25,24 +25,30 @@ fn schema_of(alloc: Global) -> Result<Schema, AllocError> {
 }
 
 /// Adds an aggregate by a name.
-fn named_agg(alloc: Global, arena: &mut Arena, agg: IRAggExpr, name: &str) -> Result<Node, Fail> {
+fn add_named(alloc: Global, arena: &mut Arena, agg: IRAggExpr, name: &str) -> Result<Node, Fail> {
     let value = added(arena, AExpr::Agg(agg))?;
     added(arena, AExpr::Alias(value, Text::new(alloc, name)?))
 }
 
-/// The sum s and the count c of v by k, under a slice.
-pub(crate) fn sum_and_count(alloc: Global, slice: Option<(i64, usize)>) -> Result<Query, Fail> {
+/// The columns k and v, and the sum s and the count c of v.
+fn arena_of(alloc: Global) -> Result<Arena, Fail> {
     let mut arena = Arena::new(alloc);
-    let k = added(&mut arena, AExpr::Column(Text::new(alloc, "k")?))?;
-    let v = added(&mut arena, AExpr::Column(Text::new(alloc, "v")?))?;
-    let sum = named_agg(alloc, &mut arena, IRAggExpr::Sum(v), "s")?;
-    let count = named_agg(alloc, &mut arena, IRAggExpr::Count(v, false), "c")?;
+    for name in ["k", "v"] {
+        added(&mut arena, AExpr::Column(Text::new(alloc, name)?))?;
+    }
+    add_named(alloc, &mut arena, IRAggExpr::Sum(Node(1)), "s")?;
+    add_named(alloc, &mut arena, IRAggExpr::Count(Node(1), false), "c")?;
+    Ok(arena)
+}
+
+/// The sum s and the count c of v by k.
+pub(crate) fn sum_and_count(alloc: Global) -> Result<Query, Fail> {
     Ok(Query {
+        keys: vec![in alloc; Node(0)]?,
+        aggs: vec![in alloc; Node(3), Node(5)]?,
         schema: schema_of(alloc)?,
-        arena,
-        keys: vec![in alloc; k]?,
-        aggs: vec![in alloc; sum, count]?,
-        slice,
+        arena: arena_of(alloc)?,
+        slice: None,
         maintain_order: false,
     })
 }
@@ -59,16 +65,11 @@ fn column_of(alloc: Global, name: &str, numbers: &[i128]) -> Result<Column, Fail
     }
 }
 
-/// A chunk of a column k and of another of a name.
-pub(crate) fn chunk_of(
-    alloc: Global,
-    keys: &[i128],
-    name: &str,
-    numbers: &[i128],
-) -> Result<DataChunk, Fail> {
+/// A chunk of the columns k and v.
+fn chunk_of(alloc: Global, keys: &[i128], numbers: &[i128]) -> Result<DataChunk, Fail> {
     let mut columns = Vec::new(alloc);
     columns.push(column_of(alloc, "k", keys)?)?;
-    columns.push(column_of(alloc, name, numbers)?)?;
+    columns.push(column_of(alloc, "v", numbers)?)?;
     match DataFrame::new(keys.len(), columns) {
         Some(frame) => Ok(DataChunk {
             chunk_index: 0,
@@ -80,42 +81,29 @@ pub(crate) fn chunk_of(
 
 /// The rows 1,5 and 2,6.
 pub(crate) fn two_rows(alloc: Global) -> Result<DataChunk, Fail> {
-    chunk_of(alloc, &[1, 2], "v", &[5, 6])
+    chunk_of(alloc, &[1, 2], &[5, 6])
 }
 
 /// The row 1,7.
 pub(crate) fn one_row(alloc: Global) -> Result<DataChunk, Fail> {
-    chunk_of(alloc, &[1], "v", &[7])
+    chunk_of(alloc, &[1], &[7])
 }
 
 /// Whether values are these numbers.
 fn are(values: &[AnyValue], numbers: &[i128]) -> bool {
-    if values.len() != numbers.len() {
-        return false;
-    }
-    for i in 0..numbers.len() {
-        if values[i] != AnyValue::Int(numbers[i]) {
+    for (value, number) in values.iter().zip(numbers) {
+        if !matches!(value, AnyValue::Int(found) if *found == *number) {
             return false;
         }
     }
-    true
-}
-
-/// Whether a frame shows these columns.
-pub(crate) fn shows(frame: &DataFrame, columns: [&[i128]; 3]) -> bool {
-    let all = frame.columns();
-    if all.len() != 3 || frame.height() != columns[0].len() {
-        return false;
-    }
-    for i in 0..3 {
-        if !are(all[i].values(), columns[i]) {
-            return false;
-        }
-    }
-    true
+    values.len() == numbers.len()
 }
 
 /// Whether a frame is the answer over the rows 1,5 and 2,6 and 1,7.
 pub(crate) fn is_of_three(frame: &DataFrame) -> bool {
-    shows(frame, [&[1, 2], &[12, 6], &[2, 1]])
+    let all = frame.columns();
+    all.len() == 3
+        && are(all[0].values(), &[1, 2])
+        && are(all[1].values(), &[12, 6])
+        && are(all[2].values(), &[2, 1])
 }

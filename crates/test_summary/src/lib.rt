@@ -1,10 +1,15 @@
 //! Tests of summaries.
 #![tactic(auto)]
 
+#[cfg(test)]
 mod add_tests;
+#[cfg(test)]
 mod asked;
-mod damage_tests;
+#[cfg(test)]
 mod lives;
+#[cfg(test)]
 mod memory_tests;
+#[cfg(test)]
 mod steps;
+#[cfg(test)]
 mod store_tests;

@@ -1,4 +1,5 @@
-//! A summary whose calls are made again where memory was wanting.
+//! A summary in one frame, which answers alike, and whose calls are made again where memory was
+//! wanting.
 
 use crate::asked::sum_and_count;
 use crate::lives::lives_with;
@@ -6,10 +7,7 @@ use std::test::Fail;
 
 #[test]
 fn lives_again(rt: HostRuntime) -> Result<(), Fail> {
-    let query = sum_and_count(rt.alloc(), None)?;
-    match lives_with(rt.alloc(), &query, (99, 99), 0) {
-        Ok(true) => Ok(()),
-        Ok(false) => Err("it isn't so".into()),
-        Err(fail) => Err(fail),
-    }
+    let query = sum_and_count(rt.alloc())?;
+    assert!(rt; lives_with(rt.alloc(), &query, (99, 99), 0)?);
+    Ok(())
 }

@@ -1,4 +1,4 @@
-//! A store of which each call fails in turn, under every call of a summary.
+//! Two stores of which each call fails in turn, under every call of a summary.
 
 use crate::asked::sum_and_count;
 use crate::lives::lives_with;
@@ -7,29 +7,20 @@ use std::test::Fail;
 /// A call that no life makes.
 const NEVER: u64 = 99;
 
-#[test]
-fn a_summary_in_one_frame_answers_alike(rt: HostRuntime) -> Result<(), Fail> {
-    let query = sum_and_count(rt.alloc(), None)?;
-    assert!(rt; lives_with(rt.alloc(), &query, (NEVER, NEVER), 0)?);
-    Ok(())
-}
+/// The calls that a life makes of its store.
+const OF_ITS_STORE: u64 = 10;
 
 #[test]
-fn each_call_of_its_store_fails(rt: HostRuntime) -> Result<(), Fail> {
-    let query = sum_and_count(rt.alloc(), None)?;
-    for failing in 0..10 {
-        let lives = lives_with(rt.alloc(), &query, (failing, NEVER), 1)?;
-        assert!(rt; lives, "call {failing} fails");
-    }
-    Ok(())
-}
-
-#[test]
-fn each_call_of_the_store_of_one_frame_fails(rt: HostRuntime) -> Result<(), Fail> {
-    let query = sum_and_count(rt.alloc(), None)?;
-    for failing in 0..3 {
-        let lives = lives_with(rt.alloc(), &query, (NEVER, failing), 1)?;
-        assert!(rt; lives, "call {failing} fails");
+fn each_call_of_a_store_fails(rt: HostRuntime) -> Result<(), Fail> {
+    let query = sum_and_count(rt.alloc())?;
+    for call in 0..13 {
+        let failing = if call < OF_ITS_STORE {
+            (call, NEVER)
+        } else {
+            (NEVER, call - OF_ITS_STORE)
+        };
+        let lives = lives_with(rt.alloc(), &query, failing, 1)?;
+        assert!(rt; lives, "call {call} fails");
     }
     Ok(())
 }

@@ -1,6 +1,5 @@
-//! Tests of a summary that lies as a log in a file.
+//! Tests of a store that keeps its frames as a log in a file.
 #![tactic(auto)]
 
-mod asked;
+#[cfg(test)]
 mod log_tests;
-mod summary_tests;

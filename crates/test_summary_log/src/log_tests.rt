@@ -47,23 +47,29 @@ fn is_frame<R: Files<File = File>>(
     Ok(bytes.as_slice() == frame)
 }
 
+/// Whether three frames get numbers in turn.
+fn are_put<R: Files<File = File>>(rt: &R, alloc: Global) -> Result<bool, StoreError> {
+    Ok(
+        put_frame(rt, alloc, b"first")? == 0
+            && put_frame(rt, alloc, b"")? == 1
+            && put_frame(rt, alloc, b"third")? == 2,
+    )
+}
+
+/// Whether they are kept.
+fn are_kept<R: Files<File = File>>(rt: &R, alloc: Global) -> Result<bool, StoreError> {
+    Ok(
+        is_frame(rt, alloc, 0, b"first")?
+            && is_frame(rt, alloc, 1, b"")?
+            && is_frame(rt, alloc, 2, b"third")?,
+    )
+}
+
 /// What is put into a log in a file is there when it is opened again, an empty frame too.
 #[test]
 fn frames_are_kept(rt: HostRuntime) -> Result<(), Fail> {
-    let alloc = rt.alloc();
-    let numbers = (
-        put_frame(&rt, alloc, b"first"),
-        put_frame(&rt, alloc, b""),
-        put_frame(&rt, alloc, b"third"),
-    );
-    let kept = is_frame(&rt, alloc, 0, b"first") == Ok(true)
-        && is_frame(&rt, alloc, 1, b"") == Ok(true)
-        && is_frame(&rt, alloc, 2, b"third") == Ok(true);
-    if numbers == (Ok(0), Ok(1), Ok(2)) && kept {
-        Ok(())
-    } else {
-        Err("other frames".into())
-    }
+    assert!(rt; are_put(&rt, rt.alloc())? && are_kept(&rt, rt.alloc())?);
+    Ok(())
 }
 
 /// A log that is open in one store can't be opened in another.

@@ -2,8 +2,6 @@
 #![tactic(auto)]
 
 #[cfg(test)]
-mod inputs;
-#[cfg(test)]
 mod made;
 #[cfg(test)]
 mod native;

@@ -9,7 +9,6 @@ use std::test::Fail;
 #[derive(Clone, Copy)]
 pub(crate) enum Seen {
     Null,
-    Truth(bool),
     Int(i128),
     Word(&'static str),
 }
@@ -56,7 +55,6 @@ pub(crate) struct Asked {
 pub(crate) fn value_of(alloc: Global, seen: Seen) -> Result<AnyValue, AllocError> {
     match seen {
         Seen::Null => Ok(AnyValue::Null),
-        Seen::Truth(truth) => Ok(AnyValue::Boolean(truth)),
         Seen::Int(number) => Ok(AnyValue::Int(number)),
         Seen::Word(word) => Ok(AnyValue::Text(Text::new(alloc, word)?)),
     }
@@ -66,7 +64,6 @@ pub(crate) fn value_of(alloc: Global, seen: Seen) -> Result<AnyValue, AllocError
 pub(crate) fn is_value(value: &AnyValue, seen: Seen) -> bool {
     match (value, seen) {
         (AnyValue::Null, Seen::Null) => true,
-        (AnyValue::Boolean(found), Seen::Truth(truth)) => *found == truth,
         (AnyValue::Int(found), Seen::Int(number)) => *found == number,
         (AnyValue::Text(found), Seen::Word(word)) => found.as_str() == word,
         _ => false,
@@ -74,11 +71,7 @@ pub(crate) fn is_value(value: &AnyValue, seen: Seen) -> bool {
 }
 
 /// The values at a place of rows, null where a row has none.
-pub(crate) fn values_of(
-    alloc: Global,
-    rows: &[Row],
-    place: usize,
-) -> Result<Vec<AnyValue>, AllocError> {
+fn values_of(alloc: Global, rows: &[Row], place: usize) -> Result<Vec<AnyValue>, AllocError> {
     let mut values = Vec::new(alloc);
     for row in rows {
         let seen = row.get(place).copied().unwrap_or(Seen::Null);
@@ -106,15 +99,13 @@ fn columns_of(alloc: Global, typed: &[Typed], rows: &[Row]) -> Result<Vec<Column
     Ok(columns)
 }
 
-/// The chunk of a number, of rows.
-pub(crate) fn chunk_of(
-    alloc: Global,
-    chunk_index: u32,
-    typed: &[Typed],
-    rows: &[Row],
-) -> Result<DataChunk, Fail> {
+/// The chunk of rows.
+fn chunk_of(alloc: Global, typed: &[Typed], rows: &[Row]) -> Result<DataChunk, Fail> {
     match DataFrame::new(rows.len(), columns_of(alloc, typed, rows)?) {
-        Some(frame) => Ok(DataChunk { chunk_index, frame }),
+        Some(frame) => Ok(DataChunk {
+            chunk_index: 0,
+            frame,
+        }),
         None => Err("no frame".into()),
     }
 }
@@ -127,7 +118,7 @@ pub(crate) fn chunks_of(
 ) -> Result<Vec<DataChunk>, Fail> {
     let mut chunks = Vec::new(alloc);
     for rows in pieces {
-        chunks.push(chunk_of(alloc, 0, typed, rows)?)?;
+        chunks.push(chunk_of(alloc, typed, rows)?)?;
     }
     Ok(chunks)
 }

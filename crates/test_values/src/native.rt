@@ -19,34 +19,24 @@ fn wraps_at<K: NumericNative>(dtype: DataType, least: i128, greatest: i128) -> b
         && low.plus(K::narrowed(-1)).widened() == greatest
 }
 
-/// Whether a type keeps of numbers past its edges what is left modulo its size.
-fn narrows_past<K: NumericNative>(least: i128, greatest: i128) -> bool {
-    match (greatest.checked_add(1), least.checked_sub(1)) {
-        (Some(above), Some(below)) => K::narrowed(above).widened() == least
-            && K::narrowed(below).widened() == greatest,
-        _ => false,
-    }
+/// Whether that is so of the types of signed numbers.
+fn signed_wrap() -> bool {
+    wraps_at::<i8>(DataType::Int8, -128, 127)
+        && wraps_at::<i16>(DataType::Int16, -32768, 32767)
+        && wraps_at::<i32>(DataType::Int32, -2147483648, 2147483647)
+        && wraps_at::<i64>(DataType::Int64, -9223372036854775808, 9223372036854775807)
+        && wraps_at::<i128>(DataType::Int128, i128::MIN, i128::MAX)
 }
 
-/// Whether a type has a name and these edges.
-fn has_edges<K: NumericNative>(dtype: DataType, least: i128, greatest: i128) -> bool {
-    wraps_at::<K>(dtype, least, greatest) && narrows_past::<K>(least, greatest)
-}
-
-#[test]
-fn signed_edges(rt: HostRuntime) {
-    let long = has_edges::<i64>(DataType::Int64, -9223372036854775808, 9223372036854775807);
-    assert!(rt; has_edges::<i8>(DataType::Int8, -128, 127));
-    assert!(rt; has_edges::<i16>(DataType::Int16, -32768, 32767));
-    assert!(rt; has_edges::<i32>(DataType::Int32, -2147483648, 2147483647));
-    assert!(rt; long);
-    assert!(rt; wraps_at::<i128>(DataType::Int128, i128::MIN, i128::MAX));
+/// Whether it is so of those of unsigned ones.
+fn unsigned_wrap() -> bool {
+    wraps_at::<u8>(DataType::UInt8, 0, 255)
+        && wraps_at::<u16>(DataType::UInt16, 0, 65535)
+        && wraps_at::<u32>(DataType::UInt32, 0, 4294967295)
+        && wraps_at::<u64>(DataType::UInt64, 0, 18446744073709551615)
 }
 
 #[test]
-fn unsigned_edges(rt: HostRuntime) {
-    assert!(rt; has_edges::<u8>(DataType::UInt8, 0, 255));
-    assert!(rt; has_edges::<u16>(DataType::UInt16, 0, 65535));
-    assert!(rt; has_edges::<u32>(DataType::UInt32, 0, 4294967295));
-    assert!(rt; has_edges::<u64>(DataType::UInt64, 0, 18446744073709551615));
+fn edges(rt: HostRuntime) {
+    assert!(rt; signed_wrap() && unsigned_wrap());
 }

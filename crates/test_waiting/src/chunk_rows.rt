@@ -1,6 +1,6 @@
 //! Rows of a chunk that are put behind, lent.
 
-ghost use Rattle.std.specs.Prelude.{◌<◌, ◌^◌, All, length};
+ghost use Rattle.std.specs.Prelude.{All};
 ghost use Rattle.pipe_aggs.specs.QueryTrees.{query_tree};
 ghost use Rattle.pipe_inputs.specs.RowTypes.{IsRowOf};
 
@@ -24,12 +24,17 @@ fn add(arena: &mut Arena, expr: AExpr) -> Result<(), Fail> {
     }
 }
 
-/// The column v, its sum, and the sum by the name s.
+/// Adds the column v, its sum, and the sum by the name s.
+fn add_all(alloc: Global, arena: &mut Arena) -> Result<(), Fail> {
+    add(arena, AExpr::Column(Text::new(alloc, "v")?))?;
+    add(arena, AExpr::Agg(IRAggExpr::Sum(Node(0))))?;
+    add(arena, AExpr::Alias(Node(1), Text::new(alloc, "s")?))
+}
+
+/// The arena of these.
 fn arena_of(alloc: Global) -> Result<Arena, Fail> {
     let mut arena = Arena::new(alloc);
-    add(&mut arena, AExpr::Column(Text::new(alloc, "v")?))?;
-    add(&mut arena, AExpr::Agg(IRAggExpr::Sum(Node(0))))?;
-    add(&mut arena, AExpr::Alias(Node(1), Text::new(alloc, "s")?))?;
+    add_all(alloc, &mut arena)?;
     Ok(arena)
 }
 
@@ -45,10 +50,10 @@ fn schema_of(alloc: Global) -> Result<Schema, AllocError> {
 /// The sum of v by v.
 fn query_of(alloc: Global) -> Result<Query, Fail> {
     Ok(Query {
-        schema: schema_of(alloc)?,
-        arena: arena_of(alloc)?,
         keys: vec![in alloc; Node(0)]?,
         aggs: vec![in alloc; Node(2)]?,
+        schema: schema_of(alloc)?,
+        arena: arena_of(alloc)?,
         slice: None,
         maintain_order: false,
     })
@@ -74,50 +79,7 @@ fn chunk_of(alloc: Global) -> Result<DataChunk, Fail> {
     }
 }
 
-/// Puts a row behind, which is lent, with its key's code. Where memory is wanted, it says so if the
-/// rows are as before.
-fn put(
-    waiting: &mut WaitingRows,
-    query: &CheckedQuery<'_>,
-    rows: &ChunkRows<'_>,
-    row: usize,
-    key: &[u8],
-) -> Result<(), Fail>
-    requires there { row < length rows.now }
-    requires few { row < 2 ^ 32 }
-    requires typed { All (IsRowOf (query_tree query.now)) rows.now }
-{
-    let (count, size) = (waiting.len(), waiting.bytes().len());
-    match waiting.push_lent(key, rows.place(row), rows, row, query.input_types()) {
-        Ok(()) => Ok(()),
-        Err(AllocError) if waiting.len() == count && waiting.bytes().len() == size => {
-            Err("push_lent wants memory".into())
-        }
-        Err(AllocError) => Err("a refused row waits".into()),
-    }
-}
-
-/// A row behind others, apart from them, with its key's code. The others stay, also where memory is
-/// wanted.
-fn put_apart(
-    alloc: Global,
-    waiting: &WaitingRows,
-    query: &CheckedQuery<'_>,
-    rows: &ChunkRows<'_>,
-    row: usize,
-    key: &[u8],
-) -> Result<WaitingRows, Fail>
-    requires there { row < length rows.now }
-    requires few { row < 2 ^ 32 }
-    requires typed { All (IsRowOf (query_tree query.now)) rows.now }
-{
-    match waiting.with_lent(alloc, key, rows.place(row), rows, row, query.input_types()) {
-        Ok(apart) => Ok(apart),
-        Err(AllocError) => Err("with_lent wants memory".into()),
-    }
-}
-
-/// Puts the first row of the chunk behind, and the second behind it apart.
+/// Puts the first row of the chunk behind, and the second behind it apart; both are lent.
 fn put_both(
     alloc: Global,
     waiting: &mut WaitingRows,
@@ -129,8 +91,12 @@ fn put_both(
     if rows.len() != 2 {
         return Err("other rows".into());
     }
-    put(waiting, query, rows, 0, &[1, 255])?;
-    put_apart(alloc, waiting, query, rows, 1, &[0])
+    let types = query.input_types();
+    waiting.push_lent(&[1, 255], rows.place(0), rows, 0, types)?;
+    match waiting.with_lent(alloc, &[0], rows.place(1), rows, 1, types) {
+        Ok(apart) => Ok(apart),
+        Err(AllocError) => Err("with_lent wants memory".into()),
+    }
 }
 
 /// Puts the rows of a chunk that has the columns of the query behind, the second apart.
@@ -151,12 +117,21 @@ fn put_chunk(
     )
 }
 
-/// Puts the first row of the chunk behind, and the second apart, where the query is one.
+/// Puts the first row of the chunk behind, and the second apart, under a checked query.
+fn put_new(
+    alloc: Global,
+    waiting: &mut WaitingRows,
+    query: &CheckedQuery<'_>,
+) -> Result<WaitingRows, Fail> {
+    let chunk = chunk_of(alloc)?;
+    put_chunk(alloc, waiting, query, &chunk)
+}
+
+/// The same under a new query.
 fn fill(alloc: Global, waiting: &mut WaitingRows) -> Result<WaitingRows, Fail> {
     let query = query_of(alloc)?;
-    let chunk = chunk_of(alloc)?;
     match query.check(alloc) {
-        Ok(checked) => put_chunk(alloc, waiting, &checked, &chunk),
+        Ok(checked) => put_new(alloc, waiting, &checked),
         Err(_) => Err("Query::check wants memory".into()),
     }
 }

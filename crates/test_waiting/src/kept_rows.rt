@@ -9,7 +9,6 @@ use pipe_columns::{AnyValue, DataType, Place};
 use pipe_spill::{SpillRow, Values, encode_key};
 use pipe_waiting::WaitingRows;
 use std::alloc::{AllocError, Global};
-use std::test::Fail;
 
 /// The frame of rows 1 and 2 of chunk 0, both of the key 2, with the values 6 and 7.
 pub(crate) const TWO_ROWS: [u8; 76] = [
@@ -21,25 +20,25 @@ pub(crate) const TWO_ROWS: [u8; 76] = [
 ];
 
 /// The type of the key and of the input.
-pub(crate) const TYPES: [DataType; 1] = [DataType::Int64];
+const TYPES: [DataType; 1] = [DataType::Int64];
 
-/// A row of chunk 0 with an integer as its key and one as its input.
-pub(crate) fn row_of(alloc: Global, row: u32, key: i64, value: i64) -> Result<SpillRow, AllocError>
+/// A row of chunk 0 with the key 2 and an integer as its input.
+fn row_of(alloc: Global, row: u32, value: i64) -> Result<SpillRow, AllocError>
     ensures { IfOk result (λ r. AreOfTypes (dt.Int64 ∷ []) r.values) }
 {
     Ok(SpillRow {
         place: Place { chunk: 0, row },
-        key: encode_key(alloc, &[AnyValue::Int(key as i128)], &TYPES)?,
+        key: encode_key(alloc, &[AnyValue::Int(2)], &TYPES)?,
         values: Values::one(AnyValue::Int(value as i128)),
     })
 }
 
-/// Row `row` of the key 2, alone.
-pub(crate) fn one_row(alloc: Global, row: u32, value: i64) -> Result<WaitingRows, AllocError>
+/// Row 1 of the key 2, alone.
+fn one_row(alloc: Global) -> Result<WaitingRows, AllocError>
     ensures { IfOk result (AreWaiting (dt.Int64 ∷ [])) }
 {
     let mut waiting = WaitingRows::new(alloc);
-    waiting.push(&row_of(alloc, row, 2, value)?, &TYPES)?;
+    waiting.push(&row_of(alloc, 1, 6)?, &TYPES)?;
     Ok(waiting)
 }
 
@@ -47,14 +46,7 @@ pub(crate) fn one_row(alloc: Global, row: u32, value: i64) -> Result<WaitingRows
 pub(crate) fn two_rows(alloc: Global) -> Result<WaitingRows, AllocError>
     ensures { IfOk result (AreWaiting (dt.Int64 ∷ [])) }
 {
-    let mut waiting = one_row(alloc, 1, 6)?;
-    waiting.push(&row_of(alloc, 2, 2, 7)?, &TYPES)?;
+    let mut waiting = one_row(alloc)?;
+    waiting.push(&row_of(alloc, 2, 7)?, &TYPES)?;
     Ok(waiting)
-}
-
-#[test]
-fn no_rows_that_wait(rt: HostRuntime) -> Result<(), Fail> {
-    let waiting = WaitingRows::new(rt.alloc());
-    assert!(rt; waiting.len() == 0 && waiting.is_empty() && waiting.bytes().is_empty());
-    Ok(())
 }

@@ -4,10 +4,6 @@
 #[cfg(test)]
 mod chunk_rows;
 #[cfg(test)]
-mod fixed_rows;
-#[cfg(test)]
-mod given_rows;
-#[cfg(test)]
 mod kept_rows;
 #[cfg(test)]
 mod memory_tests;
