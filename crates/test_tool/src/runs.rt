@@ -1,6 +1,6 @@
 //! Runs of the tool over files in memory and outputs that take little at a time.
 
-use crate::small::{Small, small};
+use crate::small::{Small, output_of};
 use pipe_columns::Text;
 use pipe_global::{Gate, OpenGate};
 use pipe_io::{InputFiles, MemoryFiles};
@@ -152,8 +152,8 @@ fn comes_to<
     maker: &mut M,
     gate: &G,
 ) -> Result<bool, AllocError> {
-    let mut output = small(rt.alloc(), run.output_fails)?;
-    let mut messages = small(rt.alloc(), run.message_fails)?;
+    let mut output = output_of(rt.alloc(), run.output_fails)?;
+    let mut messages = output_of(rt.alloc(), run.message_fails)?;
     let ends = ends(
         rt,
         run,

@@ -17,7 +17,7 @@ pub(crate) const PIECE: usize = 6;
 pub(crate) struct Small(pub(crate) MemoryOutput);
 
 /// One of which listed calls fail.
-pub(crate) fn small(alloc: Global, failing: &[u64]) -> Result<Small, AllocError> {
+pub(crate) fn output_of(alloc: Global, failing: &[u64]) -> Result<Small, AllocError> {
     Ok(Small(MemoryOutput::new(alloc, Vec::from_slice(alloc, failing)?)))
 }
 
