@@ -24,10 +24,7 @@ use std::alloc::Global;
 use std::hash::RandomState;
 use std::sync::Wait;
 use std::thread::Threads;
-use tool_run::{FileRunError, run_files_to_frame};
-
-/// How many chunks of each worker are read before they are fed.
-const CHUNKS_OF_WORKER: usize = 4;
+use tool_run::{FileRunError, chunks_of_round, run_files_to_frame};
 
 /// Runs a query over stores and over the files of its job, of which the query's columns are read, found
 /// by their names, and fed in rounds. Tables hash under keys. It gives the frame of the groups. The
@@ -81,6 +78,6 @@ pub fn run_job<
         Err(stores) => return (Err(FileRunError::Run(PipeError::Memory)), stores),
     };
     let mut reader = ChunkReader::by_name(alloc, files, schema, read_options());
-    let most = CHUNKS_OF_WORKER * workers;
+    let most = chunks_of_round(workers);
     run_files_to_frame(rt, alloc, gate, run, input, &mut reader, most, workers)
 }

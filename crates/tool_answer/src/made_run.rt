@@ -18,7 +18,7 @@ ghost use Rattle.tool_answer.specs.Inside.{IsOfStores};
 ghost use Rattle.tool_answer.specs.MadeRun.{HasMadeRun};
 
 use crate::fault::{ToolFault, file_fault};
-use crate::run::{CHUNKS_OF_WORKER, begin_run};
+use crate::run::begin_run;
 use pipe_global::Gate;
 use pipe_run::GroupByOutput;
 use pipe_spill::SpillStore;
@@ -26,7 +26,7 @@ use pipe_words::Plan;
 use std::alloc::Global;
 use std::sync::Wait;
 use std::thread::Threads;
-use tool_run::{FileRunError, run_made};
+use tool_run::{FileRunError, chunks_of_round, run_made};
 use tool_words::MadeQuestion;
 
 /// Runs a question over stores and over the rows that it generates, which are made and fed in rounds.
@@ -75,7 +75,7 @@ pub fn run_rows<S: SpillStore + Drop + Send, G: Gate + Sync, H: Threads + Wait +
         Ok(run) => run,
         Err(stores) => return (Err(ToolFault::Memory), stores),
     };
-    let most = CHUNKS_OF_WORKER * limits.workers;
+    let most = chunks_of_round(limits.workers);
     let (ended, stores) = run_made(rt, alloc, gate, run, &rows, most);
     match ended {
         Ok(groups) => (Ok(groups), stores),

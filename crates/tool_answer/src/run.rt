@@ -36,11 +36,8 @@ use std::alloc::Global;
 use std::hash::RandomState;
 use std::sync::Wait;
 use std::thread::Threads;
-use tool_run::run_files;
+use tool_run::{chunks_of_round, run_files};
 use tool_words::Question;
-
-/// How many chunks of each worker are read or made before they are fed.
-pub const CHUNKS_OF_WORKER: usize = 4;
 
 /// A run before its first chunk, over stores as they were made, whose tables hash under keys.
 #[tactic(auto, using(crate::proofs::RunFacts::keeps_suits, crate::proofs::RunFacts::rules_fit))]
@@ -155,7 +152,7 @@ pub fn run_question<
     let Ok(mut reader) = reader_of(alloc, words, schema, wanted, chunk, rows) else {
         return (Err(ToolFault::Memory), run.into_stores());
     };
-    let most = CHUNKS_OF_WORKER * limits.workers;
+    let most = chunks_of_round(limits.workers);
     let threads = limits.workers;
     let (ended, stores) = run_files(
         rt,

@@ -10,9 +10,11 @@ mod feed_made;
 mod file_run;
 mod made_run;
 mod read_round;
+mod round_size;
 mod run_lines;
 
 pub use error::FileRunError;
 pub use file_run::{run_files, run_files_to_frame};
 pub use made_run::run_made;
+pub use round_size::chunks_of_round;
 pub use run_lines::made_lines;
