@@ -8,7 +8,7 @@ use pipe_source::CsvReadOptions;
 use std::alloc::{AllocError, Global};
 
 /// How many rows a chunk has at most.
-const CHUNK_ROWS: usize = 50_000;
+pub(crate) const CHUNK_ROWS: usize = 50_000;
 
 /// How files are read.
 pub(crate) fn read_options() -> CsvReadOptions

@@ -13,7 +13,7 @@ ghost use Rattle.lavzimo_run.specs.Stores.{AreMade, IsSoundStore};
 
 use crate::begin::begin_run;
 use crate::job::Job;
-use crate::plan::read_options;
+use crate::plan::{CHUNK_ROWS, read_options};
 use pipe_global::Gate;
 use pipe_io::InputFiles;
 use pipe_run::{GroupByOutput, PipeError};
@@ -78,6 +78,6 @@ pub fn run_job<
         Err(stores) => return (Err(FileRunError::Run(PipeError::Memory)), stores),
     };
     let mut reader = ChunkReader::by_name(alloc, files, schema, read_options());
-    let most = chunks_of_round(workers);
+    let most = chunks_of_round(workers, CHUNK_ROWS);
     run_files_to_frame(rt, alloc, gate, run, input, &mut reader, most, workers)
 }

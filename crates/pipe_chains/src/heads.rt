@@ -9,12 +9,29 @@ use std::hash::{BuildHasher, FoldHasher, Hasher, RandomState};
 /// How many heads there are at least, where there are any.
 const LEAST: usize = 16;
 
+/// Fewer entries have eight heads each, and else two. So most heads tell entries of one lead alone, where a
+/// few kilobytes buy it.
+const FEW: usize = 512;
+
 /// A power of two of heads, or none. Each tells the last entry of those whose leads have its slot, as
 /// its number and one, or 0 where there is none.
 #[derive(Drop)]
 pub(crate) struct Heads {
     pub(crate) told: Vec<u32>,
     start: FoldHasher,
+}
+
+/// How many heads so many entries have at least.
+fn wanted(entries: usize) -> usize
+    requires { entries < 2 ^ 32 }
+    ensures enough { entries * 2 ≤ result }
+    ensures bound { result < 2 ^ 34 }
+{
+    if entries < FEW {
+        entries * 8
+    } else {
+        entries * 2
+    }
 }
 
 impl Heads {
@@ -71,7 +88,7 @@ impl Heads {
         ensures enough { IfOk result (λ wide. entries * 2 ≤ length wide.told.items) }
         ensures kept { IfOk result (λ wide. length self.now.told.items ≤ length wide.told.items) }
     {
-        let count = (entries * 2)
+        let count = wanted(entries)
             .next_power_of_two()
             .max(LEAST)
             .max(self.told.len());

@@ -1,6 +1,7 @@
 //! What lies below groups that are found by marks.
 
-ghost use Rattle.std.specs.Prelude.{◌≡◌};
+ghost use Rattle.std.specs.Prelude.{◌≡◌, ◌<◌, length};
+ghost use Rattle.pipe_groups.specs.Groups.{group_of};
 
 use crate::keyed_groups::KeyedGroups;
 use crate::marking::Marking;
@@ -21,6 +22,15 @@ impl<M: Marking> KeyedGroups<M> {
     #[inline(always)]
     pub fn near(&self, mark: u64) -> usize {
         self.chains.near(mark)
+    }
+
+    /// The mark of the key of a group.
+    #[inline(always)]
+    pub fn mark(&self, index: usize) -> u64
+        requires { index < length self.now.groups }
+        ensures { M.marks self.now.shape.key_types (group_of self.now.groups index).key result }
+    {
+        self.chains.mark(index)
     }
 
     /// Where the memory comes from.

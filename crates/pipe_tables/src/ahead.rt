@@ -40,12 +40,16 @@ fn look(keyed: &KeyedGroups<ByHash>, types: &[DataType], rows: &ChunkRows<'_>, f
     }
     let mut seen = 0usize;
     for place in 0..count {
-        seen = seen.wrapping_add(keyed.groups().look(spots[place]));
+        let spot = spots[place];
+        if spot < keyed.len() {
+            seen = seen.wrapping_add(keyed.mark(spot) as usize);
+        }
+        seen = seen.wrapping_add(keyed.groups().look(spot));
     }
     seen
 }
 
-/// Reads the keys of the groups that may be those of keys of these hashes.
+/// Reads the marks and the keys of the groups that may be those of keys of these hashes.
 #[inline(always)]
 fn look_at_keys(keyed: &KeyedGroups<ByHash>, mut spots: [usize; TOGETHER]) -> usize {
     for place in 0..TOGETHER {
@@ -55,6 +59,7 @@ fn look_at_keys(keyed: &KeyedGroups<ByHash>, mut spots: [usize; TOGETHER]) -> us
     for place in 0..TOGETHER {
         let spot = spots[place];
         if spot < keyed.len() {
+            seen = seen.wrapping_add(keyed.mark(spot) as usize);
             if let Some(byte) = keyed.key(spot).first() {
                 seen = seen.wrapping_add(*byte as usize);
             }

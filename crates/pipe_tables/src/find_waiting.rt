@@ -38,7 +38,7 @@ fn spot_of(keyed: &mut KeyedGroups<ByHash>, key: &[u8]) -> Result<usize, AllocEr
     ensures err { OnErr result (SameGroups keyed.old keyed.new keyed.old.groups) }
 {
     let hash = hash_bytes(key);
-    match find_near(keyed, hash, key) {
+    match find_near(keyed, false, hash, key) {
         Some(index) => Ok(index),
         None => keyed.push(hash, key),
     }

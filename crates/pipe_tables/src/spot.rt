@@ -13,8 +13,8 @@ use crate::by_hash::ByHash;
 use pipe_chains::hash_bytes;
 use pipe_keyed::{KeyCode, KeyedGroups, are_same};
 
-/// The chains of fewer groups lie near to the processor.
-const FEW: usize = 1 << 12;
+/// The keys of fewer groups lie near to the processor.
+const FEW: usize = 1 << 14;
 
 /// What a table has for a new row of a key.
 #[derive(Clone, Copy)]
@@ -47,13 +47,19 @@ fn find_chained(keyed: &KeyedGroups<ByHash>, hash: u64, key: &[u8]) -> Option<us
 }
 
 /// The index of the group of a key, which has a hash. Among few groups the last one of a chain is mostly
-/// the one, and so its key is compared before its hash.
+/// the one, and so its key is compared before its hash. In a full table most keys are new, which a chain
+/// tells without a key.
 #[inline(always)]
-pub(crate) fn find_near(keyed: &KeyedGroups<ByHash>, hash: u64, key: &[u8]) -> Option<usize>
+pub(crate) fn find_near(
+    keyed: &KeyedGroups<ByHash>,
+    full: bool,
+    hash: u64,
+    key: &[u8],
+) -> Option<usize>
     requires { hash ≡ hash_of key.now }
     ensures { IsFound keyed.now.groups key.now result }
 {
-    if keyed.len() < FEW {
+    if !full && keyed.len() < FEW {
         let near = keyed.near(hash);
         if near < keyed.len() && are_same(keyed.key(near), key) {
             return Some(near);
@@ -69,8 +75,8 @@ pub(crate) fn spot_for(keyed: &KeyedGroups<ByHash>, limit: Option<usize>, key: &
     ensures { IsSpot limit keyed.now.groups key.now result }
 {
     let hash = hash_bytes(key);
-    let found = find_near(keyed, hash, key);
     let full = passes(keyed.held(), limit);
+    let found = find_near(keyed, full, hash, key);
     match found {
         Some(index) => {
             if full && !keyed.has_rows(index) {

@@ -75,7 +75,7 @@ pub fn run_rows<S: SpillStore + Drop + Send, G: Gate + Sync, H: Threads + Wait +
         Ok(run) => run,
         Err(stores) => return (Err(ToolFault::Memory), stores),
     };
-    let most = chunks_of_round(limits.workers);
+    let most = chunks_of_round(limits.workers, rows.chunk);
     let (ended, stores) = run_made(rt, alloc, gate, run, &rows, most);
     match ended {
         Ok(groups) => (Ok(groups), stores),

@@ -152,7 +152,7 @@ pub fn run_question<
     let Ok(mut reader) = reader_of(alloc, words, schema, wanted, chunk, rows) else {
         return (Err(ToolFault::Memory), run.into_stores());
     };
-    let most = chunks_of_round(limits.workers);
+    let most = chunks_of_round(limits.workers, chunk);
     let threads = limits.workers;
     let (ended, stores) = run_files(
         rt,
