@@ -2,7 +2,7 @@
 
 usage: scripts/tree_below.py CRATE FOLDER
 `rt ci` there proves and builds these alone. What it has proved is kept on the machine for every later `rt ci`, in whatever folder.
-It prints those of them on which the chain begins: all that doesn't stand on pipe_keyed, and pipe_keyed. What stands on it is a chain, in
+It prints those of them on which the chain begins: all that doesn't stand on pipe_tables, and pipe_tables. What stands on it is a chain, in
 which hardly two can be proved at once.
 """
 
@@ -41,7 +41,7 @@ def main():
     shutil.copy(os.path.join(ROOT, "HANDLES"), folder)
     for name in wanted:
         shutil.copytree(os.path.join(ROOT, "crates", name), os.path.join(folder, "crates", name), symlinks=True, ignore=LEFT_OUT)
-    print(*(name for name in known if name in wanted and "pipe_keyed" not in with_below(name, known) - {name}))
+    print(*(name for name in known if name in wanted and "pipe_tables" not in with_below(name, known) - {name}))
 
 
 main()
