@@ -9,8 +9,8 @@ use std::hash::{BuildHasher, FoldHasher, Hasher, RandomState};
 /// How many heads there are at least, where there are any.
 const LEAST: usize = 16;
 
-/// Fewer entries have eight heads each, and else two. So most heads tell entries of one lead alone, where a
-/// few kilobytes buy it.
+/// Heads that are made for fewer entries are eight for each, and else two. So most of them tell entries of one
+/// lead alone, where a few kilobytes buy it.
 const FEW: usize = 512;
 
 /// A power of two of heads, or none. Each tells the last entry of those whose leads have its slot, as
