@@ -10,8 +10,8 @@ use std::hash::{BuildHasher, FoldHasher, Hasher, RandomState};
 const LEAST: usize = 16;
 
 /// Heads that are made for fewer entries are eight for each, and else two. So most of them tell entries of one
-/// lead alone, where a few kilobytes buy it.
-const FEW: usize = 512;
+/// lead alone, where at most 32 kilobytes buy it.
+const FEW: usize = 1024;
 
 /// A power of two of heads, or none. Each tells the last entry of those whose leads have its slot, as
 /// its number and one, or 0 where there is none.

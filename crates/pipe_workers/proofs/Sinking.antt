@@ -1,11 +1,9 @@
 -- A worker takes the chunk that is its next turn, and the chunks of a round.
 use Rattle.std.proofs.Common.{◌≡◌, ◌≢◌, ◌∙◌, ◌+◌, ◌*◌, ◌/◌, ◌%◌, ◌<◌, ◌^◌, ℕ, Bool, suc, true, false, List, [], ◌∷◌, ◌++◌, length, get_or, Some, slice_get, refl, sym, ap, subst, arith, length-append}
-use Rattle.std.specs.List.{slice_index_or}
 use Rattle.std.proofs.lemmas.Bool.{eq-eqb, ne_eqb}
 use Rattle.std.proofs.lemmas.Option.{slice_get_read, slice_get_within}
 use Rattle.pipe_columns.specs.declared.data_chunk.DataChunk.{DataChunk}
 use Rattle.pipe_plan.specs.declared.event.SpillAction.{SpillAction}
-use Rattle.pipe_plan.specs.declared.event.SpillAction.TheVariants as action
 use Rattle.pipe_plan.specs.Plan.{action_at, turn_action}
 use Rattle.pipe_plan.specs.Run.{is_turn_of, Run}
 use Rattle.pipe_tables.specs.LocalTable.{Local}

@@ -1,7 +1,9 @@
 //! A turn.
 
-ghost use Rattle.std.specs.Prelude.{◌≡◌, ◌+◌, All, length, IfErr, OnErr, OnOk};
+ghost use Rattle.std.specs.Prelude.{◌≡◌, ◌+◌, ◌<◌, All, length, IfErr, OnErr, OnOk};
+ghost use Rattle.pipe_columns.specs.Key.{code};
 ghost use Rattle.pipe_aggs.specs.QueryTrees.{query_tree};
+ghost use Rattle.pipe_inputs.specs.ChunkRows.{row_at};
 ghost use Rattle.pipe_model.specs.Output.{key_types};
 ghost use Rattle.pipe_plan.specs.Plan.{action_at};
 ghost use Rattle.pipe_plan.specs.Progress.{rows_before};
@@ -14,16 +16,37 @@ use crate::pick::pick;
 use crate::rows::{TurnRows, take_row};
 use crate::shared::Shared;
 use crate::stop::WorkerStop;
-use pipe_columns::DataChunk;
+use pipe_columns::{DataChunk, DataType};
 use pipe_global::{Gate, Naming, Shares};
+use pipe_groups::encode_row;
 use pipe_inputs::ChunkRows;
 use pipe_local::WorkerTable;
 use pipe_plan::SpillAction;
 use pipe_spill::SpillStore;
 use std::alloc::AllocError;
+use std::mem;
 use std::sync::Wait;
 
-/// Takes the rows of a turn, in order.
+/// Writes the code of a row's key ahead of its turn, where there is such a row.
+#[inline(always)]
+fn encode_ahead(
+    key: &mut Vec<u8>,
+    rows: &ChunkRows<'_>,
+    row: usize,
+    types: &[DataType],
+) -> Result<(), AllocError>
+    requires { All (λ r. AreOfTypes types.now r.key) rows.now }
+    ensures { OnOk result (row < length rows.now
+        → key.new.items ≡ code types.now (row_at rows.now row).key) }
+{
+    if row < rows.len() {
+        encode_row(key, rows, row, types)?;
+    }
+    Ok(())
+}
+
+/// Takes the rows of a turn, in order. The code of a key is written a row ahead of its use: a processor
+/// waits where it reads what it has just written.
 fn take_all<S: SpillStore + Drop, R: Naming, G: Gate, H: Wait>(
     rt: &H,
     shared: &Shared<'_, S, R, G>,
@@ -43,8 +66,13 @@ fn take_all<S: SpillStore + Drop, R: Naming, G: Gate, H: Wait>(
         (AreSharesAtStop R.run shares.old.worker stop.Memory shares.new) }
 {
     let types = shared.query().key_types();
-    for row in 0..turn.rows.len() {
-        table.look_ahead(types, &turn.rows, row);
+    let rows = &turn.rows;
+    let mut next = Vec::new(shared.alloc);
+    encode_ahead(&mut next, rows, 0, types)?;
+    for row in 0..rows.len() {
+        mem::swap(key, &mut next);
+        encode_ahead(&mut next, rows, row + 1, types)?;
+        table.look_ahead(types, rows, row);
         take_row(rt, shared, table, shares, key, turn, row)?;
     }
     Ok(())
