@@ -6,7 +6,7 @@ ghost use Rattle.std.specs.Prelude.{◌<◌};
 const ROWS_ALONE: usize = 8_192;
 
 /// Several workers wait for one another once a round, so each gets so many rows.
-const ROWS_OF_WORKER: usize = 50_000;
+const ROWS_OF_WORKER: usize = 100_000;
 
 /// The most chunks of a worker in a round, where they are small.
 const MOST_OF_WORKER: usize = 4;
